@@ -1,0 +1,119 @@
+ghost use Rattle.std.specs.Prelude.{◌≡◌, ◌≤◌, IfOk, length};
+ghost use Rattle.im_values.specs.Fits as spec;
+
+use crate::name::Name;
+use crate::no_memory::NoMemory;
+use crate::row::Row;
+use crate::value::Value;
+use std::alloc::Global;
+use std::marker::Model;
+
+/// What a column holds: whole numbers, or texts of at most so many bytes. NULL stands in either.
+#[derive(Clone, Copy, Debug, PartialEq, Eq)]
+pub enum Kind {
+    Int,
+    Text(u16),
+}
+
+impl Kind {
+    /// Whether a value may stand in a column of this kind.
+    pub fn holds(self, value: &Value) -> bool
+        ensures { result ≡ spec.may_stand self value.now }
+    {
+        match (self, value) {
+            (_, Value::Null) | (Kind::Int, Value::Int(_)) => true,
+            (Kind::Text(limit), Value::Text(text)) => text.bytes().len() <= usize::from(limit),
+            _ => false,
+        }
+    }
+}
+
+/// A column of a table.
+#[derive(Debug, Drop)]
+pub struct Column {
+    pub name: Name,
+    pub kind: Kind,
+}
+
+impl Column {
+    /// The same column once more.
+    pub fn copy(&self, alloc: Global) -> Result<Column, NoMemory>
+        ensures { IfOk result (λ column. column ≡ self.now) }
+    {
+        Ok(Column {
+            name: self.name.copy(alloc)?,
+            kind: self.kind,
+        })
+    }
+}
+
+/// The most columns that a table has.
+pub const MOST_COLUMNS: usize = 16;
+
+/// The columns of a table, in order: at least one, and at most [`MOST_COLUMNS`].
+#[derive(Debug, Drop)]
+pub struct Schema {
+    columns: Vec<Column>,
+}
+
+impl Model for Schema {
+    ghost use Rattle.std.specs.Prelude.{List};
+    ghost use Rattle.im_values.specs.declared.schema.Column.{Column};
+
+    ghost Value = { List Column };
+
+    ghost use Rattle.std.specs.Prelude.{◌≤◌, length};
+
+    ghost view = { λ s. s.columns.items };
+
+    ghost invariant = { λ s. (1 ≤ length s.columns.items) × (length s.columns.items ≤ 16) };
+}
+
+impl Schema {
+    /// A schema of these columns. It takes no memory.
+    pub fn of(columns: Vec<Column>) -> Schema
+        requires some { 1 ≤ length columns.items }
+        requires few { length columns.items ≤ MOST_COLUMNS }
+        ensures { result ≡ columns.items }
+    {
+        Schema { columns }
+    }
+
+    /// The columns, in order.
+    pub fn columns(&self) -> &[Column]
+        ensures columns { result.now ≡ self.now }
+        ensures some { 1 ≤ length self.now }
+        ensures few { length self.now ≤ MOST_COLUMNS }
+    {
+        self.columns.as_slice()
+    }
+
+    /// The same schema once more.
+    pub fn copy(&self, alloc: Global) -> Result<Schema, NoMemory>
+        ensures { IfOk result (λ schema. schema ≡ self.now) }
+    {
+        let mut columns = Vec::with_capacity(alloc, self.columns().len())?;
+        for column in self.columns() {
+            columns.push(column.copy(alloc)?)?;
+        }
+        Ok(Schema::of(columns))
+    }
+}
+
+/// Whether a row may stand in a table: it has a value for each column, and each is NULL or of the column's kind and
+/// not longer than it.
+pub fn fits(row: &Row, schema: &Schema) -> bool
+    ensures { result ≡ spec.fits row.now schema.now }
+{
+    let mut columns = schema.columns();
+    for value in row.values() {
+        let [column, others @ ..] = columns else {
+            return false;
+        };
+        if !column.kind.holds(value) {
+            return false;
+        }
+        columns = others;
+    }
+    columns.is_empty()
+}
