@@ -1,0 +1,65 @@
+-- What each reading of a history is after one more entry.
+use Rattle.std.proofs.Common.{◌≡◌, ℕ, ◌==◌, List, [], ◌∷◌, ◌++◌, length, Option, Some, None, if◌then◌else◌, ◌+◌, refl, ap, ◌∙◌, append_assoc, append-nil, length-append}
+use Rattle.im_history.specs.declared.change.Change.{Change}
+use Rattle.im_history.specs.declared.entry.Entry.{Entry}
+use Rattle.im_history.specs.declared.entry.Mode.{Mode}
+use Rattle.im_history.specs.declared.entry.Mode.TheVariants.{Committed}
+use Rattle.im_history.specs.declared.entry.What.{What}
+use Rattle.im_history.specs.declared.entry.What.TheVariants.{Create, Commit}
+use Rattle.im_history.specs.Commits.{commits, committed_by, scn, moves_clock}
+use Rattle.im_history.specs.Cursors.{opened, opened_after}
+use Rattle.im_history.specs.History.{History, replay}
+use Rattle.im_history.specs.Legal.{IsAllowed, IsLegal, IsLegalFrom}
+use Rattle.im_history.specs.Tables.{Table, tables, created, given, given_after}
+use Rattle.im_history.specs.Transactions.{pending, pending_after, begun, begun_after, mode, mode_after}
+use Rattle.im_history.proofs.Replay.{replay-push}
+
+pub tables-push : (h : History) (entry : Entry) → tables (h ++ entry ∷ []) ≡ created (tables h) entry.what
+unfolding tables
+tables-push h entry = replay-push (λ before so_far e. created so_far e.what) [] h entry
+
+pub given-push : (h : History) (entry : Entry) (table : ℕ) → given (h ++ entry ∷ []) table ≡ given_after table (given h table) entry.what
+unfolding given
+given-push h entry table = replay-push (λ before so_far e. given_after table so_far e.what) 0 h entry
+
+pub pending-push : (h : History) (entry : Entry) (who : ℕ) → pending (h ++ entry ∷ []) who ≡ (if entry.who == who then pending_after (pending h who) entry.what else pending h who)
+unfolding pending
+pending-push h entry who = replay-push (λ before so_far e. if e.who == who then pending_after so_far e.what else so_far) [] h entry
+
+pub begun-push : (h : History) (entry : Entry) (who : ℕ) → begun (h ++ entry ∷ []) who ≡ (if entry.who == who then begun_after (length h) (begun h who) entry.what else begun h who)
+unfolding begun
+begun-push h entry who = replay-push (λ before so_far e. if e.who == who then begun_after (length before) so_far e.what else so_far) None h entry
+
+pub mode-push : (h : History) (entry : Entry) (who : ℕ) → mode (h ++ entry ∷ []) who ≡ (if entry.who == who then mode_after (mode h who) entry.what else mode h who)
+unfolding mode
+mode-push h entry who = replay-push (λ before so_far e. if e.who == who then mode_after so_far e.what else so_far) Committed h entry
+
+pub commits-push : (h : History) (entry : Entry) → commits (h ++ entry ∷ []) ≡ commits h ++ committed_by h entry.who entry.what
+unfolding commits
+commits-push h entry = replay-push (λ before so_far e. so_far ++ committed_by before e.who e.what) [] h entry
+
+pub opened-push : (h : History) (entry : Entry) (who : ℕ) → opened (h ++ entry ∷ []) who ≡ (if entry.who == who then opened_after (opened h who) entry.what else opened h who)
+unfolding opened
+opened-push h entry who = replay-push (λ before so_far e. if e.who == who then opened_after so_far e.what else so_far) [] h entry
+
+length-committed_by : (h : History) (who : ℕ) (what : What) → length (committed_by h who what) ≡ (if moves_clock what then 1 else 0)
+length-committed_by h who Commit = refl
+length-committed_by h who (Create name schema grid) = refl
+length-committed_by h who _ = refl
+
+pub scn-nil : scn [] ≡ 0
+unfolding commits replay
+scn-nil = refl
+
+-- the SCN is one more after an entry that commits
+pub scn-push : (h : History) (entry : Entry) → scn (h ++ entry ∷ []) ≡ scn h + (if moves_clock entry.what then 1 else 0)
+scn-push h entry = ap length (commits-push h entry) ∙ (length-append (commits h) (committed_by h entry.who entry.what) ∙ ap (λ n. scn h + n) (length-committed_by h entry.who entry.what))
+
+IsLegalFrom-push : (before h : History) (entry : Entry) → IsLegalFrom before h → IsAllowed (before ++ h) entry.who entry.what → IsLegalFrom before (h ++ entry ∷ [])
+IsLegalFrom-push before [] entry legal allowed = (rw append-nil at allowed, tt)
+IsLegalFrom-push before (first ∷ h) entry legal allowed =
+    (legal.0, IsLegalFrom-push (before ++ first ∷ []) h entry legal.1 (rw (← append_assoc before (first ∷ []) h) at allowed))
+
+-- a legal history with an entry that is allowed after it is legal
+pub IsLegal-push : (h : History) (entry : Entry) → IsLegal h → IsAllowed h entry.who entry.what → IsLegal (h ++ entry ∷ [])
+IsLegal-push h entry legal allowed = record { each = IsLegalFrom-push [] h entry legal.each allowed }

@@ -1,0 +1,28 @@
+-- What was committed, and the system change number (SCN): a clock that each commit moves on by one.
+use Rattle.std.specs.Prelude.{ℕ, Bool, true, false, List, [], ◌∷◌, ◌++◌, length}
+use Rattle.im_history.specs.declared.change.Change.{Change}
+use Rattle.im_history.specs.declared.entry.Entry.{Entry}
+use Rattle.im_history.specs.declared.entry.What.{What}
+use Rattle.im_history.specs.declared.entry.What.TheVariants.{Create, Commit}
+use Rattle.im_history.specs.History.{History, replay}
+use Rattle.im_history.specs.Transactions.{pending}
+
+-- what one entry commits: a Commit the pending changes of its session, a Create none
+abbrev pub committed_by : History → ℕ → What → List (List Change)
+committed_by before who Commit = pending before who ∷ []
+committed_by before who (Create name schema grid) = [] ∷ []
+committed_by before who _ = []
+
+-- the commits in order, each with its changes: the first of them is commit 1
+unfoldable pub commits : History → List (List Change)
+commits history = replay (λ before so_far entry. so_far ++ committed_by before entry.who entry.what) [] history
+
+-- the present SCN: how many commits there were
+abbrev pub scn : History → ℕ
+scn history = length (commits history)
+
+-- the SCN moves on with an entry of this kind
+abbrev pub moves_clock : What → Bool
+moves_clock Commit = true
+moves_clock (Create name schema grid) = true
+moves_clock _ = false

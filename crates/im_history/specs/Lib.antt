@@ -1,0 +1,9 @@
+pub mod Commits
+pub mod Cursors
+pub mod Grid
+pub mod History
+pub mod Legal
+pub mod Rows
+pub mod Stored
+pub mod Tables
+pub mod Transactions

@@ -1,0 +1,23 @@
+//! The history of a store: the list of all that happened to it, oldest first.
+//!
+//! Everything else is read from this list. `specs/History.antt` says how: a history is replayed from its oldest entry
+//! on. The tables and given row numbers are in `specs/Tables.antt`, the pending changes and transactions of sessions in
+//! `specs/Transactions.antt`, the commits and the SCN in `specs/Commits.antt`, the rows committed at an SCN and the rows
+//! that a statement sees in `specs/Rows.antt`, the open cursors in `specs/Cursors.antt`, and which histories a store may
+//! have in `specs/Legal.antt`. `proofs/Laws.antt` has the law of each for one more entry.
+//!
+//! Contracts see a [`History`] as its entries and its spare room. [`History::append`] adds one entry at the end.
+//! Start with `entry.rt`.
+#![tactic(auto)]
+
+mod change;
+mod entry;
+mod limits;
+mod shape;
+mod stored;
+
+pub use change::{Change, Changes};
+pub use entry::{Entry, Mode, Priority, What};
+pub use limits::Limits;
+pub use shape::Shape;
+pub use stored::History;
