@@ -1,8 +1,6 @@
 -- What each reading of a history is after one more entry.
-use Rattle.std.proofs.Common.{◌≡◌, ℕ, ◌==◌, List, [], ◌∷◌, ◌++◌, length, Option, Some, None, if◌then◌else◌, ◌+◌, refl, ap, ◌∙◌, append_assoc, append-nil, length-append}
-use Rattle.im_history.specs.declared.change.Change.{Change}
+use Rattle.std.proofs.Common.{◌≡◌, ℕ, ◌==◌, [], ◌∷◌, ◌++◌, length, None, if◌then◌else◌, ◌+◌, refl, ap, ◌∙◌, append_assoc, append-nil, length-append}
 use Rattle.im_history.specs.declared.entry.Entry.{Entry}
-use Rattle.im_history.specs.declared.entry.Mode.{Mode}
 use Rattle.im_history.specs.declared.entry.Mode.TheVariants.{Committed}
 use Rattle.im_history.specs.declared.entry.What.{What}
 use Rattle.im_history.specs.declared.entry.What.TheVariants.{Create, Commit}
@@ -10,7 +8,7 @@ use Rattle.im_history.specs.Commits.{commits, committed_by, scn, moves_clock}
 use Rattle.im_history.specs.Cursors.{opened, opened_after}
 use Rattle.im_history.specs.History.{History, replay}
 use Rattle.im_history.specs.Legal.{IsAllowed, IsLegal, IsLegalFrom}
-use Rattle.im_history.specs.Tables.{Table, tables, created, given, given_after}
+use Rattle.im_history.specs.Tables.{tables, created, given, given_after}
 use Rattle.im_history.specs.Transactions.{pending, pending_after, begun, begun_after, mode, mode_after}
 use Rattle.im_history.proofs.Replay.{replay-push}
 

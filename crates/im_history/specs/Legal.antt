@@ -1,9 +1,7 @@
 -- Which histories a store may have: each entry is allowed after those before it.
-use Rattle.std.specs.Prelude.{◌≡◌, ℕ, ◌+◌, ◌<◌, ◌≤◌, ◌⊎◌, Bool, true, false, IsTrue, List, [], ◌∷◌, ◌++◌, length, All, Some}
-use Rattle.im_values.specs.declared.schema.Column.{Column}
+use Rattle.std.specs.Prelude.{◌≡◌, ℕ, ◌+◌, ◌<◌, ◌≤◌, ◌⊎◌, false, IsTrue, List, [], ◌∷◌, ◌++◌, length, All, Some}
 use Rattle.im_values.specs.Fits.{fits}
 use Rattle.im_history.specs.declared.change.Change.{Change}
-use Rattle.im_history.specs.declared.entry.Entry.{Entry}
 use Rattle.im_history.specs.declared.entry.What.{What}
 use Rattle.im_history.specs.declared.entry.What.TheVariants.{Create, Open, Shut, Write, Commit}
 use Rattle.im_history.specs.Cursors.{is_cursor_open, cursors_open}

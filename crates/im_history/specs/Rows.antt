@@ -1,5 +1,5 @@
 -- The rows that a history committed, and those that a statement sees.
-use Rattle.std.specs.Prelude.{ℕ, ◌==◌, ◌&&◌, List, [], ◌∷◌, fold, take, filter, Option, Some, None, if◌then◌else◌}
+use Rattle.std.specs.Prelude.{ℕ, ◌==◌, ◌&&◌, List, fold, take, filter, Option, Some, None, if◌then◌else◌}
 use Rattle.std.specs.List.{flat_map, filter_map, range_with_len}
 use Rattle.std.specs.Option.{option_map}
 use Rattle.im_values.specs.declared.value.Value.{Value}
@@ -8,7 +8,6 @@ use Rattle.im_history.specs.declared.entry.Mode.{Mode}
 use Rattle.im_history.specs.declared.entry.Mode.TheVariants.{Committed, Serializable, ReadOnly}
 use Rattle.im_history.specs.Commits.{commits, scn}
 use Rattle.im_history.specs.History.{History}
-use Rattle.im_history.specs.Tables.{given}
 use Rattle.im_history.specs.Transactions.{pending, begun, mode}
 
 -- the values of a row

@@ -1,10 +1,9 @@
 -- The tables that a history created, and the row numbers that it gave.
-use Rattle.std.specs.Prelude.{ℕ, ◌+◌, ◌-◌, ◌==◌, Bool, false, max, List, [], ◌∷◌, ◌++◌, length, fold, slice_get, Option, if◌then◌else◌, nat_eq}
+use Rattle.std.specs.Prelude.{ℕ, ◌+◌, ◌-◌, ◌==◌, Bool, max, List, [], ◌∷◌, ◌++◌, fold, slice_get, Option, if◌then◌else◌, nat_eq}
 use Rattle.std.specs.Cmp.Lexicographic.{pointwise}
 use Rattle.std.specs.List.{list_any}
 use Rattle.im_values.specs.declared.schema.Column.{Column}
 use Rattle.im_history.specs.declared.change.Change.{Change}
-use Rattle.im_history.specs.declared.entry.Entry.{Entry}
 use Rattle.im_history.specs.declared.entry.What.{What}
 use Rattle.im_history.specs.declared.entry.What.TheVariants.{Create, Write}
 use Rattle.im_history.specs.Grid.{Grid}

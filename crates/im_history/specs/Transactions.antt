@@ -1,7 +1,6 @@
 -- The transactions of a session: what is pending, when it began, and in which mode.
 use Rattle.std.specs.Prelude.{ℕ, ◌==◌, Bool, List, [], ◌++◌, length, Option, Some, None, is_some, if◌then◌else◌}
 use Rattle.im_history.specs.declared.change.Change.{Change}
-use Rattle.im_history.specs.declared.entry.Entry.{Entry}
 use Rattle.im_history.specs.declared.entry.Mode.{Mode}
 use Rattle.im_history.specs.declared.entry.Mode.TheVariants.{Committed}
 use Rattle.im_history.specs.declared.entry.What.{What}

@@ -1,6 +1,6 @@
-use Rattle.std.proofs.Common.{◌≡◌, ◌≤◌, ◌+◌, ◌∷◌, [], ◌++◌, ℕ, Bool, true, false, if◌then◌else◌, vec_len, refl, ap, sym, ◌∙◌, arith}
+use Rattle.std.proofs.Common.{◌≡◌, ◌≤◌, Bool, true, false, if◌then◌else◌, refl, ap, ◌∙◌, arith}
 use mir.Val.{bool_byte}
-use Rattle.im_history.specs.Commits.{scn, moves_clock}
+use Rattle.im_history.specs.Commits.{moves_clock}
 use Rattle.im_history.proofs.Laws.{scn-push}
 use Rattle.im_history.proofs.stored.History.append.Goals as goal
 
