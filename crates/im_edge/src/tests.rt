@@ -1,0 +1,4 @@
+mod doubles;
+mod gates;
+mod streams;
+mod texts;

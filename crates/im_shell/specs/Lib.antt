@@ -1,0 +1,5 @@
+pub mod Commands
+pub mod Lines
+pub mod Machine
+pub mod Play
+pub mod Texts

@@ -1,0 +1,119 @@
+-- The plan of each statement: what it reads, adds and answers, turn by turn.
+use Rattle.std.specs.Prelude.{ℕ, suc, ◌+◌, Bool, true, false, nat_lt, List, [], ◌∷◌, length, Option, Some, None, if◌then◌else◌}
+use Rattle.std.specs.List.{position}
+use Rattle.std.specs.Option.{option_map}
+use Rattle.im_values.specs.declared.schema.Column.{Column}
+use Rattle.im_values.specs.declared.schema.Kind.TheVariants as kind
+use Rattle.im_values.specs.declared.value.Value.TheVariants as value
+use Rattle.im_history.specs.declared.entry.What.{What}
+use Rattle.im_history.specs.declared.entry.What.TheVariants as what
+use Rattle.im_history.specs.Commits.{scn}
+use Rattle.im_history.specs.Cursors.{is_cursor_open}
+use Rattle.im_history.specs.Grid.{default_grid}
+use Rattle.im_history.specs.History.{History}
+use Rattle.im_history.specs.Legal.{put_from}
+use Rattle.im_history.specs.Rows.{Row, seen, present, snapshot, own_changes}
+use Rattle.im_history.specs.Tables.{tables, is_named, name_is_taken, given}
+use Rattle.im_history.specs.Transactions.{is_open}
+use Rattle.im_plan.specs.Plan.{Plan, End, Turn}
+use Rattle.im_shell.specs.declared.command.Command.{Command}
+use Rattle.im_shell.specs.declared.command.Command.TheVariants.{Session, NotBuilt}
+use Rattle.im_shell.specs.declared.command.Statement.{Statement}
+use Rattle.im_shell.specs.declared.command.Statement.TheVariants.{Create, Insert, Commit, Count}
+use Rattle.im_shell.specs.declared.reply.Body.{Body}
+use Rattle.im_shell.specs.declared.reply.Body.TheVariants.{Created, Inserted, Committed, Counted, Error}
+use Rattle.im_shell.specs.declared.reply.Fault.TheVariants as fault
+use Rattle.im_shell.specs.declared.reply.Reply.{Reply}
+
+-- the line ends with a reply that was settled at this history
+abbrev pub answer_at : History → Body → Plan Reply
+answer_at at body = End (record { place = Some (length at); body = body })
+
+-- a turn that reads and adds nothing
+abbrev pub look : (History → Plan Reply) → Plan Reply
+look on = Turn false (λ at. None) on
+
+-- the table of this name, by its number from 1
+abbrev pub table_named : History → List ℕ → Option ℕ
+table_named history name = option_map suc (position (is_named name) (tables history))
+
+-- the columns of a table that has one column of numbers
+abbrev pub number_column : List ℕ → List Column
+number_column name = record { name = name; kind = kind.Int } ∷ []
+
+-- what creating a table of this name adds: nothing where the name is taken, or where 64 tables stand
+abbrev pub create_adds : List ℕ → List ℕ → History → Option What
+create_adds name column at =
+    if name_is_taken at name then None
+    else (if nat_lt (length (tables at)) 64 then Some (what.Create name (number_column column) default_grid) else None)
+
+-- what creating it answers
+abbrev pub create_answers : List ℕ → History → Body
+create_answers name at =
+    if name_is_taken at name then Error (fault.TableExists name)
+    else (if nat_lt (length (tables at)) 64 then Created (length (tables at) + 1) (scn at + 1) else Error fault.TooManyTables)
+
+-- a table is created, and no transaction is open
+abbrev pub create_last : List ℕ → List ℕ → Plan Reply
+create_last name column = Turn true (create_adds name column) (λ at. answer_at at (create_answers name at))
+
+-- CREATE TABLE commits an open transaction first, whether or not the table is then created
+abbrev pub create_plan : ℕ → List ℕ → List ℕ → Plan Reply
+create_plan who name column = look (λ at.
+    if is_open at who then Turn false (λ here. Some what.Commit) (λ here. create_last name column) else create_last name column)
+
+-- a row of one number is inserted into a table
+abbrev pub insert_row : ℕ → Row → Plan Reply
+insert_row table row =
+    Turn true (λ at. Some (what.Write (put_from table (given at table) (row ∷ [])))) (λ at. answer_at at (Inserted 1 (given at table)))
+
+-- what is done to the table of a name, or the fault that there is none
+abbrev pub with_table : List ℕ → History → (ℕ → Plan Reply) → Option ℕ → Plan Reply
+with_table name at on None = answer_at at (Error (fault.UnknownTable name))
+with_table name at on (Some table) = on table
+
+-- INSERT INTO
+abbrev pub insert_plan : List ℕ → Row → Plan Reply
+insert_plan name row = look (λ at. with_table name at (λ table. insert_row table row) (table_named at name))
+
+-- COMMIT
+abbrev pub commit_plan : Plan Reply
+commit_plan = look (λ at. Turn true (λ here. Some what.Commit) (λ here. answer_at here (Committed (scn here + 1))))
+
+-- how many rows of a table a session sees
+abbrev pub rows_seen : History → ℕ → ℕ → ℕ
+rows_seen at who table =
+    length (present (seen at table (snapshot at who) (own_changes at who table)) 0 (given at table))
+
+-- the rows of a table are counted: the statement's scan is cursor 0, and sees what its opening sees
+abbrev pub count_rows : ℕ → ℕ → Plan Reply
+count_rows who table =
+    Turn false (λ at. Some (what.Open 0 table)) (λ at.
+    Turn false (λ here. Some (what.Shut 0)) (λ here. answer_at at (Counted (snapshot at who) (rows_seen at who table))))
+
+-- SELECT COUNT(*)
+abbrev pub count_plan : ℕ → List ℕ → Plan Reply
+count_plan who name = look (λ at. with_table name at (count_rows who) (table_named at name))
+
+-- the plan of a statement of a session; a name is one letter, and a row one number
+abbrev pub statement_plan : ℕ → Statement → Plan Reply
+statement_plan who (Create table column) = create_plan who (table ∷ []) (column ∷ [])
+statement_plan who (Insert table number) = insert_plan (table ∷ []) (value.Int number ∷ [])
+statement_plan who Commit = commit_plan
+statement_plan who (Count table) = count_plan who (table ∷ [])
+
+-- the plan of a line
+abbrev pub command_plan : Command → Plan Reply
+command_plan (Session who statement) = statement_plan who statement
+command_plan NotBuilt = End (record { place = None; body = Error fault.NotBuilt })
+
+-- whose line it is
+abbrev pub who_of : Command → ℕ
+who_of (Session who statement) = who
+who_of NotBuilt = 0
+
+-- where memory lacked after k entries: cursor 0 is shut if it is open, and the reply says k
+abbrev pub amends : ℕ → ℕ → Plan Reply
+amends who k =
+    Turn false (λ at. if is_cursor_open at who 0 then Some (what.Shut 0) else None)
+    (λ at. End (record { place = None; body = Error (fault.Memory k) }))

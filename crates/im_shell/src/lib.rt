@@ -1,0 +1,5 @@
+//! The program's one call.
+#![tactic(auto)]
+
+mod command;
+mod reply;
