@@ -2,4 +2,6 @@
 #![tactic(auto)]
 
 mod command;
+mod lines;
 mod reply;
+mod text;
