@@ -2,7 +2,7 @@
 use Rattle.std.proofs.Common.{◌≡◌, ℕ, ◌+◌, ◌-◌, ◌<◌, ◌≤◌, min, List, [], ◌++◌, None, Some, IfSome, length, take, drop, refl, ap, sym, ◌∙◌, append_assoc, append-nil, arith}
 use Rattle.std.proofs.lemmas.List.{take_rest, take-append-le, take_min}
 use Rattle.std.proofs.Math.Seq.{take-add, take-append-add, take-length}
-use Rattle.std.specs.Prelude.{Option, Result, Ok, Err, OnErr}
+use Rattle.std.specs.Prelude.{Option}
 use Rattle.std.specs.Io.KnownBytes.{prepend_known, append_known}
 use Rattle.im_edge.specs.Faults.{last_count, Rose}
 use Rattle.im_edge.specs.Reading.{Gave}
@@ -76,8 +76,3 @@ TookFront-longer a b xs ys p =
       count = min p.count (length xs);
       took = rw (take-append-le (min p.count (length xs)) xs ys within, take_min p.count xs) p.took;
     }
-
--- a fact at every error
-pub at_any_error : {T E P : Type 0} (r : Result T E) → P → OnErr r P
-at_any_error (Ok x) p = tt
-at_any_error (Err e) p = p

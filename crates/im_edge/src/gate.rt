@@ -10,10 +10,11 @@ pub enum At {
     Switch { id: u64 },
 }
 
-/// Is called round each scan step and each switch, outside the turn, with the number of who takes it.
+/// Is called round each scan step and each switch, outside the turn, with the number of who takes
+/// it.
 ///
-/// It lets a test put one step before another on threads. The engine sees nothing of what a gate does: neither call
-/// changes what a step or a switch answers.
+/// It lets a test put one step before another on threads. The engine sees nothing of what a gate
+/// does: neither call changes what a step or a switch answers.
 pub trait Gate {
     /// Comes before the call. It may wait.
     fn before<R: Wait>(&self, rt: &R, who: u32, at: At);

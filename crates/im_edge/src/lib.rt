@@ -1,14 +1,17 @@
 //! The traits of the outside: where bytes come from, where they go, and what may hold a scan up.
 //!
-//! A `Source` hands out bytes and a `Sink` takes them, in pieces of whatever size they like. Contracts see of a source the
-//! bytes that are `left`, and of a sink those that it has `taken`, where they tell. Both count their `faults`, and a call
-//! fails only where the count rose, so a caller who answers with a fault has to have met one. A `Gate` is called round
-//! each step of a scan and each switch of a unit, so that a test can hold one of them.
+//! A `Source` hands out bytes and a `Sink` takes them, in pieces of whatever size they like.
+//! Contracts see of a source the bytes that are `left`, and of a sink those that it has `taken`,
+//! where they tell. Both count their `faults`, and a call fails only where the count rose, so a
+//! caller who answers with a fault has to have met one. A `Gate` is called round each step of a
+//! scan and each switch of a unit, so that a test can hold one of them.
 //!
-//! `MemSource` and `MemSink` are exact doubles in memory. `StdSource` and `StdSink` are the trusted edge: they adapt a
-//! reader and a writer of std, and tell no bytes. `read_all` and `write_all` carry a whole text through any of them.
+//! `MemSource` and `MemSink` are exact doubles in memory. `StdSource` and `StdSink` are the trusted
+//! edge: they adapt a reader and a writer of std, and tell no bytes. `read_all` and `write_all`
+//! carry a whole text through any of them.
 //!
-//! Start with `source.rt` and `sink.rt`, and then the words of `specs/Source.antt` and `specs/Faults.antt`.
+//! Start with `source.rt` and `sink.rt`, and then the words of `specs/Source.antt` and
+//! `specs/Faults.antt`.
 #![tactic(auto)]
 
 mod calls;

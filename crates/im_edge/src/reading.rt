@@ -1,8 +1,8 @@
 //! Reading a source to its end.
-ghost use Rattle.std.specs.Prelude.{◌≡◌, ◌+◌, ◌<◌, ◌≤◌, length, vec_len, IfOk, OnOk, OnErr, IsErrOf, IfSome};
+ghost use Rattle.std.specs.Prelude.{◌≡◌, ◌+◌, ◌<◌, ◌≤◌, length, vec_len, IfOk, OnOk, IsErrOf, IfSome};
 ghost use Rattle.im_edge.specs.Faults.{Rose};
 ghost use Rattle.im_edge.specs.Source.{IsInRoom, IsSpent, Reads, IfReadFailed};
-ghost use Rattle.im_edge.specs.Reading.{Gave, GaveAtMost, GaveMoreThan};
+ghost use Rattle.im_edge.specs.Reading.{Gave, KeepsLimit};
 ghost use Rattle.im_edge.specs.declared.reading.ReadError.TheVariants as errors;
 
 use crate::source::{Got, Source};
@@ -36,20 +36,22 @@ impl From<AllocError> for ReadError {
 
 /// Reads a source to its end, and gives all its bytes, of which there may be at most `most`.
 ///
-/// It asks for at most `most + 1` bytes in all: the one more tells a text that is too long. After an error the bytes that
-/// came are lost.
+/// It takes at most `most + 1` bytes: the one more tells that there are too many. After an error
+/// the bytes that came are lost.
 pub fn read_all<S: Source>(alloc: Global, source: &mut S, most: usize) -> Result<Vec<u8>, ReadError>
     requires { most < usize.MAX }
 
-    // The bytes are those that were left, and nothing is left behind them.
-    ensures content { IfOk result (λ bytes. Gave (S.left source.old) (S.left source.new) bytes.items) }
-    ensures all { IfOk result (λ bytes. IfSome (S.left source.old) (λ left. left ≡ bytes.items)) }
+    // The bytes are all those that were left.
+    ensures content { IfOk result (λ bytes.
+        Gave (S.left source.old) (S.left source.new) bytes.items) }
+    ensures all { IfOk result (λ bytes.
+        IfSome (S.left source.old) (λ left. left ≡ bytes.items)) }
     ensures end { OnOk result (IsSpent (S.left source.new)) }
     ensures fits { IfOk result (λ bytes. vec_len bytes ≤ most) }
 
-    ensures too_long { IsErrOf result ReadError.TooLong → GaveMoreThan (S.left source.old) (S.left source.new) most }
-    ensures fault { IsErrOf result ReadError.Fault → Rose (S.faults source.old) (S.faults source.new) }
-    ensures err { OnErr result (GaveAtMost (S.left source.old) (S.left source.new) (most + 1)) }
+    ensures limit { KeepsLimit most result (S.left source.old) (S.left source.new) }
+    ensures fault { IsErrOf result ReadError.Fault
+        → Rose (S.faults source.old) (S.faults source.new) }
     ensures later { S.faults source.old ≤ S.faults source.new }
 {
     let mut buffer = buffer_of(alloc, READ_SIZE)?;
@@ -72,24 +74,26 @@ fn read_through<S: Source>(
 ) -> Result<Vec<u8>, ReadError>
     requires some { 0 < length buffer.old }
     requires below_max { most < usize.MAX }
-    ensures content { IfOk result (λ bytes. Gave (S.left source.old) (S.left source.new) bytes.items) }
+    ensures content { IfOk result (λ bytes.
+        Gave (S.left source.old) (S.left source.new) bytes.items) }
     ensures end { OnOk result (IsSpent (S.left source.new)) }
     ensures fits { IfOk result (λ bytes. vec_len bytes ≤ most) }
-    ensures too_long { IsErrOf result ReadError.TooLong → GaveMoreThan (S.left source.old) (S.left source.new) most }
-    ensures fault { IsErrOf result ReadError.Fault → Rose (S.faults source.old) (S.faults source.new) }
-    ensures err { OnErr result (GaveAtMost (S.left source.old) (S.left source.new) (most + 1)) }
+    ensures limit { KeepsLimit most result (S.left source.old) (S.left source.new) }
+    ensures fault { IsErrOf result ReadError.Fault
+        → Rose (S.faults source.old) (S.faults source.new) }
     ensures later { S.faults source.old ≤ S.faults source.new }
 {
     let mut bytes = Vec::new(alloc);
-    while bytes.len() <= most {
-        let room = buffer.len().min(most + 1 - bytes.len());
+    loop {
+        let allowed = most - bytes.len();
+        let room = buffer.len().min(allowed + 1);
         match read_front(source, buffer, room) {
+            Got::Bytes(count) if count > allowed => return Err(ReadError::TooLong),
             Got::Bytes(count) => bytes.extend_from_slice(&buffer[..count])?,
             Got::End => return Ok(bytes),
             Got::Failed => return Err(ReadError::Fault),
         }
     }
-    Err(ReadError::TooLong)
 }
 
 /// One read into the first `room` bytes of the buffer.

@@ -14,8 +14,9 @@ pub enum Put {
 
 /// A writer of bytes, as replies on standard output.
 ///
-/// `write` may take fewer bytes than it is given, so a caller goes on with the rest, as with POSIX's `write`. A device
-/// that takes nothing is a fault. After `Put::Failed` the sink stands where it stood, and may be asked again.
+/// `write` may take fewer bytes than it is given, so a caller goes on with the rest, as with
+/// POSIX's `write`. A device that takes nothing is a fault. After `Put::Failed` the sink stands
+/// where it stood, and may be asked again.
 pub trait Sink {
     /// The bytes that the sink has taken so far, where it tells them.
     ghost taken: { Self → Option (List ℕ) };

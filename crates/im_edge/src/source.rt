@@ -16,8 +16,9 @@ pub enum Got {
 
 /// A reader of bytes, as a script on standard input.
 ///
-/// `read` may hand out fewer bytes than the buffer has room for, so a caller goes on until `Got::End`, as with POSIX's
-/// `read`. After `Got::Failed` the source stands where it stood, and may be asked again.
+/// `read` may hand out fewer bytes than the buffer has room for, so a caller goes on until
+/// `Got::End`, as with POSIX's `read`. After `Got::Failed` the source stands where it stood, and
+/// may be asked again.
 pub trait Source {
     /// The bytes that are left, where the source tells them.
     ghost left: { Self → Option (List ℕ) };
@@ -25,8 +26,8 @@ pub trait Source {
     /// How many faults the source has met. A counter of 64 bits, which stays at its last value.
     ghost faults: { Self → ℕ };
 
-    /// Takes the next bytes off, and puts them at the front of the buffer. What stands in the buffer behind them means
-    /// nothing.
+    /// Takes the next bytes off, and puts them at the front of the buffer. What stands in the
+    /// buffer behind them means nothing.
     fn read(&mut self, buf: &mut [u8]) -> Got
         requires room { 0 < length buf.old }
         ensures count { IsInRoom result (length buf.old) }

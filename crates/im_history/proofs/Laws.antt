@@ -36,9 +36,9 @@ pub commits-push : (h : History) (entry : Entry) → commits (h ++ entry ∷ [])
 unfolding commits
 commits-push h entry = replay-push (λ before so_far e. so_far ++ committed_by before e.who e.what) [] h entry
 
-pub opened-push : (h : History) (entry : Entry) (who : ℕ) → opened (h ++ entry ∷ []) who ≡ (if entry.who == who then opened_after (opened h who) entry.what else opened h who)
+pub opened-push : (h : History) (entry : Entry) (who : ℕ) → opened (h ++ entry ∷ []) who ≡ (if entry.who == who then opened_after (length h) (opened h who) entry.what else opened h who)
 unfolding opened
-opened-push h entry who = replay-push (λ before so_far e. if e.who == who then opened_after so_far e.what else so_far) [] h entry
+opened-push h entry who = replay-push (λ before so_far e. if e.who == who then opened_after (length before) so_far e.what else so_far) [] h entry
 
 length-committed_by : (h : History) (who : ℕ) (what : What) → length (committed_by h who what) ≡ (if moves_clock what then 1 else 0)
 length-committed_by h who Commit = refl

@@ -1,4 +1,5 @@
 -- What was committed, and the system change number (SCN): a clock that each commit moves on by one.
+-- The creation of a table counts as a commit.
 use Rattle.std.specs.Prelude.{ℕ, Bool, true, false, List, [], ◌∷◌, ◌++◌, length}
 use Rattle.im_history.specs.declared.change.Change.{Change}
 use Rattle.im_history.specs.declared.entry.What.{What}
@@ -6,7 +7,7 @@ use Rattle.im_history.specs.declared.entry.What.TheVariants.{Create, Commit}
 use Rattle.im_history.specs.History.{History, replay}
 use Rattle.im_history.specs.Transactions.{pending}
 
--- what one entry commits: a Commit the pending changes of its session, a Create none
+-- what one entry commits: a Commit the pending changes of its session, a Create an empty list, any other entry nothing
 abbrev pub committed_by : History → ℕ → What → List (List Change)
 committed_by before who Commit = pending before who ∷ []
 committed_by before who (Create name schema grid) = [] ∷ []

@@ -46,7 +46,8 @@ snapshot_under history Serializable (Some place) = scn_at history place
 snapshot_under history ReadOnly None = scn history
 snapshot_under history ReadOnly (Some place) = scn_at history place
 
--- the SCN that a statement of the session reads at: the present one under READ COMMITTED, else the one where it began
+-- the SCN that a statement of the session reads at: the present one under READ COMMITTED, else the one where
+-- its transaction began. In a legal history a transaction of another mode begins by its Begin
 abbrev pub snapshot : History → ℕ → ℕ
 snapshot history who = snapshot_under history (mode history who) (begun history who)
 

@@ -1,5 +1,5 @@
 -- The tables that a history created, and the row numbers that it gave.
-use Rattle.std.specs.Prelude.{ℕ, ◌+◌, ◌-◌, ◌==◌, Bool, max, List, [], ◌∷◌, ◌++◌, fold, slice_get, Option, if◌then◌else◌, nat_eq}
+use Rattle.std.specs.Prelude.{ℕ, zero, suc, ◌+◌, ◌==◌, Bool, max, List, [], ◌∷◌, ◌++◌, fold, slice_get, Option, None, if◌then◌else◌, nat_eq}
 use Rattle.std.specs.Cmp.Lexicographic.{pointwise}
 use Rattle.std.specs.List.{list_any}
 use Rattle.im_values.specs.declared.schema.Column.{Column}
@@ -24,9 +24,10 @@ created tables _ = tables
 unfoldable pub tables : History → List Table
 tables history = replay (λ before so_far entry. created so_far entry.what) [] history
 
--- the table of this number
+-- the table of this number; none has the number 0
 abbrev pub table_at : History → ℕ → Option Table
-table_at history table = slice_get (tables history) (table - 1)
+table_at history zero = None
+table_at history (suc before) = slice_get (tables history) before
 
 -- a table has this name
 abbrev pub is_named : List ℕ → Table → Bool

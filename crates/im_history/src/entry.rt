@@ -36,7 +36,7 @@ pub enum What {
         schema: Schema,
         shape: Shape,
     },
-    /// A table joined the column store or changed its priority, or left it where the priority is None.
+    /// A table joined the column store or changed its priority, or left it where no priority is given.
     Memory {
         table: u32,
         priority: Option<Priority>,
@@ -45,7 +45,7 @@ pub enum What {
     Begin {
         mode: Mode,
     },
-    /// A cursor was opened on a table: its snapshot is fixed here.
+    /// A cursor was opened on a table: its view is fixed here.
     Open {
         cursor: u32,
         table: u32,

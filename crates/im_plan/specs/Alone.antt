@@ -14,7 +14,7 @@ abbrev pub play : {R : Type 0} → ℕ → History → Plan R → Played R
 play who old (End value) = record { result = value; history = old }
 play who old (Turn decides adds on) = play who (old ++ made who (adds old)) (on old)
 
--- how many entries are still to be made, after a turn that adds these
+-- one more than `left` entries were to be made: so many are after a turn that adds these
 abbrev pub still : Option What → ℕ → ℕ
 still None left = suc left
 still (Some what) left = left

@@ -6,9 +6,9 @@ use Rattle.im_shell.specs.declared.command.Command.TheVariants.{Session, NotBuil
 use Rattle.im_shell.specs.declared.command.Statement.{Statement}
 use Rattle.im_shell.specs.declared.command.Statement.TheVariants.{Create, Insert, Commit, Count}
 
--- a byte from this one to that
+-- a number from this one to that
 abbrev pub is_within : ℕ → ℕ → ℕ → Bool
-is_within low high byte = nat_le low byte && nat_le byte high
+is_within low high number = nat_le low number && nat_le number high
 
 -- what stands behind a word, where a text begins with it
 abbrev pub after : List ℕ → List ℕ → Option (List ℕ)

@@ -3,3 +3,4 @@ pub mod Lines
 pub mod Machine
 pub mod Play
 pub mod Texts
+pub mod Touches

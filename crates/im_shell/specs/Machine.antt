@@ -22,6 +22,7 @@ use Rattle.im_shell.specs.declared.command.Statement.{Statement}
 use Rattle.im_shell.specs.declared.command.Statement.TheVariants.{Create, Insert, Commit, Count}
 use Rattle.im_shell.specs.declared.reply.Body.{Body}
 use Rattle.im_shell.specs.declared.reply.Body.TheVariants.{Created, Inserted, Committed, Counted, Error}
+use Rattle.im_shell.specs.declared.reply.Fault.{Fault}
 use Rattle.im_shell.specs.declared.reply.Fault.TheVariants as fault
 use Rattle.im_shell.specs.declared.reply.Reply.{Reply}
 
@@ -41,26 +42,34 @@ table_named history name = option_map suc (position (is_named name) (tables hist
 abbrev pub number_column : List ℕ → List Column
 number_column name = record { name = name; kind = kind.Int } ∷ []
 
--- what creating a table of this name adds: nothing where the name is taken, or where 64 tables stand
-abbrev pub create_adds : List ℕ → List ℕ → History → Option What
-create_adds name column at =
-    if name_is_taken at name then None
-    else (if nat_lt (length (tables at)) 64 then Some (what.Create name (number_column column) default_grid) else None)
+-- why a table of this name is not created: the name is taken, or 64 tables stand
+abbrev pub create_refusal : List ℕ → History → Option Fault
+create_refusal name at =
+    if name_is_taken at name then Some (fault.TableExists name)
+    else (if nat_lt (length (tables at)) 64 then None else Some fault.TooManyTables)
 
--- what creating it answers
-abbrev pub create_answers : List ℕ → History → Body
-create_answers name at =
-    if name_is_taken at name then Error (fault.TableExists name)
-    else (if nat_lt (length (tables at)) 64 then Created (length (tables at) + 1) (scn at + 1) else Error fault.TooManyTables)
+-- the entry, unless it is refused
+abbrev pub unless_refused : Option Fault → What → Option What
+unless_refused None entry = Some entry
+unless_refused (Some why) entry = None
 
--- a table is created, and no transaction is open
+-- the answer, unless it is refused
+abbrev pub or_refused : Option Fault → Body → Body
+or_refused None body = body
+or_refused (Some why) body = Error why
+
+-- a table is created, once no transaction is open
 abbrev pub create_last : List ℕ → List ℕ → Plan Reply
-create_last name column = Turn true (create_adds name column) (λ at. answer_at at (create_answers name at))
+create_last name column =
+    Turn true (λ at. unless_refused (create_refusal name at) (what.Create name (number_column column) default_grid)) (λ at.
+        answer_at at (or_refused (create_refusal name at) (Created (length (tables at) + 1) (scn at + 1))))
 
 -- CREATE TABLE commits an open transaction first, whether or not the table is then created
 abbrev pub create_plan : ℕ → List ℕ → List ℕ → Plan Reply
 create_plan who name column = look (λ at.
-    if is_open at who then Turn false (λ here. Some what.Commit) (λ here. create_last name column) else create_last name column)
+    if is_open at who
+    then Turn false (λ here. Some what.Commit) (λ here. look (λ after. create_last name column))
+    else create_last name column)
 
 -- a row of one number is inserted into a table
 abbrev pub insert_row : ℕ → Row → Plan Reply
@@ -107,7 +116,7 @@ abbrev pub command_plan : Command → Plan Reply
 command_plan (Session who statement) = statement_plan who statement
 command_plan NotBuilt = End (record { place = None; body = Error fault.NotBuilt })
 
--- whose line it is
+-- the number that the line's entries have; a line of no form adds none
 abbrev pub who_of : Command → ℕ
 who_of (Session who statement) = who
 who_of NotBuilt = 0

@@ -5,3 +5,4 @@ mod command;
 mod lines;
 mod reply;
 mod text;
+mod touches;

@@ -11,7 +11,8 @@ use std::marker::Model;
 
 /// A sink that keeps what it takes in memory, takes small pieces, and fails where it is told to.
 ///
-/// It takes no memory in a write: `push_room` makes the room beforehand, and a write past the room is a fault.
+/// It takes no memory in a write: `push_room` makes the room beforehand, and a write past the room
+/// is a fault.
 #[derive(Debug, Drop)]
 pub struct MemSink {
     taken: Vec<u8>,
@@ -39,11 +40,18 @@ impl Model for MemSink {
 }
 
 impl MemSink {
-    /// A sink that has taken nothing and has no room. It takes at most `piece` bytes a call, and the calls whose numbers,
-    /// from 1, are in `fails` fail.
+    /// A sink that has taken nothing and has no room. It takes at most `piece` bytes a call, and
+    /// the calls whose numbers, from 1, are in `fails` fail.
     pub fn new(alloc: Global, piece: usize, fails: Vec<u64>) -> MemSink
         requires { 0 < piece }
-        ensures { result ≡ record { taken = []; room = 0; piece = piece; fails = fails.items; calls = 0; faults = 0 } }
+        ensures { result ≡ record {
+          taken = [];
+          room = 0;
+          piece = piece;
+          fails = fails.items;
+          calls = 0;
+          faults = 0;
+        } }
     {
         MemSink {
             taken: Vec::new(alloc),

@@ -34,11 +34,17 @@ impl Model for MemSource {
 }
 
 impl MemSource {
-    /// A source with these bytes. It hands out at most `piece` bytes a call, and the calls whose numbers, from 1, are in
-    /// `fails` fail.
+    /// A source with these bytes. It hands out at most `piece` bytes a call, and the calls whose
+    /// numbers, from 1, are in `fails` fail.
     pub fn new(bytes: Vec<u8>, piece: usize, fails: Vec<u64>) -> MemSource
         requires { 0 < piece }
-        ensures { result ≡ record { left = bytes.items; piece = piece; fails = fails.items; calls = 0; faults = 0 } }
+        ensures { result ≡ record {
+          left = bytes.items;
+          piece = piece;
+          fails = fails.items;
+          calls = 0;
+          faults = 0;
+        } }
     {
         MemSource {
             bytes,

@@ -70,7 +70,8 @@ fn a_source_hands_out_pieces_and_fails_where_it_is_told(rt: HostRuntime) -> Resu
     Ok(())
 }
 
-/// A sink, the pieces written into it and what each write must answer, and all that it must have taken then.
+/// A sink, the pieces written into it and what each write must answer, and all that it must have
+/// taken then.
 #[derive(Drop)]
 struct Writes<'a> {
     piece: usize,
