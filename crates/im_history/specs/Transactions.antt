@@ -18,15 +18,18 @@ pending_after so_far _ = so_far
 unfoldable pub pending : History → ℕ → List Change
 pending history who = replay (λ before so_far entry. if entry.who == who then pending_after so_far entry.what else so_far) [] history
 
+-- an open transaction began where it began, and another begins here
+abbrev pub or_here : ℕ → Option ℕ → Option ℕ
+or_here place None = Some place
+or_here place (Some began) = Some began
+
 -- where a session's transaction began, after one more entry of its own at this place
 abbrev pub begun_after : ℕ → Option ℕ → What → Option ℕ
-begun_after place None (Begin mode) = Some place
-begun_after place None (Write changes) = Some place
-begun_after place (Some began) (Begin mode) = Some began
-begun_after place (Some began) (Write changes) = Some began
-begun_after place began Commit = None
-begun_after place began Rollback = None
-begun_after place began _ = began
+begun_after place so_far (Begin mode) = or_here place so_far
+begun_after place so_far (Write changes) = or_here place so_far
+begun_after place so_far Commit = None
+begun_after place so_far Rollback = None
+begun_after place so_far _ = so_far
 
 -- the place of the first Begin or Write after the session's last Commit or Rollback: there its open transaction began
 unfoldable pub begun : History → ℕ → Option ℕ

@@ -1,4 +1,4 @@
-ghost use Rattle.std.specs.Prelude.{◌≡◌, ◌==◌, ◌+◌, ◌-◌, ◌<◌, [], ◌∷◌, ◌++◌, length, max, slice_get, Some, OnOk, OnErr};
+ghost use Rattle.std.specs.Prelude.{◌≡◌, ◌==◌, ◌+◌, ◌-◌, ◌^◌, ◌<◌, [], ◌∷◌, ◌++◌, length, max, slice_get, take, Some, OnOk, OnErr};
 ghost use Rattle.im_history.specs.Commits.{scn};
 
 use crate::entry::Entry;
@@ -59,7 +59,8 @@ impl History {
     /// Adds an entry at the end. It takes no memory.
     pub fn append(&mut self, entry: Entry)
         requires { 0 < self.old.spare }
-        ensures { self.new ≡ record { entries = self.old.entries ++ entry ∷ []; spare = self.old.spare - 1 } }
+        ensures added { self.new ≡ record { entries = self.old.entries ++ entry ∷ []; spare = self.old.spare - 1 } }
+        ensures few { length self.new.entries < 2 ^ 63 }
     {
         self.spare -= 1;
         self.clock += u64::from(entry.what.moves_clock());
@@ -70,6 +71,7 @@ impl History {
     pub fn entry<L: Ledger>(&self, place: u64, steps: &mut Steps<L>) -> &Entry
         requires { place < length self.now.entries }
         ensures entry { slice_get self.now.entries place ≡ Some result.now }
+        ensures next { take (place + 1) self.now.entries ≡ take place self.now.entries ++ result.now ∷ [] }
         ensures step { steps.new ≡ steps.old + 1 }
     {
         steps.tick();

@@ -1,2 +1,4 @@
+pub mod CountingLemmas
+pub mod EngineLemmas
 pub mod LineLemmas
 pub mod TouchLemmas

@@ -1,6 +1,9 @@
 pub mod Commands
+pub mod Counting
+pub mod Engine
 pub mod Lines
 pub mod Machine
+pub mod Names
 pub mod Play
 pub mod Texts
 pub mod Touches

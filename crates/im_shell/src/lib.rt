@@ -2,7 +2,10 @@
 #![tactic(auto)]
 
 mod command;
+mod counting;
+mod engine;
 mod lines;
 mod reply;
+mod table;
 mod text;
 mod touches;
