@@ -33,6 +33,10 @@ Lacks others who amends k old (Turn decides adds on) result new =
     ⊎ ((at : History) × After others old at × ((decides && is_some (adds at)) ≡ false)
     × Lacks others who amends (counted (adds at) k) (at ++ made who (adds at)) (on at) result new)
 
--- a line of a script, played: it goes by its plan, or lacks memory on the way
+-- what is left of a line, k entries of it having been made already: it goes by the plan, or lacks memory on the way
+pub record Rest {R : Type 0} (others : History → Type 0) (who : ℕ) (amends : ℕ → Plan R) (k : ℕ) (old : History) (plan : Plan R) (result : R) (new : History) : Type 0 where
+  pub played : Goes others who old plan result new ⊎ Lacks others who amends k old plan result new
+
+-- a line of a script, played
 pub record Line {R : Type 0} (others : History → Type 0) (who : ℕ) (amends : ℕ → Plan R) (old : History) (plan : Plan R) (result : R) (new : History) : Type 0 where
-  pub played : Goes others who old plan result new ⊎ Lacks others who amends 0 old plan result new
+  pub whole : Rest others who amends 0 old plan result new

@@ -1,4 +1,6 @@
 pub mod CountingLemmas
 pub mod EngineLemmas
 pub mod LineLemmas
+pub mod PlanLemmas
+pub mod PlayLemmas
 pub mod TouchLemmas

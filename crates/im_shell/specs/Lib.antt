@@ -7,3 +7,4 @@ pub mod Names
 pub mod Play
 pub mod Texts
 pub mod Touches
+pub mod Words

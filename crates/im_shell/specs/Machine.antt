@@ -15,6 +15,7 @@ use Rattle.im_history.specs.Legal.{put_from}
 use Rattle.im_history.specs.Rows.{Row, seen, present, snapshot, own_changes}
 use Rattle.im_history.specs.Tables.{tables, is_named, name_is_taken, given}
 use Rattle.im_history.specs.Transactions.{is_open}
+use Rattle.im_plan.specs.Goes.{Line, Nobody, Rest}
 use Rattle.im_plan.specs.Plan.{Plan, End, Turn}
 use Rattle.im_shell.specs.declared.command.Command.{Command}
 use Rattle.im_shell.specs.declared.command.Command.TheVariants.{Session, NotBuilt}
@@ -121,8 +122,18 @@ abbrev pub who_of : Command → ℕ
 who_of (Session who statement) = who
 who_of NotBuilt = 0
 
--- where memory lacked after k entries: cursor 0 is shut if it is open, and the reply says k
+-- the reply of a line that lacked memory after k entries
+abbrev pub memory_reply : ℕ → Reply
+memory_reply k = record { place = None; body = Error (fault.Memory k) }
+
+-- where memory lacked after k entries: cursor 0 is shut if it is open
 abbrev pub amends : ℕ → ℕ → Plan Reply
-amends who k =
-    Turn false (λ at. if is_cursor_open at who 0 then Some (what.Shut 0) else None)
-    (λ at. End (record { place = None; body = Error (fault.Memory k) }))
+amends who k = Turn false (λ at. if is_cursor_open at who 0 then Some (what.Shut 0) else None) (λ at. End (memory_reply k))
+
+-- what is left of a line that is played alone, k of its entries having been made
+pub record IsRest (who k : ℕ) (old : History) (plan : Plan Reply) (reply : Reply) (new : History) : Type 0 where
+  pub rest : Rest Nobody who (amends who) k old plan reply new
+
+-- a whole line that is played alone
+pub record IsLine (command : Command) (old : History) (reply : Reply) (new : History) : Type 0 where
+  pub line : Line Nobody (who_of command) (amends (who_of command)) old (command_plan command) reply new

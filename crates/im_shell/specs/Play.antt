@@ -1,12 +1,13 @@
 -- A script, played line by line with nobody else there.
 use Rattle.std.specs.Prelude.{◌≡◌, ℕ, Bool, true, ◌&&◌, List, [], ◌∷◌, ◌++◌, Option, Some, None}
+use Rattle.im_edge.specs.Writing.{Took}
 use Rattle.im_history.specs.History.{History}
 use Rattle.im_plan.specs.Alone.{Played, play_or_cut, may_lack}
 use Rattle.im_shell.specs.declared.reply.Reply.{Reply}
 use Rattle.im_shell.specs.Commands.{command_of}
 use Rattle.im_shell.specs.Lines.{lines_of}
-use Rattle.im_shell.specs.Machine.{command_plan, who_of, amends}
-use Rattle.im_shell.specs.Texts.{text_from}
+use Rattle.im_shell.specs.Machine.{command_plan, who_of, amends, IsLine}
+use Rattle.im_shell.specs.Texts.{body_text, text_from}
 
 -- one line, memory having lacked after so many entries of it or not at all
 abbrev pub play_line : Option ℕ → History → List ℕ → Played Reply
@@ -56,3 +57,31 @@ pub record IsPlayed (script text : List ℕ) : Type 0 where
 pub record IsPlayedInPart (script text : List ℕ) : Type 0 where
   pub rest : List ℕ
   pub played : IsPlayed script (text ++ rest)
+
+-- the sink took what came behind this text off its front; what is left waits to be written
+pub record Sends (before after : Option (List ℕ)) (text left : List ℕ) : Type 0 where
+  pub sent : List ℕ
+  pub took : Took before after sent
+  pub split : text ≡ sent ++ left
+
+-- the sink took the text of the replies to a script
+pub record Plays (script : List ℕ) (before after : Option (List ℕ)) : Type 0 where
+  pub text : List ℕ
+  pub played : IsPlayed script text
+  pub took : Took before after text
+
+-- the sink took a front of such a text
+pub record PlaysInPart (script : List ℕ) (before after : Option (List ℕ)) : Type 0 where
+  pub text : List ℕ
+  pub played : IsPlayedInPart script text
+  pub took : Took before after text
+
+-- so far: whatever the lines of the rest come to, the whole script comes to the text written so far and then that
+pub record IsSoFar (script written : List ℕ) (number : ℕ) (history : History) (rest : List ℕ) : Type 0 where
+  pub on : (lacked : List (Option ℕ)) → may_lack_in lacked history (lines_of rest) ≡ true → IsPlayed script (written ++ text_from number (replies lacked history (lines_of rest)))
+
+-- a line was played, and the text of its reply came behind what waits to be written
+pub record PlaysNext (line : List ℕ) (number : ℕ) (old new : History) (waiting new_waiting : List ℕ) : Type 0 where
+  pub reply : Reply
+  pub line_is : IsLine (command_of line) old reply new
+  pub text : new_waiting ≡ waiting ++ body_text number reply.body

@@ -1,6 +1,7 @@
 ghost use Rattle.std.specs.Prelude.{◌≡◌, ◌*◌, ◌+◌, ◌≤◌, ◌<◌, ◌^◌, length, MatchOption, IfSome, None, Some, option_copied, take};
 ghost use Rattle.std.specs.List.{AllPass, prefix_len};
 ghost use Rattle.im_shell.specs.Commands as spec;
+ghost use Rattle.im_shell.specs.Machine.{who_of};
 
 /// A statement that is played. A table or a column is named by one capital letter.
 #[derive(Clone, Copy, Debug)]
@@ -42,7 +43,8 @@ fn after<'a>(mut text: &'a [u8], word: &[u8]) -> Option<&'a [u8]>
 
 /// A byte from one to another at the front, and what stands behind it.
 fn byte_within(text: &[u8], low: u8, high: u8) -> Option<(u8, &[u8])>
-    ensures { MatchOption result (spec.byte_within low high text.now ≡ None) (λ r. spec.byte_within low high text.now ≡ Some (r.0, r.1.now)) }
+    ensures byte { MatchOption result (spec.byte_within low high text.now ≡ None) (λ r. spec.byte_within low high text.now ≡ Some (r.0, r.1.now)) }
+    ensures within { IfSome result (λ r. (low ≤ r.0) × (r.0 ≤ high)) }
 {
     let [first, rest @ ..] = text else {
         return None;
@@ -173,7 +175,8 @@ fn read_statement(text: &[u8]) -> Option<Statement>
 }
 
 fn low_session(line: &[u8]) -> Option<(u32, &[u8])>
-    ensures { MatchOption result (spec.low_session line.now ≡ None) (λ r. spec.low_session line.now ≡ Some (r.0, r.1.now)) }
+    ensures session { MatchOption result (spec.low_session line.now ≡ None) (λ r. spec.low_session line.now ≡ Some (r.0, r.1.now)) }
+    ensures known { IfSome result (λ r. r.0 < 25) }
 {
     let (digit, behind) = byte_within(line, b'1', b'9')?;
     let rest = after(behind, b"> ")?;
@@ -181,7 +184,8 @@ fn low_session(line: &[u8]) -> Option<(u32, &[u8])>
 }
 
 fn high_session(line: &[u8]) -> Option<(u32, &[u8])>
-    ensures { MatchOption result (spec.high_session line.now ≡ None) (λ r. spec.high_session line.now ≡ Some (r.0, r.1.now)) }
+    ensures session { MatchOption result (spec.high_session line.now ≡ None) (λ r. spec.high_session line.now ≡ Some (r.0, r.1.now)) }
+    ensures known { IfSome result (λ r. r.0 < 25) }
 {
     let (_, behind) = byte_within(line, b'1', b'1')?;
     let (digit, behind) = byte_within(behind, b'0', b'6')?;
@@ -190,7 +194,8 @@ fn high_session(line: &[u8]) -> Option<(u32, &[u8])>
 }
 
 fn session(line: &[u8]) -> Option<(u32, &[u8])>
-    ensures { MatchOption result (spec.session line.now ≡ None) (λ r. spec.session line.now ≡ Some (r.0, r.1.now)) }
+    ensures session { MatchOption result (spec.session line.now ≡ None) (λ r. spec.session line.now ≡ Some (r.0, r.1.now)) }
+    ensures known { IfSome result (λ r. r.0 < 25) }
 {
     if let Some((who, text)) = low_session(line) {
         return Some((who, text));
@@ -199,7 +204,9 @@ fn session(line: &[u8]) -> Option<(u32, &[u8])>
 }
 
 fn command_in(who: u32, statement: Option<Statement>) -> Command
-    ensures { result ≡ spec.command_in who statement }
+    requires { who < 25 }
+    ensures command { result ≡ spec.command_in who statement }
+    ensures known { who_of result < 25 }
 {
     match statement {
         Some(statement) => Command::Session { who, statement },
@@ -210,7 +217,8 @@ fn command_in(who: u32, statement: Option<Statement>) -> Command
 /// What a line asks for. It reads four forms letter for letter, and takes no memory.
 #[tactic(auto, unfolding(crate::specs::Commands::command_of))]
 pub fn command_of(line: &[u8]) -> Command
-    ensures { result ≡ spec.command_of line.now }
+    ensures command { result ≡ spec.command_of line.now }
+    ensures known { who_of result < 25 }
 {
     match session(line) {
         Some((who, text)) => command_in(who, read_statement(text)),

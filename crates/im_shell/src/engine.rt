@@ -1,9 +1,11 @@
-ghost use Rattle.std.specs.Prelude.{◌≡◌, ◌<◌, ◌≤◌, ◌+◌, [], ◌∷◌, ◌++◌, length, nat_lt, true, false, None, Some, IfOk, OnOk, OnErr};
+ghost use Rattle.std.specs.Prelude.{◌≡◌, ℕ, ◌<◌, ◌≤◌, ◌+◌, [], ◌∷◌, ◌++◌, length, nat_lt, true, false, None, Some, IfOk, OnOk, OnErr};
 ghost use Rattle.im_values.specs.declared.value.Value.TheVariants.{Int};
 ghost use Rattle.im_history.specs.declared.entry.What.TheVariants as what;
 ghost use Rattle.im_history.specs.Commits.{scn};
+ghost use Rattle.im_history.specs.Cursors.{opened};
 ghost use Rattle.im_history.specs.Grid.{default_grid};
 ghost use Rattle.im_history.specs.Legal.{put_from};
+ghost use Rattle.im_history.specs.Rows.{snapshot};
 ghost use Rattle.im_history.specs.Tables.{tables, name_is_taken, given};
 ghost use Rattle.im_history.specs.Transactions.{is_open};
 ghost use Rattle.im_shell.specs.Machine.{table_named, number_column, rows_seen};
@@ -53,24 +55,27 @@ impl Engine {
         }
     }
 
-    /// How many entries the history has.
+    /// How many entries the history has. Between two lines no cursor is open.
     pub fn len(&self) -> u64
-        ensures { result ≡ length self.now }
+        ensures len { result ≡ length self.now }
+        ensures shut { (who : ℕ) → opened self.now who ≡ [] }
     {
         self.history.len()
     }
 
-    /// The present SCN.
+    /// The present SCN, at which each session reads: no transaction has another mode than READ COMMITTED.
     pub fn scn(&self) -> u64
-        ensures { result ≡ scn self.now }
+        ensures scn { result ≡ scn self.now }
+        ensures read_at { (who : ℕ) → snapshot self.now who ≡ scn self.now }
     {
         self.history.scn()
     }
 
-    /// Whether a session has an open transaction.
+    /// Whether a session has an open transaction. Between two lines it has no open cursor.
     pub fn is_open(&self, who: u32) -> bool
         requires { who < NUMBERS }
-        ensures { result ≡ is_open self.now who }
+        ensures transaction { result ≡ is_open self.now who }
+        ensures shut { opened self.now who ≡ [] }
     {
         self.transactions[who as usize]
     }

@@ -1,0 +1,116 @@
+ghost use Rattle.std.specs.Prelude.{◌≡◌, ◌≤◌, [], ◌++◌, IfOk, OnOk, OnErr, IsErrOf};
+ghost use Rattle.im_edge.specs.Faults.{Rose};
+ghost use Rattle.im_edge.specs.Writing.{Took, TookPart};
+ghost use Rattle.im_shell.specs.declared.play.Stop.TheVariants as stop;
+ghost use Rattle.im_shell.specs.Play.{Sends, Plays, PlaysInPart, PlaysNext};
+
+use crate::engine::Engine;
+use crate::lines::first_line;
+use crate::player::play_line;
+use crate::text::body_text;
+use im_edge::{Sink, WriteFault, write_all};
+use im_values::{NoMemory, Steps};
+use std::alloc::Global;
+use std::sync::ledger::Ledger;
+use thiserror::Error;
+
+/// Replies are handed to the sink in pieces of this size, and a last one.
+const PIECE: usize = 65536;
+
+/// Why a script was not played to its end.
+#[derive(Clone, Copy, Debug, PartialEq, Eq, Error)]
+pub enum Stop {
+    /// The sink met a fault.
+    #[error("write failed")]
+    WriteFault,
+    /// There was no memory for the text of a reply.
+    #[error("no memory")]
+    NoMemory,
+}
+
+impl From<WriteFault> for Stop {
+    ghost from_gives = { λ _ e. e ≡ stop.WriteFault };
+
+    fn from(_cause: WriteFault) -> Stop {
+        Stop::WriteFault
+    }
+}
+
+impl From<NoMemory> for Stop {
+    ghost from_gives = { λ _ e. e ≡ stop.NoMemory };
+
+    fn from(_cause: NoMemory) -> Stop {
+        Stop::NoMemory
+    }
+}
+
+/// Plays the next line, and puts the text of its reply behind what waits to be written.
+fn play_next<L: Ledger>(
+    alloc: Global,
+    engine: &mut Engine,
+    line: &[u8],
+    number: u64,
+    waiting: &mut Vec<u8>,
+    steps: &mut Steps<L>,
+) -> Result<(), NoMemory>
+    ensures ok { OnOk result (PlaysNext line.now number engine.old engine.new waiting.old.items waiting.new.items) }
+    ensures err { OnErr result (waiting.new.items ≡ waiting.old.items) }
+{
+    let reply = play_line(alloc, engine, line, steps);
+    let text = body_text(alloc, number, &reply.body)?;
+    waiting.extend_from_slice(text.as_slice())?;
+    Ok(())
+}
+
+/// Writes all that waits.
+fn flush<K: Sink>(sink: &mut K, waiting: &mut Vec<u8>) -> Result<(), WriteFault>
+    ensures ok { OnOk result (Sends (K.taken sink.old) (K.taken sink.new) waiting.old.items waiting.new.items) }
+    ensures none_left { OnOk result (waiting.new.items ≡ []) }
+    ensures err { OnErr result (TookPart (K.taken sink.old) (K.taken sink.new) waiting.old.items) }
+    ensures cause { OnErr result (Rose (K.faults sink.old) (K.faults sink.new)) }
+    ensures later { K.faults sink.old ≤ K.faults sink.new }
+{
+    write_all(sink, waiting.as_slice())?;
+    waiting.clear();
+    Ok(())
+}
+
+/// Writes all that waits, once it is a whole piece.
+fn flush_piece<K: Sink>(sink: &mut K, waiting: &mut Vec<u8>) -> Result<(), WriteFault>
+    ensures ok { OnOk result (Sends (K.taken sink.old) (K.taken sink.new) waiting.old.items waiting.new.items) }
+    ensures err { OnErr result (TookPart (K.taken sink.old) (K.taken sink.new) waiting.old.items) }
+    ensures cause { OnErr result (Rose (K.faults sink.old) (K.faults sink.new)) }
+    ensures later { K.faults sink.old ≤ K.faults sink.new }
+{
+    if waiting.len() < PIECE {
+        return Ok(());
+    }
+    flush(sink, waiting)
+}
+
+/// Plays a script line by line, over a store of its own, and writes the text of its replies.
+pub fn play_script<K: Sink, L: Ledger>(
+    alloc: Global,
+    script: &[u8],
+    sink: &mut K,
+    steps: &mut Steps<L>,
+) -> Result<(), Stop>
+    ensures ok { OnOk result (Plays script.now (K.taken sink.old) (K.taken sink.new)) }
+    ensures err { OnErr result (PlaysInPart script.now (K.taken sink.old) (K.taken sink.new)) }
+    ensures cause { IsErrOf result Stop.WriteFault → Rose (K.faults sink.old) (K.faults sink.new) }
+    ensures later { K.faults sink.old ≤ K.faults sink.new }
+{
+    let mut engine = Engine::new(alloc);
+    let mut waiting = Vec::new(alloc);
+    let mut rest = script;
+    let mut number = 1;
+    while rest.len() > 0 {
+        let (line, behind) = first_line(rest);
+        play_next(alloc, &mut engine, line, number, &mut waiting, steps)?;
+        flush_piece(sink, &mut waiting)?;
+        number += 1;
+        rest = behind;
+    }
+    flush(sink, &mut waiting)?;
+    Ok(())
+}

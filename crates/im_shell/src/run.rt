@@ -1,0 +1,83 @@
+ghost use Rattle.std.specs.Prelude.{◌≡◌, ◌≤◌, ◌⊎◌, ◌↔◌, ◌+◌, false, IfSome};
+ghost use Rattle.im_edge.specs.Faults.{Rose};
+ghost use Rattle.im_edge.specs.Reading.{GaveAtMost, GaveCount};
+ghost use Rattle.im_edge.specs.Source.{IsSpent};
+ghost use Rattle.im_shell.specs.Play.{Plays, PlaysInPart};
+ghost use Rattle.im_shell.specs.Words.{are_good};
+
+use crate::play::{Stop, play_script};
+use crate::words::{Word, are_good};
+use im_edge::{Gate, ReadError, Sink, Source, read_all};
+use im_values::Steps;
+use std::alloc::Global;
+use std::sync::Wait;
+use std::sync::ledger::Ledger;
+use std::thread::Threads;
+
+/// As many bytes may a script have.
+pub const MOST_BYTES: usize = 16_777_216;
+
+/// How a run ended.
+#[derive(Clone, Copy, Debug, PartialEq, Eq)]
+pub enum Status {
+    /// The whole script was played, and its replies were written.
+    Done,
+    /// The words ask for nothing that the program does. Nothing is read or written.
+    Usage,
+    /// The source met a fault. Nothing is written.
+    ReadFault,
+    /// The sink met a fault. It took a front of the text.
+    WriteFault,
+    /// There was no memory to go on. The sink took a front of the text.
+    NoMemory,
+    /// The script has more bytes than [`MOST_BYTES`]. Nothing is written.
+    ScriptTooLong,
+}
+
+/// Runs the program: reads a script from the source to its end, plays it line by line, and writes the replies to the
+/// sink.
+///
+/// `words` are the program's name and `run`. Want of memory inside a line is a reply of that line, and the script goes
+/// on; [`Status::NoMemory`] is want of memory in reading the script or in making a text.
+pub fn run<R: Threads + Wait + Sync, S: Source, K: Sink, G: Gate + Sync, L: Ledger>(
+    _rt: &R,
+    alloc: Global,
+    words: &[Word],
+    source: &mut S,
+    sink: &mut K,
+    _gate: &G,
+    steps: &mut Steps<L>,
+) -> Status
+    // Where the source tells what it had left, that is the script.
+    ensures done { result ≡ Status.Done → IfSome (S.left source.old) (λ script.
+        Plays script (K.taken sink.old) (K.taken sink.new)) }
+    ensures in_part { (result ≡ Status.WriteFault) ⊎ (result ≡ Status.NoMemory) → IfSome (S.left source.old) (λ script.
+        PlaysInPart script (K.taken sink.old) (K.taken sink.new)) }
+    ensures read_to_end { result ≡ Status.Done → IsSpent (S.left source.new) }
+
+    ensures usage { (result ≡ Status.Usage) ↔ (are_good words.now ≡ false) }
+    ensures untouched { result ≡ Status.Usage → (source.new ≡ source.old) × (sink.new ≡ sink.old) }
+
+    ensures read_fault { result ≡ Status.ReadFault → Rose (S.faults source.old) (S.faults source.new) }
+    ensures write_fault { result ≡ Status.WriteFault → Rose (K.faults sink.old) (K.faults sink.new) }
+    ensures too_long { result ≡ Status.ScriptTooLong → GaveCount (S.left source.old) (S.left source.new) (MOST_BYTES + 1) }
+    ensures not_too_long { ¬ (result ≡ Status.ScriptTooLong) → GaveAtMost (S.left source.old) (S.left source.new) MOST_BYTES }
+    ensures unwritten { (result ≡ Status.ReadFault) ⊎ (result ≡ Status.ScriptTooLong) → sink.new ≡ sink.old }
+    ensures reads_later { S.faults source.old ≤ S.faults source.new }
+    ensures writes_later { K.faults sink.old ≤ K.faults sink.new }
+{
+    if !are_good(words) {
+        return Status::Usage;
+    }
+    let script = match read_all(alloc, source, MOST_BYTES) {
+        Ok(script) => script,
+        Err(ReadError::Fault) => return Status::ReadFault,
+        Err(ReadError::TooLong) => return Status::ScriptTooLong,
+        Err(ReadError::NoMemory) => return Status::NoMemory,
+    };
+    match play_script(alloc, script.as_slice(), sink, steps) {
+        Ok(()) => Status::Done,
+        Err(Stop::WriteFault) => Status::WriteFault,
+        Err(Stop::NoMemory) => Status::NoMemory,
+    }
+}

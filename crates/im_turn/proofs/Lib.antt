@@ -1,0 +1,9 @@
+pub mod LogLemmas
+pub mod RosterLemmas
+pub mod PlaceLemmas
+pub mod HoldSteps
+pub mod ShareSteps
+pub mod SettledLemmas
+pub mod Ends
+pub mod ListOfPasses
+pub mod ForCallers
