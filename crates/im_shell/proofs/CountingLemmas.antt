@@ -29,11 +29,11 @@ touches-rows : (table rid : ℕ) (row : Option Row) (changes : List Change) → 
 touches-rows table rid row [] = refl
 touches-rows table rid row (c ∷ changes) =
     elim (c.table == table) as (λ b. is_some (fold (row_after table rid) (if b && (c.rid == rid) then c.row else row) changes) ≡ fold (after_touch rid) (is_some row) (if b then record { rid = c.rid; put = is_some c.row } ∷ touches_of table changes else touches_of table changes)) [
-      true ↦ elim (c.rid == rid) as (λ b. is_some (fold (row_after table rid) (if b then c.row else row) changes) ≡ fold (after_touch rid) (if b then is_some c.row else is_some row) (touches_of table changes)) [
-          true ↦ touches-rows table rid c.row changes
+      | true ↦ elim (c.rid == rid) as (λ b. is_some (fold (row_after table rid) (if b then c.row else row) changes) ≡ fold (after_touch rid) (if b then is_some c.row else is_some row) (touches_of table changes)) [
+        | true ↦ touches-rows table rid c.row changes
         | false ↦ touches-rows table rid row changes
-        ]
-    | false ↦ touches-rows table rid row changes
+      ]
+      | false ↦ touches-rows table rid row changes
     ]
 
 touches_of-append : (table : ℕ) (xs ys : List Change) → touches_of table (xs ++ ys) ≡ touches_of table xs ++ touches_of table ys
@@ -94,7 +94,7 @@ unfolding rows pending commits replay
 IsFollowed-nil table rows = record {
   sessions = length-replicate {A = List Touch} 25 [];
   committed = λ rid within. get_or-replicate rows rid false false (subst (λ (n : ℕ). rid < n) (length-replicate rows false) within);
-  waits = λ who known. get_or-replicate 25 who [] [] known
+  waits = λ who known. get_or-replicate 25 who [] [] known;
 }
 
 -- one more entry is taken in
@@ -102,7 +102,7 @@ pub IsFollowed-push : (h : History) (entry : Entry) (table : ℕ) (stands new_st
 IsFollowed-push h entry table stands new_stands waiting new_waiting known followed taken = record {
   sessions = ap length taken.waits ∙ (length-set waiting entry.who _ ∙ followed.sessions);
   committed = λ rid within. committed rid (subst (λ (n : ℕ). rid < n) taken.long within);
-  waits = λ who below. waits who below
+  waits = λ who below. waits who below;
 }
   where
     committed : (rid : ℕ) → rid < length stands → get_or new_stands rid false ≡ is_some (rows (h ++ entry ∷ []) table (scn (h ++ entry ∷ [])) rid)
@@ -154,9 +154,9 @@ count-present row_at (b ∷ stands) first known =
 -- what holds of each holds of the one at a place
 pub All-at : {X : Type 0} (P : X → Type 0) (xs : List X) (i : ℕ) (x : X) → All P xs → i < length xs → slice_get xs i ≡ Some x → P x
 All-at {X} P xs i x each within found = elim (slice_get_cases xs i).1 [
-    inl there ↦ let same : there.0 ≡ x = some-inj (sym there.2 ∙ found) in subst P same (subst P there.3 (each i there.0 within))
+  | inl there ↦ let same : there.0 ≡ x = some-inj (sym there.2 ∙ found) in subst P same (subst P there.3 (each i there.0 within))
   | inr past ↦ absurd (omega arith)
-  ]
+]
   where
     some-inj : {a b : X} → Some a ≡ Some b → a ≡ b
     some-inj e = cc

@@ -84,9 +84,9 @@ record Found {X : Type 0} (xs : List X) (i : ℕ) : Type 0 where
 
 found-at : {X : Type 0} (xs : List X) (i : ℕ) → i < length xs → Found xs i
 found-at xs i within = elim (slice_get_cases xs i).1 [
-    inl there ↦ record { item = there.0; found = there.2; is = there.3 }
+  | inl there ↦ record { item = there.0; found = there.2; is = there.3 }
   | inr past ↦ absurd (omega arith)
-  ]
+]
 
 -- ---- a new engine
 
@@ -103,7 +103,7 @@ Agrees-nil kept transactions none sessions idle = record {
   sessions = sessions;
   opens = idle;
   modes = λ who. refl;
-  shut = λ who. refl
+  shut = λ who. refl;
 }
 
 -- ---- a commit
@@ -132,7 +132,7 @@ module _ (h : History) (kept : List Kept) (transactions : List Bool) (agrees : A
     sessions = length-set transactions who false ∙ agrees.sessions;
     opens = opens_after_commit;
     modes = λ s. mode-push h commit s ∙ elim (who == s) as (λ b. (if b then Committed else mode h s) ≡ Committed) [ true ↦ refl | false ↦ agrees.modes s ];
-    shut = λ s. opened-push h commit s ∙ elim (who == s) as (λ b. (if b then opened h s else opened h s) ≡ []) [ true ↦ agrees.shut s | false ↦ agrees.shut s ]
+    shut = λ s. opened-push h commit s ∙ elim (who == s) as (λ b. (if b then opened h s else opened h s) ≡ []) [ true ↦ agrees.shut s | false ↦ agrees.shut s ];
   }
 
 -- ---- a write of one row
@@ -162,7 +162,7 @@ module _ (h : History) (kept : List Kept) (transactions : List Bool) (agrees : A
     rows = (Int number ∷ []) ∷ [];
     some = omega arith;
     fit = All-cons (λ row. IsTrue (fits row made.item.schema)) (Int number ∷ []) [] ((subst TakesNumbers made.is (All-get_or TakesNumbers (tables h) place made.item tables_there agrees.numbers)).fit number) (All-nil (λ row. IsTrue (fits row made.item.schema)));
-    next = refl
+    next = refl;
   }
 
   gives_after_write : (q : ℕ) → given_at after q ≡ given (h ++ write ∷ []) (q + 1)
@@ -214,7 +214,7 @@ module _ (h : History) (kept : List Kept) (transactions : List Bool) (agrees : A
     sessions = length-set transactions who true ∙ agrees.sessions;
     opens = opens_after_write;
     modes = λ s. mode-push h write s ∙ elim (who == s) as (λ b. (if b then mode h s else mode h s) ≡ Committed) [ true ↦ agrees.modes s | false ↦ agrees.modes s ];
-    shut = λ s. opened-push h write s ∙ elim (who == s) as (λ b. (if b then opened h s else opened h s) ≡ []) [ true ↦ agrees.shut s | false ↦ agrees.shut s ]
+    shut = λ s. opened-push h write s ∙ elim (who == s) as (λ b. (if b then opened h s else opened h s) ≡ []) [ true ↦ agrees.shut s | false ↦ agrees.shut s ];
   }
 
 -- nothing is begun in a new engine
@@ -258,7 +258,7 @@ module _ (h : History) (kept : List Kept) (transactions : List Bool) (agrees : A
     free = free;
     room = room;
     columns = (omega arith, omega arith);
-    shape = (record { some = omega arith; few = omega arith }, record { some = omega arith; few = omega arith })
+    shape = (record { some = omega arith; few = omega arith }, record { some = omega arith; few = omega arith });
   }
 
   pub Agrees-create : Agrees (h ++ record { who = who; what = Create name (number_column column) default_grid } ∷ []) (kept ++ record { name = name; given = 0 } ∷ []) transactions
@@ -267,9 +267,9 @@ module _ (h : History) (kept : List Kept) (transactions : List Bool) (agrees : A
     legal = IsLegal-push h create agrees.legal may;
     known = All-push (λ entry. entry.who < 25) h create agrees.known known;
     names =
-      map-append (λ (k : Kept). k.name) kept (record { name = name; given = 0 } ∷ [])
-      ∙ (ap (λ (names : List (List ℕ)). names ++ name ∷ []) agrees.names
-      ∙ (sym (map-append (λ (t : Table). t.name) (tables h) (made ∷ [])) ∙ ap (map (λ table. table.name)) (sym tables_are)));
+        map-append (λ (k : Kept). k.name) kept (record { name = name; given = 0 } ∷ [])
+        ∙ (ap (λ (names : List (List ℕ)). names ++ name ∷ []) agrees.names
+        ∙ (sym (map-append (λ (t : Table). t.name) (tables h) (made ∷ [])) ∙ ap (map (λ table. table.name)) (sym tables_are)));
     few = omega (arith, room, ap length agrees.names, length-map kept (λ (k : Kept). k.name), length-map (tables h) (λ (t : Table). t.name), length-append kept (record { name = name; given = 0 } ∷ []));
     numbers = subst (All TakesNumbers) (sym tables_are) (All-push TakesNumbers (tables h) made agrees.numbers (record { fit = λ number. refl }));
     gives = gives_after_create;
@@ -277,7 +277,7 @@ module _ (h : History) (kept : List Kept) (transactions : List Bool) (agrees : A
     sessions = agrees.sessions;
     opens = λ s. agrees.opens s ∙ ap is_some (sym (begun-push h create s ∙ elim (who == s) as (λ b. (if b then begun h s else begun h s) ≡ begun h s) [ true ↦ refl | false ↦ refl ]));
     modes = λ s. mode-push h create s ∙ elim (who == s) as (λ b. (if b then mode h s else mode h s) ≡ Committed) [ true ↦ agrees.modes s | false ↦ agrees.modes s ];
-    shut = λ s. opened-push h create s ∙ elim (who == s) as (λ b. (if b then opened h s else opened h s) ≡ []) [ true ↦ agrees.shut s | false ↦ agrees.shut s ]
+    shut = λ s. opened-push h create s ∙ elim (who == s) as (λ b. (if b then opened h s else opened h s) ≡ []) [ true ↦ agrees.shut s | false ↦ agrees.shut s ];
   }
 
 -- ---- a scan: cursor 0 is opened and shut
@@ -300,7 +300,7 @@ module _ (h : History) (kept : List Kept) (transactions : List Bool) (agrees : A
     made = table.item;
     exists = rw add-one table.found;
     shut = ap (list_any (λ (other : Opened). other.cursor == 0)) (agrees.shut who);
-    few = inl refl
+    few = inl refl;
   }
 
   opened_during : (s : ℕ) → opened during s ≡ (if who == s then record { cursor = 0; table = place + 1; place = length h } ∷ [] else [])
@@ -308,9 +308,9 @@ module _ (h : History) (kept : List Kept) (transactions : List Bool) (agrees : A
   opened_during s =
       opened-push h opening s
       ∙ elim (who == s) as (λ b. (if b then opened h s ++ record { cursor = 0; table = place + 1; place = length h } ∷ [] else opened h s) ≡ (if b then record { cursor = 0; table = place + 1; place = length h } ∷ [] else [])) [
-          true ↦ ap (λ (cs : List Opened). cs ++ record { cursor = 0; table = place + 1; place = length h } ∷ []) (agrees.shut s)
+        | true ↦ ap (λ (cs : List Opened). cs ++ record { cursor = 0; table = place + 1; place = length h } ∷ []) (agrees.shut s)
         | false ↦ agrees.shut s
-        ]
+      ]
 
   itself : (who == who) ≡ true
   itself = grind (arith, nat_tests)
@@ -323,9 +323,9 @@ module _ (h : History) (kept : List Kept) (transactions : List Bool) (agrees : A
   shut_after s =
       opened-push during shutting s
       ∙ elim (who == s) as (λ b. (opened during s ≡ (if b then record { cursor = 0; table = place + 1; place = length h } ∷ [] else [])) → (if b then filter (λ other. not (other.cursor == 0)) (opened during s) else opened during s) ≡ []) [
-          true ↦ λ e. ap (filter (λ (other : Opened). not (other.cursor == 0))) e
+        | true ↦ λ e. ap (filter (λ (other : Opened). not (other.cursor == 0))) e
         | false ↦ λ e. e
-        ] (opened_during s)
+      ] (opened_during s)
 
   pub Agrees-scan : Agrees ((h ++ record { who = who; what = Open 0 (place + 1) } ∷ []) ++ record { who = who; what = Shut 0 } ∷ []) kept transactions
   unfolding during opening shutting
@@ -340,7 +340,7 @@ module _ (h : History) (kept : List Kept) (transactions : List Bool) (agrees : A
     sessions = agrees.sessions;
     opens = λ s. agrees.opens s ∙ ap is_some (sym (begun-push during shutting s ∙ (elim (who == s) as (λ b. (if b then begun during s else begun during s) ≡ begun during s) [ true ↦ refl | false ↦ refl ] ∙ (begun-push h opening s ∙ elim (who == s) as (λ b. (if b then begun h s else begun h s) ≡ begun h s) [ true ↦ refl | false ↦ refl ]))));
     modes = λ s. mode-push during shutting s ∙ (elim (who == s) as (λ b. (if b then mode during s else mode during s) ≡ mode during s) [ true ↦ refl | false ↦ refl ] ∙ (mode-push h opening s ∙ elim (who == s) as (λ b. (if b then mode h s else mode h s) ≡ Committed) [ true ↦ agrees.modes s | false ↦ agrees.modes s ]));
-    shut = shut_after
+    shut = shut_after;
   }
 
 -- ---- callers' forms, over a history that is known to be another

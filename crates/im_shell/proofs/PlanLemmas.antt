@@ -48,10 +48,14 @@ module _ (who k : ℕ) (h : History) where
 
   -- a turn whose entry does not decide, or that adds none
   pub rest-turn : (decides : Bool) (adds : History → Option What) (on : History → Plan Reply) (reply : Reply) (new : History) → (decides && is_some (adds h)) ≡ false → IsRest who (counted (adds h) k) (h ++ made who (adds h)) (on h) reply new → IsRest who k h (Turn decides adds on) reply new
-  rest-turn decides adds on reply new undecided after = record { rest = record { played = elim after.rest.played [
-      inl goes ↦ inl (h, here h, goes)
-    | inr lacks ↦ inr (inr (h, here h, undecided, lacks))
-    ] } }
+  rest-turn decides adds on reply new undecided after = record {
+    rest = record {
+      played = elim after.rest.played [
+        | inl goes ↦ inl (h, here h, goes)
+        | inr lacks ↦ inr (inr (h, here h, undecided, lacks))
+      ];
+    };
+  }
 
   -- a turn, after which the line goes by its plan
   pub rest-goes : (decides : Bool) (adds : History → Option What) (on : History → Plan Reply) (reply : Reply) (new : History) → Goes Nobody who (h ++ made who (adds h)) (on h) reply new → IsRest who k h (Turn decides adds on) reply new

@@ -42,9 +42,11 @@ module _ (script written : List ℕ) (number : ℕ) (h new : History) (rest behi
   pub IsSoFar-next : IsSoFar script written number h rest → lines_of rest ≡ line ∷ lines_of behind → IsLine (command_of line) h reply new → IsSoFar script (written ++ body_text number reply.body) (number + 1) new behind
   IsSoFar-next so_far lines_are is_line =
       let machine = line_alone (who_of (command_of line)) (amends (who_of (command_of line))) h (command_plan (command_of line)) reply new is_line.line in
-      record { on = λ lacked lawful.
-          let played = subst (Onward lacked) machine.same (onward so_far lines_are machine.lacked machine.lawful lacked) lawful in
-          subst (IsPlayed script) (sym (append_assoc written (body_text number reply.body) (text_from (number + 1) (replies lacked new (lines_of behind))))) played }
+      record {
+        on = λ lacked lawful.
+            let played = subst (Onward lacked) machine.same (onward so_far lines_are machine.lacked machine.lawful lacked) lawful in
+            subst (IsPlayed script) (sym (append_assoc written (body_text number reply.body) (text_from (number + 1) (replies lacked new (lines_of behind))))) played;
+      }
 
 pub IsSoFar-end : (script written : List ℕ) (number : ℕ) (h : History) (rest : List ℕ) → IsSoFar script written number h rest → rest ≡ [] → IsPlayed script written
 IsSoFar-end script written number h rest so_far none =
@@ -54,7 +56,7 @@ IsSoFar-end script written number h rest so_far none =
 pub IsSoFar-part : (script written : List ℕ) (number : ℕ) (h : History) (rest front more : List ℕ) → IsSoFar script written number h rest → written ≡ front ++ more → IsPlayedInPart script front
 IsSoFar-part script written number h rest front more so_far split = record {
   rest = more ++ text_from number (replies [] h (lines_of rest));
-  played = subst (IsPlayed script) (ap (λ (text : List ℕ). text ++ text_from number (replies [] h (lines_of rest))) split ∙ append_assoc front more _) (so_far.on [] (may_lack_in-nil h (lines_of rest)))
+  played = subst (IsPlayed script) (ap (λ (text : List ℕ). text ++ text_from number (replies [] h (lines_of rest))) split ∙ append_assoc front more _) (so_far.on [] (may_lack_in-nil h (lines_of rest)));
 }
 
 -- ---- what was sent
@@ -66,14 +68,14 @@ pub Sends-more : (a b : Option (List ℕ)) (text left more new_left : List ℕ) 
 Sends-more a b text left more new_left sends left_is = record {
   sent = sends.sent;
   took = sends.took;
-  split = ap (λ (t : List ℕ). t ++ more) sends.split ∙ (append_assoc sends.sent left more ∙ ap (λ (t : List ℕ). sends.sent ++ t) (sym left_is))
+  split = ap (λ (t : List ℕ). t ++ more) sends.split ∙ (append_assoc sends.sent left more ∙ ap (λ (t : List ℕ). sends.sent ++ t) (sym left_is));
 }
 
 pub Sends-after : (a b c : Option (List ℕ)) (text left new_left : List ℕ) → Sends a b text left → Sends b c left new_left → Sends a c text new_left
 Sends-after a b c text left new_left first second = record {
   sent = first.sent ++ second.sent;
   took = Took-append a b c first.sent second.sent first.took second.took;
-  split = first.split ∙ (ap (λ (t : List ℕ). first.sent ++ t) second.split ∙ sym (append_assoc first.sent second.sent new_left))
+  split = first.split ∙ (ap (λ (t : List ℕ). first.sent ++ t) second.split ∙ sym (append_assoc first.sent second.sent new_left));
 }
 
 -- ---- the loop
@@ -90,7 +92,7 @@ IsGoing-start script taken waiting none = record {
   written = [];
   so_far = IsSoFar-start script;
   sends = subst (Sends taken taken []) (sym none) (Sends-start taken);
-  numbered = omega arith
+  numbered = omega arith;
 }
 
 pub IsGoing-next : (script : List ℕ) (before now after : Option (List ℕ)) (number : ℕ) (h new : History) (rest behind line waiting middle new_waiting : List ℕ) → IsGoing script before now number h rest waiting → lines_of rest ≡ line ∷ lines_of behind → length behind + 1 ≤ length rest → PlaysNext line number h new waiting middle → Sends now after middle new_waiting → IsGoing script before after (number + 1) new behind new_waiting
@@ -98,7 +100,7 @@ IsGoing-next script before now after number h new rest behind line waiting middl
   written = going.written ++ body_text number next.reply.body;
   so_far = IsSoFar-next script going.written number h new rest behind line next.reply going.so_far lines_are next.line_is;
   sends = Sends-after before now after _ middle new_waiting (Sends-more before now going.written waiting (body_text number next.reply.body) middle going.sends next.text) sends;
-  numbered = omega (arith, going.numbered)
+  numbered = omega (arith, going.numbered);
 }
 
 pub IsGoing-end : (script : List ℕ) (before now after : Option (List ℕ)) (number : ℕ) (h : History) (rest waiting new_waiting : List ℕ) → IsGoing script before now number h rest waiting → length rest ≤ 0 → Sends now after waiting new_waiting → new_waiting ≡ [] → Plays script before after
@@ -107,7 +109,7 @@ IsGoing-end script before now after number h rest waiting new_waiting going over
     record {
       text = going.written;
       played = IsSoFar-end script going.written number h rest going.so_far (empty rest over);
-      took = subst (Took before after) (sym (all.split ∙ (ap (λ (t : List ℕ). all.sent ++ t) none ∙ append-nil all.sent))) all.took
+      took = subst (Took before after) (sym (all.split ∙ (ap (λ (t : List ℕ). all.sent ++ t) none ∙ append-nil all.sent))) all.took;
     }
   where
     empty : (xs : List ℕ) → length xs ≤ 0 → xs ≡ []
@@ -119,7 +121,7 @@ pub IsGoing-part : (script : List ℕ) (before now : Option (List ℕ)) (number 
 IsGoing-part script before now number h rest waiting going = record {
   text = going.sends.sent;
   played = IsSoFar-part script going.written number h rest going.sends.sent waiting going.so_far going.sends.split;
-  took = going.sends.took
+  took = going.sends.took;
 }
 
 -- and where the sink met a fault
@@ -128,7 +130,7 @@ IsGoing-fault script before now after number h rest waiting going part = record 
   text = going.sends.sent ++ take part.count waiting;
   played = IsSoFar-part script going.written number h rest (going.sends.sent ++ take part.count waiting) (drop part.count waiting) going.so_far
       (going.sends.split ∙ (ap (λ (t : List ℕ). going.sends.sent ++ t) (sym (take-append-drop part.count waiting)) ∙ sym (append_assoc going.sends.sent (take part.count waiting) (drop part.count waiting))));
-  took = Took-append before now after going.sends.sent (take part.count waiting) going.sends.took part.took
+  took = Took-append before now after going.sends.sent (take part.count waiting) going.sends.took part.took;
 }
 
 -- a fault right after a line

@@ -63,7 +63,7 @@ or_refused (Some why) body = Error why
 abbrev pub create_last : List ℕ → List ℕ → Plan Reply
 create_last name column =
     Turn true (λ at. unless_refused (create_refusal name at) (what.Create name (number_column column) default_grid)) (λ at.
-        answer_at at (or_refused (create_refusal name at) (Created (length (tables at) + 1) (scn at + 1))))
+    answer_at at (or_refused (create_refusal name at) (Created (length (tables at) + 1) (scn at + 1))))
 
 -- CREATE TABLE commits an open transaction first, whether or not the table is then created
 abbrev pub create_plan : ℕ → List ℕ → List ℕ → Plan Reply

@@ -142,13 +142,7 @@ impl Engine {
     }
 
     /// Creates a table of one column of numbers.
-    pub fn create(
-        &mut self,
-        alloc: Global,
-        who: u32,
-        name: u8,
-        column: u8,
-    ) -> Result<(), NoMemory>
+    pub fn create(&mut self, alloc: Global, who: u32, name: u8, column: u8) -> Result<(), NoMemory>
         requires session { who < NUMBERS }
         requires idle { is_open self.old who ≡ false }
         requires free { name_is_taken self.old (name ∷ []) ≡ false }

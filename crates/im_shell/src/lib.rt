@@ -1,4 +1,13 @@
-//! The program's one call.
+//! The program's one call, [`run`]: it reads a script from a source, plays it line by line over a store of its own, and
+//! writes the replies to a sink.
+//!
+//! What must be believed is in `specs/`. `Lines.antt` cuts a script into lines, `Commands.antt` says which lines are
+//! played, `Machine.antt` has the plan of each statement, `Play.antt` plays a whole script and says where memory may
+//! lack, and `Texts.antt` has the text of each reply. The store is [`engine`](engine): the recorded history, and beside
+//! it what the next line asks for, in agreement with it (`specs/Engine.antt`). Only a count reads the history again
+//! (`specs/Counting.antt`).
+//!
+//! The main promise is the clause `done` of [`run`]. Start with `top.rt`, then `specs/Play.antt`.
 #![tactic(auto)]
 
 mod command;
@@ -8,8 +17,11 @@ mod lines;
 mod play;
 mod player;
 mod reply;
-mod run;
 mod table;
 mod text;
+mod top;
 mod touches;
 mod words;
+
+pub use top::{MOST_BYTES, Status, run};
+pub use words::Word;

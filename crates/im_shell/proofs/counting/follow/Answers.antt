@@ -9,7 +9,7 @@ use Rattle.im_shell.proofs.counting.follow.Goals as goal
 pub loop-place-init : goal.loop-place-init
 loop-place-init g c = record {
   rows = ap length c.in_ok-follower.ensures.stands ∙ length-replicate c.args.rows _;
-  followed = rw (c.in_ok-follower.ensures.stands, c.in_ok-follower.ensures.waiting) (IsFollowed-nil c.args.table c.args.rows)
+  followed = rw (c.in_ok-follower.ensures.stands, c.in_ok-follower.ensures.waiting) (IsFollowed-nil c.args.table c.args.rows);
 }
 
 pub take_in-requires : goal.take_in-requires
@@ -21,8 +21,8 @@ pub loop-place-preserved : goal.loop-place-preserved
 loop-place-preserved g c = record {
   rows = c.in_ok-take_in.ensures.long ∙ c.loop-place.invariant.rows;
   followed =
-    rw c.entry.ensures.next
-    (IsFollowed-push _ _ _ _ _ _ _ (All-at (λ (entry : Entry). entry.who < 25) _ _ _ c.requires (omega arith) c.entry.ensures.entry) c.loop-place.invariant.followed c.in_ok-take_in.ensures)
+      rw c.entry.ensures.next
+      (IsFollowed-push _ _ _ _ _ _ _ (All-at (λ (entry : Entry). entry.who < 25) _ _ _ c.requires (omega arith) c.entry.ensures.entry) c.loop-place.invariant.followed c.in_ok-take_in.ensures);
 }
 
 pub returns-clause-followed : goal.returns-clause-followed

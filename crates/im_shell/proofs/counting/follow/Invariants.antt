@@ -6,5 +6,5 @@ use Rattle.im_shell.proofs.counting.follow.Given as goal
 abbrev pub invariant-loop-place : goal.invariant-loop-place
 invariant-loop-place g l = record {
   rows : length l.follower.stands.items ≡ l.rows;
-  followed : IsFollowed (take l.place l.history.entries) l.table l.follower.stands.items l.follower.waiting.items
+  followed : IsFollowed (take l.place l.history.entries) l.table l.follower.stands.items l.follower.waiting.items;
 }

@@ -5,7 +5,7 @@ use Rattle.im_shell.proofs.play.play_script.Goals as goal
 pub loop-rest-init : goal.loop-rest-init
 loop-rest-init g c = record {
   going = rw c.new-engine.ensures (IsGoing-start c.args.script.now _ _ c.new-waiting.ensures.items);
-  later = omega arith
+  later = omega arith;
 }
 
 pub returns-in_err-play_next-clause-err : goal.returns-in_err-play_next-clause-err
@@ -18,7 +18,7 @@ returns-in_err-flush_piece-clause-err g c =
 pub loop-rest-preserved : goal.loop-rest-preserved
 loop-rest-preserved g c = record {
   going = IsGoing-next _ _ _ _ _ _ _ _ _ _ _ _ _ c.loop-rest.invariant.going c.first_line.ensures.lines c.first_line.ensures.shorter c.in_ok-play_next.ensures.ok c.in_ok-flush_piece.ensures.ok;
-  later = omega (arith, c.loop-rest.invariant.later, c.flush_piece.ensures.later)
+  later = omega (arith, c.loop-rest.invariant.later, c.flush_piece.ensures.later);
 }
 
 pub returns-in_err-flush-clause-err : goal.returns-in_err-flush-clause-err

@@ -1,0 +1,77 @@
+//! `ime`, a table engine in two formats: plays a script on standard input, and writes the replies to standard output.
+#![tactic(auto)]
+
+ghost use Rattle.std.specs.Prelude.{◌≡◌, ◌<◌};
+
+use im_edge::{OpenGate, StdSink, StdSource};
+use im_shell::{Status, Word, run};
+use im_values::{NoMemory, Steps};
+use std::alloc::Global;
+use std::marker::Brand;
+use std::process::ExitCode;
+use std::sync::Wait;
+use std::sync::ledger::{Blank, Ledger};
+use std::thread::Threads;
+use std::{env, io};
+
+/// The words of the command line.
+fn words(alloc: Global, rt: &HostRuntime) -> Result<Vec<Word>, NoMemory> {
+    let mut words = Vec::new(alloc);
+    let Ok(arguments) = env::args(rt) else {
+        return Err(NoMemory);
+    };
+    for argument in arguments {
+        words.push(Word::of(argument))?;
+    }
+    Ok(words)
+}
+
+/// Runs the program over the standard streams, with a count of steps that nobody reads.
+fn play<R: Input + Print + Threads + Wait + Sync, L: Ledger>(
+    rt: &R,
+    alloc: Global,
+    words: &[Word],
+    blank: Blank,
+) -> Status
+    requires name { blank.name ≡ L.name }
+    requires parts { blank.parts ≡ L.parts }
+    requires some { 0 < blank.parts }
+{
+    let mut source = StdSource::new(rt.reader());
+    let mut sink = StdSink::new(io::writer(rt));
+    let mut steps = Steps::<L>::new(blank);
+    run(
+        rt,
+        alloc,
+        words,
+        &mut source,
+        &mut sink,
+        &OpenGate,
+        &mut steps,
+    )
+}
+
+/// What a status is told by: the exit status, and a line on standard error where the program did not end well.
+fn told(status: Status) -> (u8, &'static str) {
+    match status {
+        Status::Done => (0, ""),
+        Status::Usage => (1, "ime: usage: ime run"),
+        Status::ReadFault => (2, "ime: read failed"),
+        Status::WriteFault => (3, "ime: write failed"),
+        Status::NoMemory => (4, "ime: no memory"),
+        Status::ScriptTooLong => (5, "ime: script too long"),
+    }
+}
+
+fn main(rt: HostRuntime) -> ExitCode {
+    let alloc = rt.alloc();
+    let status = match words(alloc, &rt) {
+        Ok(words) => play::<HostRuntime, Brand>(&rt, alloc, words.as_slice(), Blank::new(1)),
+        Err(NoMemory) => Status::NoMemory,
+    };
+    let (code, line) = told(status);
+    if code != 0 {
+        let _ = rt.eprintln(line);
+    }
+    ExitCode::from(code)
+}
