@@ -21,3 +21,6 @@ pub use entry::{Entry, Mode, Priority, What};
 pub use limits::Limits;
 pub use shape::Shape;
 pub use stored::History;
+
+#[cfg(test)]
+mod tests;

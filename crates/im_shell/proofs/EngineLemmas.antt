@@ -1,5 +1,5 @@
 -- What an engine keeps stays in agreement with its history as entries come.
-use Rattle.std.proofs.Common.{◌≡◌, ◌≢◌, ◌==◌, ◌&&◌, ◌||◌, ◌<◌, ◌≤◌, ◌⊎◌, ℕ, zero, suc, ◌+◌, ◌-◌, ◌^◌, max, not, ℤ, Bool, true, false, if◌then◌else◌, IsTrue, List, [], ◌∷◌, ◌++◌, length, map, get_or, set, filter, replicate, All, Option, Some, None, is_some, slice_get, nat_eq, nat_lt, refl, sym, ap, ◌∙◌, subst, inl, inr, arith, append-nil, length-append, add-zero, zero-add, add-one}
+use Rattle.std.proofs.Common.{◌≡◌, ◌≢◌, ◌==◌, ◌||◌, ◌<◌, ◌≤◌, ℕ, zero, suc, ◌+◌, ◌-◌, ◌^◌, max, not, ℤ, Bool, true, false, if◌then◌else◌, IsTrue, List, [], ◌∷◌, ◌++◌, length, map, get_or, set, filter, replicate, All, Option, Some, None, is_some, slice_get, nat_eq, nat_lt, refl, sym, ap, ◌∙◌, subst, inl, inr, arith, length-append, add-one}
 use Rattle.std.proofs.lemmas.Bool.Decides.{nat_tests}
 use Rattle.std.proofs.lemmas.List.{get_or-set_same, get_or-set_other, length-set, length-map, map-set, map-append, get_or-map}
 use Rattle.std.proofs.Math.Seq.{map-set_same}
@@ -13,19 +13,18 @@ use Rattle.im_values.specs.Fits.{fits}
 use Rattle.im_history.specs.declared.change.Change.{Change}
 use Rattle.im_history.specs.declared.entry.Entry.{Entry}
 use Rattle.im_history.specs.declared.entry.Mode.TheVariants.{Committed}
-use Rattle.im_history.specs.declared.entry.What.{What}
 use Rattle.im_history.specs.declared.entry.What.TheVariants.{Create, Open, Shut, Write, Commit}
 use Rattle.im_history.specs.History.{History, replay}
-use Rattle.im_history.specs.Legal.{IsLegal, MayCreate, MayOpen, IsInsert, put_from}
+use Rattle.im_history.specs.Legal.{MayCreate, MayOpen, IsInsert, put_from}
 use Rattle.im_history.specs.Stored.{Stored}
-use Rattle.im_history.specs.Tables.{Table, tables, is_named, name_is_taken, given, table_at}
+use Rattle.im_history.specs.Tables.{Table, tables, is_named, name_is_taken, given}
 use Rattle.im_history.specs.Cursors.{Opened, opened, is_cursor_open}
 use Rattle.im_history.specs.Grid.{Grid, default_grid}
 use Rattle.im_history.specs.Transactions.{is_open, or_here, begun, mode}
 use Rattle.im_history.proofs.Laws.{tables-push, given-push, begun-push, mode-push, opened-push, IsLegal-push}
 use Rattle.im_shell.specs.declared.table.Kept.{Kept}
 use Rattle.im_shell.specs.Engine.{given_at, TakesNumbers, Agrees}
-use Rattle.im_shell.specs.Machine.{table_named, number_column}
+use Rattle.im_shell.specs.Machine.{number_column}
 use Rattle.im_shell.specs.Names.{is_kept_as}
 
 -- ---- names

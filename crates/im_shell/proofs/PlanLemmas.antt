@@ -13,7 +13,7 @@ use Rattle.im_history.specs.Rows.{Row, snapshot}
 use Rattle.im_history.specs.Tables.{tables, name_is_taken, given}
 use Rattle.im_history.specs.Transactions.{is_open, begun}
 use Rattle.im_history.proofs.Laws.{scn-push, begun-push}
-use Rattle.im_plan.specs.Goes.{After, Nobody, Ends, Goes, Lacks, Rest, Line}
+use Rattle.im_plan.specs.Goes.{After, Nobody, Ends, Goes}
 use Rattle.im_plan.specs.Plan.{Plan, End, Turn, made, counted}
 use Rattle.im_shell.specs.declared.reply.Reply.{Reply}
 use Rattle.im_shell.specs.declared.command.Command.{Command}

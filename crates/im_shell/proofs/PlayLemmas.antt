@@ -1,16 +1,16 @@
 -- A script that is played and written line by line comes to the text of its replies.
-use Rattle.std.proofs.Common.{◌≡◌, ◌&&◌, ◌≤◌, ℕ, ◌+◌, ◌-◌, ◌*◌, Bool, true, false, List, [], ◌∷◌, ◌++◌, length, take, drop, Option, Some, None, Result, Ok, Err, OnErr, IfSome, refl, sym, ap, ◌∙◌, subst, arith, append-nil, append_assoc}
+use Rattle.std.proofs.Common.{◌≡◌, ◌≤◌, ℕ, ◌+◌, true, List, [], ◌∷◌, ◌++◌, length, take, drop, Option, Some, None, Result, Ok, Err, OnErr, IfSome, refl, sym, ap, ◌∙◌, subst, arith, append-nil, append_assoc}
 use Rattle.std.proofs.lemmas.List.{take-append-drop}
 use Rattle.im_edge.specs.Writing.{Took, TookPart}
 use Rattle.im_edge.proofs.ForCallers.{Took-nil, Took-append}
 use Rattle.im_history.specs.History.{History}
-use Rattle.im_plan.specs.Alone.{Played, may_lack, IsMachine}
+use Rattle.im_plan.specs.Alone.{Played, may_lack}
 use Rattle.im_plan.proofs.AloneLaws.{line_alone}
 use Rattle.im_shell.specs.declared.reply.Reply.{Reply}
 use Rattle.im_shell.specs.Commands.{command_of}
 use Rattle.im_shell.specs.Lines.{lines_of}
 use Rattle.im_shell.specs.Machine.{command_plan, who_of, amends, IsLine}
-use Rattle.im_shell.specs.Play.{play_line, first_of, rest_of, replies, may_lack_in, IsTextFrom, IsPlayed, IsPlayedInPart, Sends, Plays, PlaysInPart, IsSoFar, PlaysNext}
+use Rattle.im_shell.specs.Play.{play_line, replies, may_lack_in, IsPlayed, IsPlayedInPart, Sends, Plays, PlaysInPart, IsSoFar, PlaysNext}
 use Rattle.im_shell.specs.Texts.{body_text, text_from}
 
 -- a fact that holds anyway holds where a call failed

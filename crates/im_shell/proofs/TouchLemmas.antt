@@ -1,10 +1,10 @@
 -- Which row numbers have a row as touches come.
-use Rattle.std.proofs.Common.{◌≡◌, ◌≢◌, ◌==◌, ◌<◌, ℕ, ◌+◌, Bool, true, false, if◌then◌else◌, List, [], ◌∷◌, ◌++◌, length, get_or, set, take, fold, is_some, Option, refl, sym, ap, ◌∙◌, subst, arith}
+use Rattle.std.proofs.Common.{◌≡◌, ◌≢◌, ◌==◌, ◌<◌, ℕ, ◌+◌, Bool, true, false, if◌then◌else◌, List, length, get_or, set, take, refl, sym, ap, ◌∙◌, subst, arith}
 use Rattle.std.proofs.lemmas.Bool.Decides.{nat_tests}
 use Rattle.std.proofs.lemmas.List.{get_or-set_same, get_or-set_other}
 use Rattle.std.proofs.lemmas.List.Sums.{fold_more}
 use Rattle.im_shell.specs.declared.touches.Touch.{Touch}
-use Rattle.im_shell.specs.Touches.{touches_of, after_touch, after_touches}
+use Rattle.im_shell.specs.Touches.{after_touch, after_touches}
 
 get_or-set : (stands : List Bool) (at rid : ℕ) (put : Bool) → rid < length stands → get_or (set stands at put) rid false ≡ (if at == rid then put else get_or stands rid false)
 get_or-set stands at rid put within = by (at == rid) refl

@@ -2,7 +2,6 @@
 use Rattle.std.specs.Prelude.{◌≡◌, ℕ, ◌+◌, ◌<◌, ◌≤◌, ℤ, Bool, true, false, List, [], ◌∷◌, length, map, All, slice_index_or}
 use Rattle.im_values.specs.declared.value.Value.TheVariants.{Int}
 use Rattle.im_values.specs.Fits.{fits}
-use Rattle.im_history.specs.declared.entry.Entry.{Entry}
 use Rattle.im_history.specs.declared.entry.Mode.TheVariants.{Committed}
 use Rattle.im_history.specs.Cursors.{opened}
 use Rattle.im_history.specs.History.{History}

@@ -1,5 +1,5 @@
 -- The plan of each statement: what it reads, adds and answers, turn by turn.
-use Rattle.std.specs.Prelude.{ℕ, suc, ◌+◌, Bool, true, false, nat_lt, List, [], ◌∷◌, length, Option, Some, None, if◌then◌else◌}
+use Rattle.std.specs.Prelude.{ℕ, suc, ◌+◌, true, false, nat_lt, List, [], ◌∷◌, length, Option, Some, None, if◌then◌else◌}
 use Rattle.std.specs.List.{position}
 use Rattle.std.specs.Option.{option_map}
 use Rattle.im_values.specs.declared.schema.Column.{Column}

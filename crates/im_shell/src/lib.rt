@@ -25,3 +25,6 @@ mod words;
 
 pub use top::{MOST_BYTES, Status, run};
 pub use words::Word;
+
+#[cfg(test)]
+mod tests;

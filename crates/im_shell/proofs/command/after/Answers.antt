@@ -1,4 +1,4 @@
-use Rattle.std.proofs.Common.{◌≡◌, ◌<◌, ℕ, suc, List, [], ◌∷◌, length, drop, None, refl, sym, ◌∙◌, arith, drop-cons}
+use Rattle.std.proofs.Common.{◌≡◌, ◌<◌, ℕ, List, [], ◌∷◌, length, drop, None, refl, sym, ◌∙◌, arith, drop-cons}
 use Rattle.im_shell.specs.Commands.{after}
 use Rattle.im_shell.proofs.command.after.Goals as goal
 

@@ -1,5 +1,5 @@
-use Rattle.std.proofs.Common.{◌*◌, ◌<◌, ◌≤◌, ◌+◌, ◌^◌, ℕ, suc, length, arith, add-one}
-use Rattle.std.proofs.Math.Nat.{pow-le-pow_right, pow-suc}
+use Rattle.std.proofs.Common.{◌<◌, ◌≤◌, ◌^◌, ℕ, arith}
+use Rattle.std.proofs.Math.Nat.{pow-le-pow_right}
 use Rattle.im_shell.proofs.command.value_of.Goals as goal
 
 -- a number of few digits is small

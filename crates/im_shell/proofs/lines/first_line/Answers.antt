@@ -1,5 +1,3 @@
-use Rattle.std.proofs.Common.{◌≡◌, length, take, drop, sym, ap, ◌∙◌, arith}
-use Rattle.im_shell.specs.Lines.{lines_of}
 use Rattle.im_shell.proofs.LineLemmas.{lines_of-last, lines_of-next}
 use Rattle.im_shell.proofs.lines.first_line.Goals as goal
 

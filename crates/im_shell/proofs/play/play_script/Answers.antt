@@ -1,4 +1,4 @@
-use Rattle.std.proofs.Common.{◌≤◌, OnErr, Result, arith, ap, ◌∙◌}
+use Rattle.std.proofs.Common.{arith}
 use Rattle.im_shell.proofs.PlayLemmas.{OnErr-always, IsGoing-start, IsGoing-next, IsGoing-end, IsGoing-part, IsGoing-fault, IsGoing-stuck}
 use Rattle.im_shell.proofs.play.play_script.Goals as goal
 

@@ -1,4 +1,4 @@
-use Rattle.std.proofs.Common.{◌∷◌, [], refl, sym, ◌∙◌}
+use Rattle.std.proofs.Common.{◌∷◌, [], refl, sym}
 use Rattle.im_shell.specs.Machine.{create_last}
 use Rattle.im_shell.proofs.PlanLemmas.{lacks, create-done}
 use Rattle.im_shell.proofs.player.create_table.Goals as goal

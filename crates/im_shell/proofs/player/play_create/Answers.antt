@@ -1,4 +1,4 @@
-use Rattle.std.proofs.Common.{◌≡◌, true, ◌∷◌, [], not, sym, ◌∙◌, refl}
+use Rattle.std.proofs.Common.{◌≡◌, true, ◌∷◌, [], sym}
 use Rattle.im_history.specs.Transactions.{is_open}
 use Rattle.im_shell.specs.Machine.{create_plan}
 use Rattle.im_shell.proofs.PlanLemmas.{lacks, idle-commit, create-committed}

@@ -1,7 +1,3 @@
-use Rattle.std.proofs.Common.{false, List, Bool, ◌∷◌, [], ◌++◌, set, sym, ap, ◌∙◌, subst}
-use Rattle.im_history.specs.declared.entry.What.TheVariants.{Commit}
-use Rattle.im_history.specs.History.{History}
-use Rattle.im_shell.specs.Engine.{Agrees}
 use Rattle.im_shell.proofs.EngineLemmas.{Agrees-commit, entries_of}
 use Rattle.im_shell.proofs.engine.Engine.commit.Goals as goal
 

@@ -1,4 +1,3 @@
-use Rattle.std.proofs.Common.{ap, sym, ◌∙◌}
 use Rattle.im_shell.proofs.EngineLemmas.{Agrees-made, entries_of}
 use Rattle.im_shell.proofs.engine.Engine.create.Goals as goal
 

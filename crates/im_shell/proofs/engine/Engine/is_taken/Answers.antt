@@ -1,4 +1,4 @@
-use Rattle.std.proofs.Common.{sym, ap, ◌∙◌}
+use Rattle.std.proofs.Common.{ap, ◌∙◌}
 use Rattle.im_history.specs.History.{History}
 use Rattle.im_history.specs.Tables.{name_is_taken}
 use Rattle.im_shell.proofs.EngineLemmas.{list_any-names}

@@ -1,7 +1,5 @@
-use Rattle.std.proofs.Common.{List, ap, sym, refl, subst}
-use Rattle.im_history.specs.History.{History}
+use Rattle.std.proofs.Common.{ap, refl}
 use Rattle.im_history.specs.Stored.{Stored}
-use Rattle.im_shell.specs.Engine.{Agrees}
 use Rattle.im_shell.proofs.EngineLemmas.{Agrees-nil, none-begun}
 use Rattle.im_shell.proofs.engine.Engine.new.Goals as goal
 

@@ -1,4 +1,4 @@
-use Rattle.std.proofs.Common.{ℕ, suc, Option, Some, sym, ap, ◌∙◌, add-one}
+use Rattle.std.proofs.Common.{ℕ, suc, Some, sym, ap, ◌∙◌, add-one}
 use Rattle.std.specs.List.{position}
 use Rattle.std.specs.Option.{option_map}
 use Rattle.im_history.specs.History.{History}
