@@ -95,6 +95,18 @@ fn scripts_come_to_the_text_of_their_replies(rt: HostRuntime) -> Result<(), Fail
     let cases = [
         plain("", ""),
         plain(TWO_ROWS, TWO_ROWS_TEXT),
+        // The scripts of `examples/`.
+        plain(
+            "1> CREATE TABLE T (K NUMBER)\n1> INSERT INTO T VALUES (10)\n2> SELECT COUNT(*) FROM T\n\
+             1> INSERT INTO T VALUES (20)\n1> COMMIT\n2> SELECT COUNT(*) FROM T\n",
+            "1,created,1,1\n2,inserted,1,0\n3,answer,1,1\n3,row,0\n4,inserted,1,1\n5,committed,2\n6,answer,2,1\n6,row,2\n",
+        ),
+        plain(
+            "1> CREATE TABLE A (K NUMBER)\n1> INSERT INTO A VALUES (7)\n2> SELECT COUNT(*) FROM A\n\
+             1> CREATE TABLE A (K NUMBER)\n2> SELECT COUNT(*) FROM A\n1> INSERT INTO B VALUES (7)\n",
+            "1,created,1,1\n2,inserted,1,0\n3,answer,1,1\n3,row,0\n4,error,07,table-exists,A\n5,answer,2,1\n5,row,1\n\
+             6,error,03,unknown-table,B\n",
+        ),
         plain(
             "1> CREATE TABLE T (K NUMBER)\n1> INSERT INTO T VALUES (7)\n1> SELECT COUNT(*) FROM T\n2> SELECT COUNT(*) FROM T\n",
             "1,created,1,1\n2,inserted,1,0\n3,answer,1,1\n3,row,1\n4,answer,1,1\n4,row,0\n",
