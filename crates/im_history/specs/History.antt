@@ -1,10 +1,15 @@
 -- A history, and how it is read.
-use Rattle.std.specs.Prelude.{List, [], ◌∷◌, ◌++◌}
+use Rattle.std.specs.Prelude.{◌≡◌, ℕ, List, [], ◌∷◌, ◌++◌}
 use Rattle.im_history.specs.declared.entry.Entry.{Entry}
+use Rattle.im_history.specs.declared.entry.What.{What}
 
 -- what happened to the store, the oldest entry first
 abbrev pub History : Type 0
 History = List Entry
+
+-- the new history is the old one with one more entry
+abbrev pub Adds : History → ℕ → What → History → Type 0
+Adds old who what new = new ≡ old ++ record { who = who; what = what } ∷ []
 
 -- the history read on from where `before` stood already
 abbrev pub replay_from : {S : Type 0} → (History → S → Entry → S) → History → S → History → S

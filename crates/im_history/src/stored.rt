@@ -28,7 +28,9 @@ impl Model for History {
 
     ghost view = { λ h. record { entries = h.entries.items; spare = h.spare } };
 
-    ghost invariant = { λ h. (vec_len h.entries + h.spare ≤ vec_capacity h.entries) × (h.clock ≤ vec_len h.entries) × (h.clock ≡ scn h.entries.items) };
+    ghost invariant = { λ h. (vec_len h.entries + h.spare ≤ vec_capacity h.entries)
+        × (h.clock ≤ vec_len h.entries)
+        × (h.clock ≡ scn h.entries.items) };
 }
 
 impl History {

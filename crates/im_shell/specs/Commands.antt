@@ -1,5 +1,6 @@
 -- Which lines are played: four forms, letter for letter, with single blanks.
-use Rattle.std.specs.Prelude.{ℕ, ◌+◌, ◌-◌, ◌*◌, ◌==◌, ◌&&◌, nat_le, ℤ, pos, neg_ℤ, Bool, List, [], ◌∷◌, drop, take, fold, codes, Option, Some, None, option_and_then, if◌then◌else◌}
+use Rattle.std.specs.Prelude.{◌≡◌, MatchOption, ℕ, ◌+◌, ◌-◌, ◌*◌, ◌==◌, ◌&&◌, nat_le, ℤ, pos, neg_ℤ, Bool, List, [], ◌∷◌, drop, take, fold, codes, Option, Some, None, option_and_then, if◌then◌else◌}
+use Rattle.std.specs.Borrow.{Bor}
 use Rattle.std.specs.List.{prefix_len}
 use Rattle.im_shell.specs.declared.command.Command.{Command}
 use Rattle.im_shell.specs.declared.command.Command.TheVariants.{Session, NotBuilt}
@@ -20,6 +21,10 @@ after (b ∷ word) (c ∷ text) = if b == c then after word text else None
 abbrev pub byte_within : ℕ → ℕ → List ℕ → Option (ℕ × List ℕ)
 byte_within low high [] = None
 byte_within low high (c ∷ text) = if is_within low high c then Some (c, text) else None
+
+-- a reader answers what is read and what stands behind it
+abbrev pub Reads : {X : Type 0} → Option (X × List ℕ) → Option (X × Bor (List ℕ)) → Type 0
+Reads expected result = MatchOption result (expected ≡ None) (λ r. expected ≡ Some (r.0, r.1.now))
 
 -- a capital letter at the front, and what stands behind it
 abbrev pub letter : List ℕ → Option (ℕ × List ℕ)

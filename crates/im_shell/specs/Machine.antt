@@ -1,5 +1,5 @@
 -- The plan of each statement: what it reads, adds and answers, turn by turn.
-use Rattle.std.specs.Prelude.{ℕ, suc, ◌+◌, true, false, nat_lt, List, [], ◌∷◌, length, Option, Some, None, if◌then◌else◌}
+use Rattle.std.specs.Prelude.{ℕ, ℤ, suc, ◌+◌, true, false, nat_lt, List, [], ◌∷◌, length, ◌++◌, Option, Some, None, if◌then◌else◌, ◌≡◌}
 use Rattle.std.specs.List.{position}
 use Rattle.std.specs.Option.{option_map}
 use Rattle.im_values.specs.declared.schema.Column.{Column}
@@ -34,6 +34,15 @@ answer_at at body = End (record { place = Some (length at); body = body })
 -- a turn that reads and adds nothing
 abbrev pub look : (History → Plan Reply) → Plan Reply
 look on = Turn false (λ at. None) on
+
+-- the row of one number
+abbrev pub row_of : ℤ → Row
+row_of number = value.Int number ∷ []
+
+-- a scan adds the opening and the shutting of cursor 0
+abbrev pub AddsScan : History → ℕ → ℕ → History → Type 0
+AddsScan old who table new =
+    new ≡ (old ++ record { who = who; what = what.Open 0 table } ∷ []) ++ record { who = who; what = what.Shut 0 } ∷ []
 
 -- the table of this name, by its number from 1
 abbrev pub table_named : History → List ℕ → Option ℕ
@@ -77,9 +86,13 @@ abbrev pub insert_row : ℕ → Row → Plan Reply
 insert_row table row =
     Turn true (λ at. Some (what.Write (put_from table (given at table) (row ∷ [])))) (λ at. answer_at at (Inserted 1 (given at table)))
 
+-- the fault that no table has this name
+abbrev pub unknown_table : List ℕ → History → Plan Reply
+unknown_table name at = answer_at at (Error (fault.UnknownTable name))
+
 -- what is done to the table of a name, or the fault that there is none
 abbrev pub with_table : List ℕ → History → (ℕ → Plan Reply) → Option ℕ → Plan Reply
-with_table name at on None = answer_at at (Error (fault.UnknownTable name))
+with_table name at on None = unknown_table name at
 with_table name at on (Some table) = on table
 
 -- INSERT INTO
@@ -108,7 +121,7 @@ count_plan who name = look (λ at. with_table name at (count_rows who) (table_na
 -- the plan of a statement of a session; a name is one letter, and a row one number
 abbrev pub statement_plan : ℕ → Statement → Plan Reply
 statement_plan who (Create table column) = create_plan who (table ∷ []) (column ∷ [])
-statement_plan who (Insert table number) = insert_plan (table ∷ []) (value.Int number ∷ [])
+statement_plan who (Insert table number) = insert_plan (table ∷ []) (row_of number)
 statement_plan who Commit = commit_plan
 statement_plan who (Count table) = count_plan who (table ∷ [])
 

@@ -43,7 +43,7 @@ fn after<'a>(mut text: &'a [u8], word: &[u8]) -> Option<&'a [u8]>
 
 /// A byte from one to another at the front, and what stands behind it.
 fn byte_within(text: &[u8], low: u8, high: u8) -> Option<(u8, &[u8])>
-    ensures byte { MatchOption result (spec.byte_within low high text.now ≡ None) (λ r. spec.byte_within low high text.now ≡ Some (r.0, r.1.now)) }
+    ensures byte { spec.Reads (spec.byte_within low high text.now) result }
     ensures within { IfSome result (λ r. (low ≤ r.0) × (r.0 ≤ high)) }
 {
     let [first, rest @ ..] = text else {
@@ -58,7 +58,7 @@ fn byte_within(text: &[u8], low: u8, high: u8) -> Option<(u8, &[u8])>
 
 /// A capital letter at the front, and what stands behind it.
 fn letter(text: &[u8]) -> Option<(u8, &[u8])>
-    ensures { MatchOption result (spec.letter text.now ≡ None) (λ r. spec.letter text.now ≡ Some (r.0, r.1.now)) }
+    ensures { spec.Reads (spec.letter text.now) result }
 {
     byte_within(text, b'A', b'Z')
 }
@@ -90,7 +90,7 @@ fn digits_at_front(text: &[u8]) -> usize
 
 /// 1 to 18 digits at the front as a number, and what stands behind them.
 fn magnitude(text: &[u8]) -> Option<(u64, &[u8])>
-    ensures number { MatchOption result (spec.magnitude text.now ≡ None) (λ r. spec.magnitude text.now ≡ Some (r.0, r.1.now)) }
+    ensures number { spec.Reads (spec.magnitude text.now) result }
     ensures small { IfSome result (λ r. r.0 < 10 ^ 18) }
 {
     let count = digits_at_front(text);
@@ -104,7 +104,7 @@ fn magnitude(text: &[u8]) -> Option<(u64, &[u8])>
 
 /// The same, with a minus sign before it perhaps.
 fn integer(text: &[u8]) -> Option<(i64, &[u8])>
-    ensures { MatchOption result (spec.integer text.now ≡ None) (λ r. spec.integer text.now ≡ Some (r.0, r.1.now)) }
+    ensures { spec.Reads (spec.integer text.now) result }
 {
     match text {
         [b'-', rest @ ..] => {
@@ -175,7 +175,7 @@ fn read_statement(text: &[u8]) -> Option<Statement>
 }
 
 fn low_session(line: &[u8]) -> Option<(u32, &[u8])>
-    ensures session { MatchOption result (spec.low_session line.now ≡ None) (λ r. spec.low_session line.now ≡ Some (r.0, r.1.now)) }
+    ensures session { spec.Reads (spec.low_session line.now) result }
     ensures known { IfSome result (λ r. r.0 < 25) }
 {
     let (digit, behind) = byte_within(line, b'1', b'9')?;
@@ -184,7 +184,7 @@ fn low_session(line: &[u8]) -> Option<(u32, &[u8])>
 }
 
 fn high_session(line: &[u8]) -> Option<(u32, &[u8])>
-    ensures session { MatchOption result (spec.high_session line.now ≡ None) (λ r. spec.high_session line.now ≡ Some (r.0, r.1.now)) }
+    ensures session { spec.Reads (spec.high_session line.now) result }
     ensures known { IfSome result (λ r. r.0 < 25) }
 {
     let (_, behind) = byte_within(line, b'1', b'1')?;
@@ -194,7 +194,7 @@ fn high_session(line: &[u8]) -> Option<(u32, &[u8])>
 }
 
 fn session(line: &[u8]) -> Option<(u32, &[u8])>
-    ensures session { MatchOption result (spec.session line.now ≡ None) (λ r. spec.session line.now ≡ Some (r.0, r.1.now)) }
+    ensures session { spec.Reads (spec.session line.now) result }
     ensures known { IfSome result (λ r. r.0 < 25) }
 {
     if let Some((who, text)) = low_session(line) {

@@ -4,7 +4,7 @@ ghost use Rattle.im_history.specs.Tables.{given};
 ghost use Rattle.im_history.specs.Transactions.{mode};
 ghost use Rattle.im_shell.specs.Counting.{TakesIn, IsFollowed};
 ghost use Rattle.im_shell.specs.Machine.{rows_seen};
-ghost use Rattle.im_shell.specs.Touches.{touches_of, after_touches};
+ghost use Rattle.im_shell.specs.Touches.{Applies, touches_of};
 
 use crate::touches::Touches;
 use im_history::{Change, Entry, History, Mode, What};
@@ -57,7 +57,8 @@ impl Follower {
     fn write(&mut self, table: u32, who: u32, changes: &[Change]) -> Result<(), NoMemory>
         requires { who < length self.old.waiting.items }
         ensures stands { self.new.stands ≡ self.old.stands }
-        ensures waits { OnOk result (self.new.waiting.items ≡ slice_set self.old.waiting.items who (slice_index_or self.old.waiting.items who [] ++ touches_of table changes.now)) }
+        ensures waits { OnOk result (self.new.waiting.items ≡ slice_set self.old.waiting.items who
+            (slice_index_or self.old.waiting.items who [] ++ touches_of table changes.now)) }
     {
         self.waiting[who as usize].add(table, changes)
     }
@@ -76,7 +77,7 @@ impl Follower {
         requires { who < length self.old.waiting.items }
         ensures waiting { self.new.waiting ≡ self.old.waiting }
         ensures long { length self.new.stands.items ≡ length self.old.stands.items }
-        ensures applied { (rid : ℕ) → rid < length self.old.stands.items → slice_index_or self.new.stands.items rid false ≡ after_touches rid (slice_index_or self.old.stands.items rid false) (slice_index_or self.old.waiting.items who []) }
+        ensures applied { Applies self.old.stands.items self.new.stands.items (slice_index_or self.old.waiting.items who []) }
     {
         self.waiting[who as usize].apply(self.stands.as_mut_slice());
     }
@@ -84,7 +85,8 @@ impl Follower {
     /// Takes one more entry of the history in.
     fn take_in(&mut self, table: u32, entry: &Entry) -> Result<(), NoMemory>
         requires { entry.now.who < length self.old.waiting.items }
-        ensures { OnOk result (TakesIn table entry.now self.old.stands.items self.new.stands.items self.old.waiting.items self.new.waiting.items) }
+        ensures { OnOk result (TakesIn table entry.now
+            self.old.stands.items self.new.stands.items self.old.waiting.items self.new.waiting.items) }
     {
         match &entry.what {
             What::Write { changes } => self.write(table, entry.who, changes.as_slice())?,
@@ -116,7 +118,8 @@ fn follow<L: Ledger>(
 ) -> Result<Follower, NoMemory>
     requires { All (λ entry. entry.who < NUMBERS) history.now.entries }
     ensures rows { IfOk result (λ follower. length follower.stands.items ≡ rows) }
-    ensures followed { IfOk result (λ follower. IsFollowed history.now.entries table follower.stands.items follower.waiting.items) }
+    ensures followed { IfOk result (λ follower.
+        IsFollowed history.now.entries table follower.stands.items follower.waiting.items) }
 {
     let mut follower = Follower::new(alloc, rows)?;
     for place in 0..history.len() {

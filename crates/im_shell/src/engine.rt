@@ -1,14 +1,14 @@
 ghost use Rattle.std.specs.Prelude.{◌≡◌, ℕ, ◌<◌, ◌≤◌, ◌+◌, [], ◌∷◌, ◌++◌, length, nat_lt, true, false, None, Some, IfOk, OnOk, OnErr};
-ghost use Rattle.im_values.specs.declared.value.Value.TheVariants.{Int};
 ghost use Rattle.im_history.specs.declared.entry.What.TheVariants as what;
 ghost use Rattle.im_history.specs.Commits.{scn};
 ghost use Rattle.im_history.specs.Cursors.{opened};
 ghost use Rattle.im_history.specs.Grid.{default_grid};
+ghost use Rattle.im_history.specs.History.{Adds};
 ghost use Rattle.im_history.specs.Legal.{put_from};
 ghost use Rattle.im_history.specs.Rows.{snapshot};
 ghost use Rattle.im_history.specs.Tables.{tables, name_is_taken, given};
 ghost use Rattle.im_history.specs.Transactions.{is_open};
-ghost use Rattle.im_shell.specs.Machine.{table_named, number_column, rows_seen};
+ghost use Rattle.im_shell.specs.Machine.{AddsScan, row_of, table_named, number_column, rows_seen};
 
 use crate::counting::{NUMBERS, count_rows};
 use crate::table::{Kept, is_any_named, place_named};
@@ -129,7 +129,7 @@ impl Engine {
     /// Commits the pending changes of a session.
     pub fn commit(&mut self, who: u32) -> Result<(), NoMemory>
         requires { who < NUMBERS }
-        ensures ok { OnOk result (self.new ≡ self.old ++ record { who = who; what = what.Commit } ∷ []) }
+        ensures ok { OnOk result (Adds self.old who what.Commit self.new) }
         ensures err { OnErr result (self.new ≡ self.old) }
     {
         self.history.reserve(1)?;
@@ -147,7 +147,8 @@ impl Engine {
         requires idle { is_open self.old who ≡ false }
         requires free { name_is_taken self.old (name ∷ []) ≡ false }
         requires room { nat_lt (length (tables self.old)) 64 ≡ true }
-        ensures ok { OnOk result (self.new ≡ self.old ++ record { who = who; what = what.Create (name ∷ []) (number_column (column ∷ [])) default_grid } ∷ []) }
+        ensures ok { OnOk result
+            (Adds self.old who (what.Create (name ∷ []) (number_column (column ∷ [])) default_grid) self.new) }
         ensures err { OnErr result (self.new ≡ self.old) }
     {
         let kept = Kept {
@@ -177,7 +178,8 @@ impl Engine {
         requires session { who < NUMBERS }
         requires exists { (1 ≤ table) × (table ≤ length (tables self.old)) }
         ensures first { IfOk result (λ first. first ≡ given self.old table) }
-        ensures ok { OnOk result (self.new ≡ self.old ++ record { who = who; what = what.Write (put_from table (given self.old table) ((Int number ∷ []) ∷ [])) } ∷ []) }
+        ensures ok { OnOk result
+            (Adds self.old who (what.Write (put_from table (given self.old table) (row_of number ∷ []))) self.new) }
         ensures err { OnErr result (self.new ≡ self.old) }
     {
         let place = table as usize - 1;
@@ -197,7 +199,7 @@ impl Engine {
     pub fn scan(&mut self, who: u32, table: u32) -> Result<(), NoMemory>
         requires session { who < NUMBERS }
         requires exists { (1 ≤ table) × (table ≤ length (tables self.old)) }
-        ensures ok { OnOk result (self.new ≡ (self.old ++ record { who = who; what = what.Open 0 table } ∷ []) ++ record { who = who; what = what.Shut 0 } ∷ []) }
+        ensures ok { OnOk result (AddsScan self.old who table self.new) }
         ensures err { OnErr result (self.new ≡ self.old) }
     {
         self.history.reserve(2)?;
@@ -227,7 +229,7 @@ fn column_of_numbers(alloc: Global, column: u8) -> Result<Schema, NoMemory>
 
 /// The change that puts a row of one number at a row number of a table.
 fn put_number(alloc: Global, table: u32, rid: u64, number: i64) -> Result<Changes, NoMemory>
-    ensures { IfOk result (λ changes. changes ≡ put_from table rid ((Int number ∷ []) ∷ [])) }
+    ensures { IfOk result (λ changes. changes ≡ put_from table rid (row_of number ∷ [])) }
 {
     let mut values = Vec::with_capacity(alloc, 1)?;
     values.push(Value::Int(number))?;

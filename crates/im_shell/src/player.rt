@@ -1,5 +1,4 @@
 ghost use Rattle.std.specs.Prelude.{◌≡◌, ◌<◌, ◌≤◌, [], ◌∷◌, false, None};
-ghost use Rattle.im_values.specs.declared.value.Value.TheVariants.{Int};
 ghost use Rattle.im_history.specs.Transactions.{is_open};
 ghost use Rattle.im_shell.specs.Commands.{command_of};
 ghost use Rattle.im_shell.specs.Machine as machine;
@@ -24,7 +23,7 @@ fn lacked(k: u64) -> Reply
 
 /// The reply that no table has this name.
 fn unknown_table(alloc: Global, engine: &Engine, who: u32, table: u8) -> Reply
-    ensures { machine.IsRest who 0 engine.now (machine.answer_at engine.now (Body.Error (Fault.UnknownTable (table ∷ [])))) result engine.now }
+    ensures { machine.IsRest who 0 engine.now (machine.unknown_table (table ∷ []) engine.now) result engine.now }
 {
     let place = Some(engine.len());
     match Name::of(alloc, &[table]) {
@@ -54,7 +53,8 @@ fn play_commit(engine: &mut Engine, who: u32) -> Reply
 /// Inserts a row of one number.
 fn play_insert(alloc: Global, engine: &mut Engine, who: u32, table: u8, value: i64) -> Reply
     requires { who < NUMBERS }
-    ensures { machine.IsRest who 0 engine.old (machine.insert_plan (table ∷ []) (Int value ∷ [])) result engine.new }
+    ensures { machine.IsRest who 0 engine.old
+        (machine.insert_plan (table ∷ []) (machine.row_of value)) result engine.new }
 {
     let Some(number) = engine.table_named(&[table]) else {
         return unknown_table(alloc, engine, who, table);
@@ -107,7 +107,8 @@ fn create_table(
 ) -> Reply
     requires session { who < NUMBERS }
     requires idle { is_open engine.old who ≡ false }
-    ensures { machine.IsRest who entries engine.old (machine.create_last (table ∷ []) (column ∷ [])) result engine.new }
+    ensures { machine.IsRest who entries engine.old
+        (machine.create_last (table ∷ []) (column ∷ [])) result engine.new }
 {
     let place = Some(engine.len());
     if engine.is_taken(&[table]) {
@@ -141,7 +142,8 @@ fn create_table(
 /// Creates a table. An open transaction of the session is committed first, whether or not the table is then created.
 fn play_create(alloc: Global, engine: &mut Engine, who: u32, table: u8, column: u8) -> Reply
     requires { who < NUMBERS }
-    ensures { machine.IsRest who 0 engine.old (machine.create_plan who (table ∷ []) (column ∷ [])) result engine.new }
+    ensures { machine.IsRest who 0 engine.old
+        (machine.create_plan who (table ∷ []) (column ∷ [])) result engine.new }
 {
     if !engine.is_open(who) {
         return create_table(alloc, engine, who, table, column, 0);

@@ -64,7 +64,7 @@ impl Touches {
 
     /// Which row numbers have a row after these touches, in order. A row number past the end is left alone.
     pub fn apply(&self, stands: &mut [bool])
-        ensures { (rid : ℕ) → rid < length stands.old → slice_index_or stands.new rid false ≡ spec.after_touches rid (slice_index_or stands.old rid false) self.now }
+        ensures { spec.Applies stands.old stands.new self.now }
     {
         for touch in &self.list {
             set_at(stands, touch.rid, touch.put);
