@@ -1,0 +1,2 @@
+mod PackedLemmas
+pub mod ForCallers

@@ -1,0 +1,39 @@
+-- Lists of codes of one width, and the words of 64 bits that hold them.
+use Rattle.std.specs.Prelude.{ℕ, ◌+◌, ◌*◌, ◌/◌, ◌%◌, ◌^◌, ◌==◌, List, [], ◌∷◌, length, map, take, drop, slice_index, if◌then◌else◌}
+use Rattle.std.specs.Int.{div_ceil}
+use Rattle.std.specs.List.{range_with_len}
+
+-- packed codes as contracts see them: the bits of each, and the codes in order
+pub record Packed : Type 0 where
+  pub width : ℕ
+  pub codes : List ℕ
+
+-- how many whole codes one word holds
+abbrev pub codes_per_word : ℕ → ℕ
+codes_per_word width = 64 / width
+
+-- how many words so many codes fill, the last perhaps in part: none where a code has no bits
+abbrev pub words_for : ℕ → ℕ → ℕ
+words_for n width = if width == 0 then 0 else div_ceil n (codes_per_word width)
+
+-- one word: the first code in the lowest bits
+abbrev pub word_of : ℕ → List ℕ → ℕ
+word_of width [] = 0
+word_of width (code ∷ codes) = code + word_of width codes * 2 ^ width
+
+-- the codes that a word holds, from its place among the words
+abbrev pub share_of : ℕ → List ℕ → ℕ → List ℕ
+share_of width codes place = take (codes_per_word width) (drop (place * codes_per_word width) codes)
+
+-- the words of a list of codes
+unfoldable pub words_of : ℕ → List ℕ → List ℕ
+words_of width codes = map (λ place. word_of width (share_of width codes place)) (range_with_len 0 (words_for (length codes) width))
+
+-- the code at a place, read from the words
+abbrev pub code_in : ℕ → List ℕ → ℕ → ℕ
+code_in width words place =
+    slice_index words (place / codes_per_word width) / 2 ^ (place % codes_per_word width * width) % 2 ^ width
+
+-- so many codes, read from the words
+unfoldable pub codes_in : ℕ → List ℕ → ℕ → List ℕ
+codes_in width words n = map (code_in width words) (range_with_len 0 n)

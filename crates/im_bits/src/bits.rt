@@ -1,0 +1,142 @@
+ghost use Rattle.std.specs.Prelude.{◌≡◌, ◌==◌, ◌+◌, ◌*◌, ◌/◌, ◌%◌, ◌^◌, ◌<◌, ◌≤◌, All, IfOk, length, min, take, drop, slice_index};
+ghost use Rattle.im_bits.specs.Packed.{codes_per_word, word_of, words_of, share_of};
+
+use crate::size::{per_word, words_for};
+use im_values::NoMemory;
+use std::alloc::Global;
+use std::marker::Model;
+
+/// A list of codes, packed.
+///
+/// Fewer than 2^31 codes of at most 32 bits each.
+#[derive(Debug, Drop)]
+pub struct Bits {
+    words: Vec<u64>,
+    width: u32,
+    len: u64,
+}
+
+impl Model for Bits {
+    ghost use Rattle.std.specs.Prelude.{◌≡◌, ◌^◌, ◌<◌, ◌≤◌};
+    ghost use Rattle.im_bits.specs.Packed.{Packed, words_of, codes_in};
+
+    ghost Value = { Packed };
+
+    ghost view = { λ b. record { width = b.width; codes = codes_in b.width b.words.items b.len } };
+
+    ghost invariant = { λ b. (b.width ≤ 32) × (b.len < 2 ^ 31) × (b.words.items ≡ words_of b.width (codes_in b.width b.words.items b.len)) };
+}
+
+impl Bits {
+    /// Packs the codes, in order, at this width.
+    pub fn pack(alloc: Global, codes: &[u32], width: u32) -> Result<Bits, NoMemory>
+        requires width { width ≤ 32 }
+        requires few { length codes.now < 2 ^ 31 }
+        requires fit { All (λ code. code < 2 ^ width) codes.now }
+        ensures { IfOk result (λ bits. bits ≡ record { width = width; codes = codes.now }) }
+    {
+        Ok(Bits {
+            words: words_from(alloc, codes, width)?,
+            width,
+            len: codes.len() as u64,
+        })
+    }
+
+    /// The code at a place, from 0.
+    pub fn get(&self, i: u64) -> u32
+        requires { i < length self.now.codes }
+        ensures code { result ≡ slice_index self.now.codes i }
+        ensures fits { result < 2 ^ self.now.width }
+    {
+        if self.width == 0 {
+            return 0;
+        }
+        let share = per_word(self.width);
+        let place = i as usize;
+        field(self.words[place / share], place % share, self.width)
+    }
+
+    /// How many codes there are.
+    pub fn len(&self) -> u64
+        ensures len { result ≡ length self.now.codes }
+        ensures few { result < 2 ^ 31 }
+    {
+        self.len
+    }
+
+    /// Whether there is no code.
+    pub fn is_empty(&self) -> bool
+        ensures { result ≡ (length self.now.codes == 0) }
+    {
+        self.len == 0
+    }
+
+    /// The bits of each code.
+    pub fn width(&self) -> u32
+        ensures width { result ≡ self.now.width }
+        ensures most { result ≤ 32 }
+    {
+        self.width
+    }
+
+    /// The whole words, for those who compare many codes at once. There is none at width 0.
+    ///
+    /// Word `k` holds the codes from place `k * (64 / width)` on, as many as fit whole, the first in the lowest bits.
+    pub fn words(&self) -> &[u64]
+        ensures words { result.now ≡ words_of self.now.width self.now.codes }
+        ensures fit { All (λ code. code < 2 ^ self.now.width) self.now.codes }
+    {
+        self.words.as_slice()
+    }
+}
+
+/// The field of a word at a place, from the lowest on.
+fn field(word: u64, place: usize, width: u32) -> u32
+    requires some { 0 < width }
+    requires most { width ≤ 32 }
+    requires within { place * width < 64 }
+    ensures { result ≡ word / 2 ^ (place * width) % 2 ^ width }
+{
+    ((word >> (place as u32 * width)) & ((1 << width) - 1)) as u32
+}
+
+/// The word of a few codes.
+fn word_from(codes: &[u32], width: u32) -> u64
+    requires some { 0 < width }
+    requires few { length codes.now * width ≤ 64 }
+    requires fit { All (λ code. code < 2 ^ width) codes.now }
+    ensures { result ≡ word_of width codes.now }
+{
+    let mut word = 0;
+    for i in 0..codes.len() {
+        word |= u64::from(codes[i]) << (i as u32 * width);
+    }
+    word
+}
+
+/// The codes that the word at this place holds.
+fn share(codes: &[u32], place: usize, width: u32) -> &[u32]
+    requires some { 0 < width }
+    requires most { width ≤ 32 }
+    requires within { place * codes_per_word width ≤ length codes.now }
+    ensures { result.now ≡ share_of width codes.now place }
+{
+    let size = per_word(width);
+    let rest = &codes[place * size..];
+    &rest[..size.min(rest.len())]
+}
+
+/// The words of a list of codes.
+fn words_from(alloc: Global, codes: &[u32], width: u32) -> Result<Vec<u64>, NoMemory>
+    requires width { width ≤ 32 }
+    requires few { length codes.now < 2 ^ 31 }
+    requires fit { All (λ code. code < 2 ^ width) codes.now }
+    ensures { IfOk result (λ words. words.items ≡ words_of width codes.now) }
+{
+    let count = words_for(codes.len() as u64, width) as usize;
+    let mut words = Vec::with_capacity(alloc, count)?;
+    for place in 0..count {
+        words.push(word_from(share(codes, place, width), width))?;
+    }
+    Ok(words)
+}

@@ -1,0 +1,4 @@
+mod RunLemmas
+mod OrderLemmas
+mod DictLemmas
+pub mod ForCallers

@@ -1,0 +1,18 @@
+//! Dictionaries of values, and runs of codes.
+//!
+//! A [`Dict`] numbers the distinct values of a column in their order: code 0 is NULL, and code `c` the `c`-th value.
+//! Contracts see it as the list of its values (`specs/Dictionary.antt`). [`Runs`] keeps a list of codes as runs of equal
+//! ones, each as long as it can be. Contracts see it as the list of codes (`specs/Runs.antt`).
+//!
+//! Start with `specs/Dictionary.antt` and `dict.rt`, then `specs/Runs.antt` and `runs.rt`.
+#![tactic(auto)]
+
+mod dict;
+mod run;
+mod runs;
+#[cfg(test)]
+mod tests;
+
+pub use dict::Dict;
+pub use run::Run;
+pub use runs::Runs;

@@ -1,0 +1,3 @@
+mod RisingLemmas
+mod JournalLemmas
+pub mod ForCallers

@@ -1,0 +1,2 @@
+mod VersionLemmas
+pub mod ForCallers

@@ -1,0 +1,11 @@
+use im_values::Row;
+
+/// What one commit left of a row.
+#[derive(Debug, Drop)]
+pub struct Version {
+    /// The SCN of the commit.
+    pub scn: u64,
+
+    /// The row, or none where the commit took it away.
+    pub row: Option<Row>,
+}
