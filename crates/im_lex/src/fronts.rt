@@ -1,0 +1,212 @@
+ghost use Rattle.std.specs.Prelude.{◌≡◌, ◌∷◌, map, IfOk, if◌then◌else◌};
+ghost use Rattle.std.specs.Char.{to_ascii_uppercase};
+ghost use Rattle.im_syntax.specs.declared.token.Token.TheVariants as token;
+ghost use Rattle.im_lex.specs.Bytes as bytes_of;
+
+use crate::bytes::{behind, capped_value, digit_run, first, is_blank, only_ends, word_run};
+use crate::front::{Front, Piece};
+use im_syntax::{LONGEST_WORD, Sign, Token};
+use im_values::{Name, NoMemory};
+use std::alloc::Global;
+
+fn capitals(alloc: Global, letters: &[u8]) -> Result<Name, NoMemory>
+    ensures { IfOk result (λ name. name ≡ map to_ascii_uppercase letters.now) }
+{
+    let mut capitals = Vec::with_capacity(alloc, letters.len())?;
+    for letter in letters {
+        capitals.push(letter.to_ascii_uppercase())?;
+    }
+    Name::of(alloc, capitals.as_slice())
+}
+
+fn word(alloc: Global, run: &[u8]) -> Result<Front, NoMemory>
+    ensures { IfOk result (λ f. f ≡ bytes_of.word_front run.now) }
+{
+    if run.len() > LONGEST_WORD {
+        return Ok(Front::Bad);
+    }
+    let name = capitals(alloc, run)?;
+    Ok(Front::Lexed(Token::Word(name), run.len().saturating_sub(1)))
+}
+
+fn positive(digits: &[u8]) -> Front
+    ensures { result ≡ bytes_of.positive_front digits.now }
+{
+    let value = capped_value(digits);
+    if value <= 9_223_372_036_854_775_807 {
+        Front::Lexed(Token::Int(value as i64), digits.len().saturating_sub(1))
+    } else {
+        Front::Bad
+    }
+}
+
+fn negative(digits: &[u8]) -> Front
+    ensures { result ≡ bytes_of.negative_front digits.now }
+{
+    let value = capped_value(digits);
+    if value <= 9_223_372_036_854_775_807 {
+        Front::Lexed(Token::Int(-(value as i64)), digits.len())
+    } else if value == 9_223_372_036_854_775_808 {
+        Front::Lexed(Token::Int(i64::MIN), digits.len())
+    } else {
+        Front::Bad
+    }
+}
+
+fn behind_minus(rest: &[u8]) -> Front
+    ensures { result ≡ bytes_of.minus_front rest.now }
+{
+    let next = first(rest);
+    if next == b'-' {
+        Front::Stop
+    } else if next.is_ascii_digit() {
+        negative(digit_run(rest))
+    } else {
+        Front::Bad
+    }
+}
+
+fn piece(rest: &[u8]) -> Piece
+    ensures { result ≡ bytes_of.piece_of rest.now }
+{
+    match rest {
+        [] => Piece::Over,
+        [byte] => {
+            if *byte == 39 {
+                Piece::End
+            } else {
+                Piece::Byte(*byte, 1)
+            }
+        }
+        [byte, next, ..] => {
+            if *byte != 39 {
+                Piece::Byte(*byte, 1)
+            } else if *next == 39 {
+                Piece::Byte(39, 2)
+            } else {
+                Piece::End
+            }
+        }
+    }
+}
+
+fn sign_token(sign: Sign, more: usize) -> Front
+    ensures { result ≡ Front.Lexed (token.Sign sign) more }
+{
+    Front::Lexed(Token::Sign(sign), more)
+}
+
+fn sign(byte: u8, next: u8) -> Front
+    ensures { result ≡ bytes_of.sign_front byte next }
+{
+    match byte {
+        b'(' => sign_token(Sign::LeftParen, 0),
+        b')' => sign_token(Sign::RightParen, 0),
+        b',' => sign_token(Sign::Comma, 0),
+        b'*' => sign_token(Sign::Star, 0),
+        b'=' => sign_token(Sign::Eq, 0),
+        b'<' => less(next),
+        b'>' => greater(next),
+        b'!' => bang(next),
+        _ => Front::Bad,
+    }
+}
+
+fn less(next: u8) -> Front
+    ensures { result ≡ bytes_of.less_front next }
+{
+    if next == b'=' {
+        sign_token(Sign::Le, 1)
+    } else if next == b'>' {
+        sign_token(Sign::Ne, 1)
+    } else {
+        sign_token(Sign::Lt, 0)
+    }
+}
+
+fn greater(next: u8) -> Front
+    ensures { result ≡ bytes_of.greater_front next }
+{
+    if next == b'=' {
+        sign_token(Sign::Ge, 1)
+    } else {
+        sign_token(Sign::Gt, 0)
+    }
+}
+
+fn bang(next: u8) -> Front
+    ensures { result ≡ bytes_of.bang_front next }
+{
+    if next == b'=' {
+        sign_token(Sign::Ne, 1)
+    } else {
+        Front::Bad
+    }
+}
+
+fn text(alloc: Global, bytes: &[u8]) -> Result<Front, NoMemory>
+    ensures { IfOk result (λ f. f ≡ bytes_of.text_found (bytes_of.text_of bytes.now)) }
+{
+    let mut content = Vec::new(alloc);
+    let mut taken = 0;
+    for _ in 0..bytes.len() {
+        match piece(behind(bytes, taken)) {
+            Piece::Over => return Ok(Front::Bad),
+            Piece::End => {
+                let name = Name::of(alloc, content.as_slice())?;
+                return Ok(Front::Lexed(Token::Text(name), taken + 1));
+            }
+            Piece::Byte(byte, length) => {
+                content.push(byte)?;
+                taken += length;
+            }
+        }
+    }
+    Ok(Front::Bad)
+}
+
+fn end_of_line(rest: &[u8]) -> Front
+    ensures { result ≡ (if bytes_of.only_ends rest.now then Front.Stop else Front.Bad) }
+{
+    if only_ends(rest) {
+        Front::Stop
+    } else {
+        Front::Bad
+    }
+}
+
+fn front_at(alloc: Global, byte: u8, rest: &[u8], bytes: &[u8]) -> Result<Front, NoMemory>
+    requires { bytes.now ≡ byte ∷ rest.now }
+    ensures { IfOk result (λ f. f ≡ bytes_of.front_at byte rest.now) }
+{
+    if is_blank(byte) {
+        return Ok(Front::Blank);
+    }
+    if byte.is_ascii_alphabetic() {
+        return word(alloc, word_run(bytes));
+    }
+    if byte.is_ascii_digit() {
+        return Ok(positive(digit_run(bytes)));
+    }
+    if byte == b'-' {
+        return Ok(behind_minus(rest));
+    }
+    if byte == 39 {
+        return text(alloc, rest);
+    }
+    if byte == b';' {
+        return Ok(end_of_line(rest));
+    }
+    Ok(sign(byte, first(rest)))
+}
+
+/// What stands at the front of the bytes.
+#[tactic(auto, unfolding(crate::specs::Bytes::front))]
+pub fn front(alloc: Global, bytes: &[u8]) -> Result<Front, NoMemory>
+    ensures { IfOk result (λ f. f ≡ bytes_of.front bytes.now) }
+{
+    match bytes {
+        [] => Ok(Front::Stop),
+        [byte, rest @ ..] => front_at(alloc, *byte, rest, bytes),
+    }
+}

@@ -1,0 +1,69 @@
+ghost use Rattle.std.specs.Prelude.{◌≡◌, ◌+◌, ◌≤◌, ℕ, List, length, IfOk, IfErr};
+ghost use Rattle.im_syntax.specs.declared.token.Token.{Token as AnyToken};
+ghost use Rattle.im_lex.specs.declared.lexing.LexFault.TheVariants as fault;
+ghost use Rattle.im_lex.specs.Lexing as lexing;
+
+use crate::bytes::behind;
+use crate::front::Front;
+use crate::fronts::front;
+use im_syntax::Token;
+use im_values::NoMemory;
+use std::alloc::{AllocFailed, Global};
+
+/// Why the bytes of a line are no tokens.
+#[derive(Clone, Copy, Debug, PartialEq, Eq)]
+pub enum LexFault {
+    /// The first bad byte: so many bytes stand before it.
+    At(u64),
+    /// There was no memory for the tokens.
+    NoMemory,
+}
+
+impl From<NoMemory> for LexFault {
+    ghost from_gives = { λ _ e. e ≡ fault.NoMemory };
+
+    fn from(_cause: NoMemory) -> LexFault {
+        LexFault::NoMemory
+    }
+}
+
+impl<T: Drop> From<AllocFailed<T>> for LexFault {
+    ghost from_gives = { λ _ e. e ≡ fault.NoMemory };
+
+    fn from(_cause: AllocFailed<T>) -> LexFault {
+        LexFault::NoMemory
+    }
+}
+
+fn lexed(alloc: Global, line: &[u8]) -> Result<Vec<(Token, u64)>, LexFault>
+    ensures { lexing.Gives result (lexing.lexed_in (length line.now) 0 line.now) }
+{
+    let mut tokens = Vec::new(alloc);
+    let mut at = 0;
+    for _ in 0..line.len() {
+        match front(alloc, behind(line, at))? {
+            Front::Stop => return Ok(tokens),
+            Front::Bad => return Err(LexFault::At(at as u64)),
+            Front::Blank => at += 1,
+            Front::Lexed(token, more) => {
+                tokens.push((token, at as u64))?;
+                at = at + 1 + more;
+            }
+        }
+    }
+    Ok(tokens)
+}
+
+/// The tokens of a line, each with the number of bytes before it.
+pub fn tokens(alloc: Global, line: &[u8]) -> Result<Vec<(Token, u64)>, LexFault>
+    // What is found are the line's tokens.
+    ensures found { IfOk result (λ ts. lexing.Lexes 0 line.now ts.items) }
+    // The line's tokens are found, unless memory runs out.
+    ensures only { (ts : List (AnyToken × ℕ)) → lexing.Lexes 0 line.now ts → lexing.IsLexedAs ts result }
+    // A fault is the first bad byte.
+    ensures bad { IfErr result (lexing.IsBadByte line.now) }
+    // The first bad byte is a fault, unless memory runs out.
+    ensures bad_only { (n : ℕ) → lexing.IsBadAt 0 line.now n → lexing.IsFaultAt n result }
+{
+    lexed(alloc, line)
+}

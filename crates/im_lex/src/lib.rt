@@ -1,0 +1,21 @@
+//! The bytes of a line to its tokens, each with its place, or the first bad byte.
+//!
+//! What stands at the front of the bytes is told by cases, one for each row of the table of tokens
+//! (`specs/Bytes.antt`): a word, a number, a text, a sign, a blank, a bad byte, or the end by a comment or the last `;`.
+//! A token takes the most bytes that it can. The tokens of a line are a relation over that (`Lexes`, in
+//! `specs/Lexing.antt`), and so is the first bad byte (`IsBadAt`). [`tokens`] finds the tokens exactly where the line has
+//! some, and else the first bad byte.
+//!
+//! Start with `specs/Bytes.antt` and `specs/Lexing.antt`, then `lexing.rt`.
+#![tactic(auto)]
+
+mod bytes;
+mod front;
+mod fronts;
+mod lexing;
+
+pub use bytes::{behind, is_blank};
+pub use lexing::{LexFault, tokens};
+
+#[cfg(test)]
+mod tests;

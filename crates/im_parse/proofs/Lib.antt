@@ -1,0 +1,10 @@
+pub mod Keywords
+pub mod Nesting
+pub mod MarkLaws
+pub mod TestLaws
+pub mod ConditionLaws
+pub mod QueryLaws
+pub mod TableLaws
+pub mod StatementLaws
+pub mod Places
+pub mod Sides

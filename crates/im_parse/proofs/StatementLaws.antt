@@ -1,0 +1,592 @@
+-- Statements are read as they are spelled.
+use Rattle.std.proofs.Common.{◌≡◌, ℕ, Bool, false, cond, List, [], ◌∷◌, Option, Some, None, refl, ap, arith}
+use Rattle.std.specs.List.{AllByRecursion}
+use Rattle.im_readers.specs.Reading.{picked}
+use Rattle.im_readers.specs.Grammar.{Ends, at_end, at_other, BeginsWith, begins_with, Reads, never, Any, GoodJoined, GoodJoinedUpTo, GoodBoth, GoodOptional, spell_joined, spell_both, goes_both, goes_joined}
+use Rattle.im_readers.proofs.Parts.{Makes, both_law, made_law, agreed_law, after_law, before_law, GoodFirst, Choice, chosen, none_chosen, FirstKind, first_kind, picked_law}
+use Rattle.im_readers.proofs.Joined.{joined_law, goes_joined-false}
+use Rattle.im_syntax.specs.declared.keyword.Keyword.{Keyword}
+use Rattle.im_syntax.specs.declared.keyword.Keyword.TheVariants as key
+use Rattle.im_syntax.specs.declared.token.Token.{Token}
+use Rattle.im_syntax.specs.declared.token.Token.TheVariants as token
+use Rattle.im_syntax.specs.declared.token.Sign.TheVariants as sign
+use Rattle.im_syntax.specs.declared.literal.Lit.{Lit}
+use Rattle.im_syntax.specs.declared.table.ColumnPart.{ColumnPart}
+use Rattle.im_syntax.specs.declared.table.MemoryPart.{MemoryPart}
+use Rattle.im_syntax.specs.declared.query.Query.{Query}
+use Rattle.im_syntax.specs.declared.statement.Stmt.{Stmt}
+use Rattle.im_syntax.specs.declared.statement.Stmt.TheVariants as stmt
+use Rattle.im_syntax.specs.Condition.{CondOf}
+use Rattle.im_syntax.specs.Words.{IsName}
+use Rattle.im_syntax.specs.Rules.{IsWithin, IsTuple, IsWhere, IsQuery, IsColumn, IsSet, IsStmt}
+use Rattle.im_syntax.specs.Spelling.{word, comma, number, lit_token, spell_tuple, spell_where, spell_query, spell_option, spell_columns, spell_set, spelling}
+use Rattle.im_parse.specs.Marks.{is_key, is_left, is_comma}
+use Rattle.im_parse.specs.declared.kinds.ModeKind.{ModeKind}
+use Rattle.im_parse.specs.declared.kinds.ModeKind.TheVariants as mode_kind
+use Rattle.im_parse.specs.declared.kinds.LevelKind.{LevelKind}
+use Rattle.im_parse.specs.declared.kinds.LevelKind.TheVariants as level_kind
+use Rattle.im_parse.specs.declared.kinds.StmtKind.{StmtKind}
+use Rattle.im_parse.specs.declared.kinds.StmtKind.TheVariants as stmt_kind
+use Rattle.im_parse.specs.Tables.{create_of, create_at, alter_of, alter_at}
+use Rattle.im_parse.specs.Statements.{insert_columns_at, insert_at, set_at, update_at, delete_at, kind_of_level, level_by, isolation_at, kind_of_mode, mode_by, mode_at, transaction_at, single_at, cursor_at, explain_at, open_at, trickle_at, evict_at, kind_of_word, kind_of_statement, statement_by, statement_at}
+use Rattle.im_parse.proofs.Keywords.{keyword_of-text}
+use Rattle.im_parse.proofs.MarkLaws.{Ends-never, left_mark, right_mark, comma_mark, equals_mark, word_law, after_word_law, name_law, number_law, lit_law}
+use Rattle.im_parse.proofs.TestLaws.{tuple_law}
+use Rattle.im_parse.proofs.ConditionLaws.{goes_where, where_law}
+use Rattle.im_parse.proofs.QueryLaws.{goes_listed, listed_law, names_law, goes_query, query_law}
+use Rattle.im_parse.proofs.TableLaws.{spell_table_columns, columns_law, goes_option, option_law, spell_memory_option, goes_memory_option, memory_option_law, spell_altered, goes_altered, altered_law}
+
+abbrev name_tokens : List ℕ → List Token
+name_tokens n = token.Word n ∷ []
+
+-- ---- what goes on behind a statement
+
+abbrev Shape : Type 0
+Shape = Option ℕ × (Option ℕ × Option MemoryPart)
+
+abbrev spell_shape : Shape → List Token
+spell_shape = spell_both (spell_option key.Block) (spell_both (spell_option key.Extent) spell_memory_option)
+
+abbrev goes_shape : Shape → Token → Bool
+goes_shape =
+    goes_both (spell_both (spell_option key.Extent) spell_memory_option) (goes_option key.Block) (goes_both spell_memory_option (goes_option key.Extent) goes_memory_option)
+
+abbrev spell_created : List ColumnPart × Shape → List Token
+spell_created = spell_both spell_table_columns spell_shape
+
+abbrev goes_created : List ℕ × (List ColumnPart × Shape) → Token → Bool
+goes_created = goes_both spell_created never (goes_both spell_shape never goes_shape)
+
+abbrev goes_altered_name : List ℕ × Option MemoryPart → Token → Bool
+goes_altered_name = goes_both spell_altered never goes_altered
+
+abbrev spell_tuples : List (List Lit) → List Token
+spell_tuples ts = word key.Values ∷ spell_joined comma spell_tuple ts
+
+abbrev goes_tuples : List (List Lit) → Token → Bool
+goes_tuples = goes_joined comma is_comma spell_tuple never
+
+abbrev goes_columns : List (List ℕ) → Token → Bool
+goes_columns = goes_listed is_left never
+
+abbrev goes_inserted : List ℕ × (List (List ℕ) × List (List Lit)) → Token → Bool
+goes_inserted = goes_both (spell_both spell_columns spell_tuples) never (goes_both spell_tuples goes_columns goes_tuples)
+
+abbrev spell_sets : List (List ℕ × Lit) → List Token
+spell_sets ss = word key.Set ∷ spell_joined comma spell_set ss
+
+abbrev goes_sets : List (List ℕ × Lit) → Token → Bool
+goes_sets = goes_joined comma is_comma spell_set never
+
+abbrev goes_updated : List ℕ × (List (List ℕ × Lit) × Option (CondOf (List ℕ) Lit)) → Token → Bool
+goes_updated = goes_both (spell_both spell_sets spell_where) never (goes_both spell_where goes_sets goes_where)
+
+abbrev goes_deleted : List ℕ × Option (CondOf (List ℕ) Lit) → Token → Bool
+goes_deleted = goes_both spell_where never goes_where
+
+abbrev spell_for : Query → List Token
+spell_for q = word key.For ∷ spell_query q
+
+abbrev goes_opened : ℕ × Query → Token → Bool
+goes_opened = goes_both spell_for never goes_query
+
+abbrev goes_evicted : List ℕ × ℕ → Token → Bool
+goes_evicted = goes_both (λ n. number n ∷ []) never never
+
+abbrev pub goes_stmt : Stmt → Token → Bool
+goes_stmt (stmt.Select q) = goes_query q
+goes_stmt (stmt.Explain q) = goes_query q
+goes_stmt (stmt.Create name columns block extent memory) = goes_created (name, (columns, (block, (extent, memory))))
+goes_stmt (stmt.AlterMemory name memory) = goes_altered_name (name, Some memory)
+goes_stmt (stmt.AlterNoMemory name) = goes_altered_name (name, None)
+goes_stmt (stmt.Insert name columns tuples) = goes_inserted (name, (columns, tuples))
+goes_stmt (stmt.Update name sets cond) = goes_updated (name, (sets, cond))
+goes_stmt (stmt.Delete name cond) = goes_deleted (name, cond)
+goes_stmt (stmt.OpenFor cursor q) = goes_opened (cursor, q)
+goes_stmt (stmt.Evict name extent) = goes_evicted (name, extent)
+goes_stmt s = λ t. false
+
+-- ---- the kind of a statement
+
+abbrev pub first_word : Stmt → Keyword
+first_word (stmt.Select q) = key.Select
+first_word (stmt.Explain q) = key.Explain
+first_word (stmt.Create name columns block extent memory) = key.Create
+first_word (stmt.AlterMemory name memory) = key.Alter
+first_word (stmt.AlterNoMemory name) = key.Alter
+first_word (stmt.Insert name columns tuples) = key.Insert
+first_word (stmt.Update name sets cond) = key.Update
+first_word (stmt.Delete name cond) = key.Delete
+first_word stmt.SetReadOnly = key.Set
+first_word stmt.SetSerializable = key.Set
+first_word stmt.SetCommitted = key.Set
+first_word stmt.Commit = key.Commit
+first_word stmt.Rollback = key.Rollback
+first_word (stmt.OpenFor cursor q) = key.Open
+first_word (stmt.Step cursor) = key.Step
+first_word (stmt.Fetch cursor) = key.Fetch
+first_word (stmt.Close cursor) = key.Close
+first_word stmt.Run = key.Run
+first_word stmt.Begin = key.Begin
+first_word stmt.Switch = key.Switch
+first_word stmt.Cancel = key.Cancel
+first_word (stmt.Trickle n) = key.Trickle
+first_word (stmt.Evict name extent) = key.Evict
+
+abbrev pub first_stmt : Stmt → StmtKind
+first_stmt s = kind_of_word (Some (first_word s))
+
+kind_of_first : (k : Keyword) → kind_of_statement (word k) ≡ kind_of_word (Some k)
+kind_of_first k = ap kind_of_word (keyword_of-text k)
+
+pub stmt_firsts : (s : Stmt) → IsStmt s → FirstKind kind_of_statement (first_stmt s) (spelling s)
+stmt_firsts (stmt.Select q) g = first_kind (word key.Select) _ (kind_of_first key.Select)
+stmt_firsts (stmt.Explain q) g = first_kind (word key.Explain) _ (kind_of_first key.Explain)
+stmt_firsts (stmt.Create name columns block extent memory) g = first_kind (word key.Create) _ (kind_of_first key.Create)
+stmt_firsts (stmt.AlterMemory name memory) g = first_kind (word key.Alter) _ (kind_of_first key.Alter)
+stmt_firsts (stmt.AlterNoMemory name) g = first_kind (word key.Alter) _ (kind_of_first key.Alter)
+stmt_firsts (stmt.Insert name columns tuples) g = first_kind (word key.Insert) _ (kind_of_first key.Insert)
+stmt_firsts (stmt.Update name sets cond) g = first_kind (word key.Update) _ (kind_of_first key.Update)
+stmt_firsts (stmt.Delete name cond) g = first_kind (word key.Delete) _ (kind_of_first key.Delete)
+stmt_firsts stmt.SetReadOnly g = first_kind (word key.Set) _ (kind_of_first key.Set)
+stmt_firsts stmt.SetSerializable g = first_kind (word key.Set) _ (kind_of_first key.Set)
+stmt_firsts stmt.SetCommitted g = first_kind (word key.Set) _ (kind_of_first key.Set)
+stmt_firsts stmt.Commit g = first_kind (word key.Commit) _ (kind_of_first key.Commit)
+stmt_firsts stmt.Rollback g = first_kind (word key.Rollback) _ (kind_of_first key.Rollback)
+stmt_firsts (stmt.OpenFor cursor q) g = first_kind (word key.Open) _ (kind_of_first key.Open)
+stmt_firsts (stmt.Step cursor) g = first_kind (word key.Step) _ (kind_of_first key.Step)
+stmt_firsts (stmt.Fetch cursor) g = first_kind (word key.Fetch) _ (kind_of_first key.Fetch)
+stmt_firsts (stmt.Close cursor) g = first_kind (word key.Close) _ (kind_of_first key.Close)
+stmt_firsts stmt.Run g = first_kind (word key.Run) _ (kind_of_first key.Run)
+stmt_firsts stmt.Begin g = first_kind (word key.Begin) _ (kind_of_first key.Begin)
+stmt_firsts stmt.Switch g = first_kind (word key.Switch) _ (kind_of_first key.Switch)
+stmt_firsts stmt.Cancel g = first_kind (word key.Cancel) _ (kind_of_first key.Cancel)
+stmt_firsts (stmt.Trickle n) g = first_kind (word key.Trickle) _ (kind_of_first key.Trickle)
+stmt_firsts (stmt.Evict name extent) g = first_kind (word key.Evict) _ (kind_of_first key.Evict)
+
+abbrev GoodOf : StmtKind → Stmt → Type 0
+GoodOf k = GoodFirst IsStmt first_stmt k
+
+no_other_stmt : (s : Stmt) → IsStmt s → first_stmt s ≡ stmt_kind.Other → ⊥
+no_other_stmt stmt.Commit g e = cc
+no_other_stmt s g e = cc
+
+-- ---- queries
+
+select_back : (s : Stmt) → IsStmt s → first_stmt s ≡ stmt_kind.Select → Makes stmt.Select IsQuery s
+select_back (stmt.Select q) g e = record { of = q; is = refl; is_good = g }
+select_back s g e = absurd cc
+
+select_law : Reads spelling (GoodOf stmt_kind.Select) goes_stmt (statement_by stmt_kind.Select)
+select_law =
+    made_law spelling (GoodOf stmt_kind.Select) goes_stmt stmt.Select query_law
+    (λ q g. record { is_good = g; is_first = refl }) (λ s g. select_back s g.is_good g.is_first) (λ q. refl) (λ q t. refl)
+
+explain_back : (s : Stmt) → IsStmt s → first_stmt s ≡ stmt_kind.Explain → Makes stmt.Explain IsQuery s
+explain_back (stmt.Explain q) g e = record { of = q; is = refl; is_good = g }
+explain_back s g e = absurd cc
+
+explain_law : Reads spelling (GoodOf stmt_kind.Explain) goes_stmt explain_at
+unfolding explain_at
+explain_law =
+    made_law spelling (GoodOf stmt_kind.Explain) goes_stmt stmt.Explain (after_word_law key.Explain query_law)
+    (λ q g. record { is_good = g; is_first = refl }) (λ s g. explain_back s g.is_good g.is_first) (λ q. refl) (λ q t. refl)
+
+cursor_law : (k : Keyword) → Reads (λ n. word k ∷ number n ∷ []) (IsWithin 1 999) never (cursor_at k)
+unfolding cursor_at
+cursor_law k = after_word_law k (number_law 1 999 (omega arith))
+
+open_back : (s : Stmt) → IsStmt s → first_stmt s ≡ stmt_kind.Open → Makes (λ (x : ℕ × Query). stmt.OpenFor x.0 x.1) (GoodBoth (IsWithin 1 999) IsQuery) s
+open_back (stmt.OpenFor cursor q) g e = record { of = (cursor, q); is = refl; is_good = g }
+open_back s g e = absurd cc
+
+open_law : Reads spelling (GoodOf stmt_kind.Open) goes_stmt open_at
+unfolding open_at
+open_law =
+    made_law spelling (GoodOf stmt_kind.Open) goes_stmt (λ x. stmt.OpenFor x.0 x.1)
+    (both_law (cursor_law key.Open) (after_word_law key.For query_law) (λ n q _ _. Ends-never n (spell_for q)))
+    (λ x g. record { is_good = g; is_first = refl }) (λ s g. open_back s g.is_good g.is_first) (λ x. refl) (λ x t. refl)
+
+step_back : (s : Stmt) → IsStmt s → first_stmt s ≡ stmt_kind.Step → Makes stmt.Step (IsWithin 1 999) s
+step_back (stmt.Step n) g e = record { of = n; is = refl; is_good = g }
+step_back s g e = absurd cc
+
+step_law : Reads spelling (GoodOf stmt_kind.Step) goes_stmt (statement_by stmt_kind.Step)
+step_law =
+    made_law spelling (GoodOf stmt_kind.Step) goes_stmt stmt.Step (cursor_law key.Step)
+    (λ n g. record { is_good = g; is_first = refl }) (λ s g. step_back s g.is_good g.is_first) (λ n. refl) (λ n t. refl)
+
+fetch_back : (s : Stmt) → IsStmt s → first_stmt s ≡ stmt_kind.Fetch → Makes stmt.Fetch (IsWithin 1 999) s
+fetch_back (stmt.Fetch n) g e = record { of = n; is = refl; is_good = g }
+fetch_back s g e = absurd cc
+
+fetch_law : Reads spelling (GoodOf stmt_kind.Fetch) goes_stmt (statement_by stmt_kind.Fetch)
+fetch_law =
+    made_law spelling (GoodOf stmt_kind.Fetch) goes_stmt stmt.Fetch (cursor_law key.Fetch)
+    (λ n g. record { is_good = g; is_first = refl }) (λ s g. fetch_back s g.is_good g.is_first) (λ n. refl) (λ n t. refl)
+
+close_back : (s : Stmt) → IsStmt s → first_stmt s ≡ stmt_kind.Close → Makes stmt.Close (IsWithin 1 999) s
+close_back (stmt.Close n) g e = record { of = n; is = refl; is_good = g }
+close_back s g e = absurd cc
+
+close_law : Reads spelling (GoodOf stmt_kind.Close) goes_stmt (statement_by stmt_kind.Close)
+close_law =
+    made_law spelling (GoodOf stmt_kind.Close) goes_stmt stmt.Close (cursor_law key.Close)
+    (λ n g. record { is_good = g; is_first = refl }) (λ s g. close_back s g.is_good g.is_first) (λ n. refl) (λ n t. refl)
+
+-- ---- tables
+
+block_starts : (n : ℕ) → BeginsWith (is_key key.Block) (word key.Block ∷ number n ∷ [])
+block_starts n = begins_with (word key.Block) (number n ∷ []) refl
+
+extent_starts : (n : ℕ) → BeginsWith (is_key key.Extent) (word key.Extent ∷ number n ∷ [])
+extent_starts n = begins_with (word key.Extent) (number n ∷ []) refl
+
+extent_apart : (e : Option ℕ) (m : Option MemoryPart) → Ends (goes_option key.Extent e) (spell_memory_option m)
+extent_apart e None = at_end
+extent_apart None (Some m) = at_other (word key.InMemory) _ refl
+extent_apart (Some n) (Some m) = at_other (word key.InMemory) _ refl
+
+block_apart : (b e : Option ℕ) (m : Option MemoryPart) → Ends (goes_option key.Block b) (spell_both (spell_option key.Extent) spell_memory_option (e, m))
+block_apart b None None = at_end
+block_apart None (Some n) m = at_other (word key.Extent) _ refl
+block_apart (Some k) (Some n) m = at_other (word key.Extent) _ refl
+block_apart None None (Some m) = at_other (word key.InMemory) _ refl
+block_apart (Some k) None (Some m) = at_other (word key.InMemory) _ refl
+
+any_memory : (m : Option MemoryPart) → GoodOptional Any m
+any_memory None = tt
+any_memory (Some m) = tt
+
+abbrev GoodCreated : List ℕ × (List ColumnPart × Shape) → Type 0
+GoodCreated = GoodBoth IsName (GoodBoth (GoodJoinedUpTo 15 IsColumn) (GoodBoth (GoodOptional (IsWithin 1 64)) (GoodBoth (GoodOptional (IsWithin 1 64)) (GoodOptional Any))))
+
+create_back : (s : Stmt) → IsStmt s → first_stmt s ≡ stmt_kind.Create → Makes create_of GoodCreated s
+create_back (stmt.Create name columns block extent memory) g e =
+    record { of = (name, (columns, (block, (extent, memory)))); is = refl; is_good = (g.name, (g.columns, (g.block, (g.extent, any_memory memory)))) }
+create_back s g e = absurd cc
+
+create_forth : (x : List ℕ × (List ColumnPart × Shape)) → GoodCreated x → GoodOf stmt_kind.Create (create_of x)
+create_forth x g = record { is_good = record { name = g.0; columns = g.1.0; block = g.1.1.0; extent = g.1.1.1.0 }; is_first = refl }
+
+create_law : Reads spelling (GoodOf stmt_kind.Create) goes_stmt create_at
+unfolding create_at
+create_law =
+    made_law spelling (GoodOf stmt_kind.Create) goes_stmt create_of
+    (after_word_law key.Create (after_word_law key.Table
+    (both_law name_law
+    (both_law columns_law
+    (both_law (option_law key.Block block_starts)
+    (both_law (option_law key.Extent extent_starts) memory_option_law (λ e m _ _. extent_apart e m))
+    (λ b x _ _. block_apart b x.0 x.1))
+    (λ cs x _ _. Ends-never cs (spell_shape x)))
+    (λ n x _ _. Ends-never n (spell_created x)))))
+    create_forth (λ s g. create_back s g.is_good g.is_first) (λ x. refl) (λ x t. refl)
+
+alter_back : (s : Stmt) → IsStmt s → first_stmt s ≡ stmt_kind.Alter → Makes alter_of (GoodBoth IsName Any) s
+alter_back (stmt.AlterMemory name memory) g e = record { of = (name, Some memory); is = refl; is_good = (g, tt) }
+alter_back (stmt.AlterNoMemory name) g e = record { of = (name, None); is = refl; is_good = (g, tt) }
+alter_back s g e = absurd cc
+
+alter_forth : (n : List ℕ) (o : Option MemoryPart) → IsName n → GoodOf stmt_kind.Alter (alter_of (n, o))
+alter_forth n None g = record { is_good = g; is_first = refl }
+alter_forth n (Some m) g = record { is_good = g; is_first = refl }
+
+alter_spells : (n : List ℕ) (o : Option MemoryPart) → spelling (alter_of (n, o)) ≡ word key.Alter ∷ word key.Table ∷ token.Word n ∷ spell_altered o
+alter_spells n None = refl
+alter_spells n (Some m) = refl
+
+alter_goes : (n : List ℕ) (o : Option MemoryPart) (t : Token) → goes_stmt (alter_of (n, o)) t ≡ goes_altered_name (n, o) t
+alter_goes n None t = refl
+alter_goes n (Some m) t = refl
+
+alter_law : Reads spelling (GoodOf stmt_kind.Alter) goes_stmt alter_at
+unfolding alter_at
+alter_law =
+    made_law spelling (GoodOf stmt_kind.Alter) goes_stmt alter_of
+    (after_word_law key.Alter (after_word_law key.Table (both_law name_law altered_law (λ n o _ _. Ends-never n (spell_altered o)))))
+    (λ x g. alter_forth x.0 x.1 g.0) (λ s g. alter_back s g.is_good g.is_first) (λ x. alter_spells x.0 x.1) (λ x t. alter_goes x.0 x.1 t)
+
+-- ---- rows
+
+insert_columns_law : Reads spell_columns (AllByRecursion IsName) goes_columns insert_columns_at
+unfolding insert_columns_at
+insert_columns_law =
+    listed_law is_left spell_columns
+    (after_law left_mark (before_law right_mark names_law (λ xs g. goes_joined-false comma is_comma name_tokens IsName never (token.Sign sign.RightParen) refl (λ a h. refl) xs g)))
+    (λ xs g. begins_with (token.Sign sign.LeftParen) _ refl) refl (λ a xs. refl)
+
+columns_apart : (cs : List (List ℕ)) (ts : List (List Lit)) → Ends (goes_columns cs) (spell_tuples ts)
+columns_apart [] ts = at_other (word key.Values) _ refl
+columns_apart (c ∷ cs) ts = at_other (word key.Values) _ refl
+
+insert_back : (s : Stmt) → IsStmt s → first_stmt s ≡ stmt_kind.Insert
+    → Makes (λ (x : List ℕ × (List (List ℕ) × List (List Lit))). stmt.Insert x.0 x.1.0 x.1.1) (GoodBoth IsName (GoodBoth (AllByRecursion IsName) (GoodJoined IsTuple))) s
+insert_back (stmt.Insert name columns tuples) g e = record { of = (name, (columns, tuples)); is = refl; is_good = (g.name, (g.columns, g.tuples)) }
+insert_back s g e = absurd cc
+
+insert_law : Reads spelling (GoodOf stmt_kind.Insert) goes_stmt insert_at
+unfolding insert_at
+insert_law =
+    made_law spelling (GoodOf stmt_kind.Insert) goes_stmt (λ x. stmt.Insert x.0 x.1.0 x.1.1)
+    (after_word_law key.Insert (after_word_law key.Into
+    (both_law name_law
+    (both_law insert_columns_law (after_word_law key.Values (joined_law comma_mark tuple_law (λ a g. refl))) (λ cs ts _ _. columns_apart cs ts))
+    (λ n x _ _. Ends-never n (spell_both spell_columns spell_tuples x)))))
+    (λ x g. record { is_good = record { name = g.0; columns = g.1.0; tuples = g.1.1 }; is_first = refl })
+    (λ s g. insert_back s g.is_good g.is_first) (λ x. refl) (λ x t. refl)
+
+set_law : Reads spell_set IsSet never set_at
+unfolding set_at
+set_law =
+    agreed_law spell_set IsSet never
+    (both_law name_law (after_law equals_mark lit_law) (λ n v _ _. Ends-never n (token.Sign sign.Eq ∷ lit_token v ∷ [])))
+    (λ x g. g.0) (λ x g. (g, tt)) (λ x g. refl) (λ x g t. refl)
+
+sets_apart : (ss : List (List ℕ × Lit)) (c : Option (CondOf (List ℕ) Lit)) → GoodJoined IsSet ss → Ends (goes_sets ss) (spell_where c)
+sets_apart ss None g = at_end
+sets_apart ss (Some c) g = at_other (word key.Where) _ (goes_joined-false comma is_comma spell_set IsSet never (word key.Where) refl (λ a h. refl) ss g)
+
+update_back : (s : Stmt) → IsStmt s → first_stmt s ≡ stmt_kind.Update
+    → Makes (λ (x : List ℕ × (List (List ℕ × Lit) × Option (CondOf (List ℕ) Lit))). stmt.Update x.0 x.1.0 x.1.1) (GoodBoth IsName (GoodBoth (GoodJoined IsSet) IsWhere)) s
+update_back (stmt.Update name sets cond) g e = record { of = (name, (sets, cond)); is = refl; is_good = (g.name, (g.sets, g.cond)) }
+update_back s g e = absurd cc
+
+update_law : Reads spelling (GoodOf stmt_kind.Update) goes_stmt update_at
+unfolding update_at
+update_law =
+    made_law spelling (GoodOf stmt_kind.Update) goes_stmt (λ x. stmt.Update x.0 x.1.0 x.1.1)
+    (after_word_law key.Update
+    (both_law name_law
+    (both_law (after_word_law key.Set (joined_law comma_mark set_law (λ a g. refl))) where_law (λ ss c g _. sets_apart ss c g))
+    (λ n x _ _. Ends-never n (spell_both spell_sets spell_where x))))
+    (λ x g. record { is_good = record { name = g.0; sets = g.1.0; cond = g.1.1 }; is_first = refl })
+    (λ s g. update_back s g.is_good g.is_first) (λ x. refl) (λ x t. refl)
+
+delete_back : (s : Stmt) → IsStmt s → first_stmt s ≡ stmt_kind.Delete
+    → Makes (λ (x : List ℕ × Option (CondOf (List ℕ) Lit)). stmt.Delete x.0 x.1) (GoodBoth IsName IsWhere) s
+delete_back (stmt.Delete name cond) g e = record { of = (name, cond); is = refl; is_good = g }
+delete_back s g e = absurd cc
+
+delete_law : Reads spelling (GoodOf stmt_kind.Delete) goes_stmt delete_at
+unfolding delete_at
+delete_law =
+    made_law spelling (GoodOf stmt_kind.Delete) goes_stmt (λ x. stmt.Delete x.0 x.1)
+    (after_word_law key.Delete (after_word_law key.From (both_law name_law where_law (λ n c _ _. Ends-never n (spell_where c)))))
+    (λ x g. record { is_good = g; is_first = refl }) (λ s g. delete_back s g.is_good g.is_first) (λ x. refl) (λ x t. refl)
+
+-- ---- transactions
+
+abbrev spell_level : Stmt → List Token
+spell_level stmt.SetSerializable = word key.Serializable ∷ []
+spell_level stmt.SetCommitted = word key.Read ∷ word key.Committed ∷ []
+spell_level s = []
+
+abbrev IsLevel : Stmt → Type 0
+IsLevel stmt.SetSerializable = Unit {0}
+IsLevel stmt.SetCommitted = Unit {0}
+IsLevel s = ⊥
+
+abbrev first_level : Stmt → LevelKind
+first_level stmt.SetSerializable = level_kind.Serializable
+first_level stmt.SetCommitted = level_kind.Read
+first_level s = level_kind.Other
+
+level_firsts : (s : Stmt) → IsLevel s → FirstKind kind_of_level (first_level s) (spell_level s)
+level_firsts stmt.SetSerializable g = first_kind (word key.Serializable) [] refl
+level_firsts stmt.SetCommitted g = first_kind (word key.Read) _ refl
+level_firsts s g = absurd g
+
+serializable_back : (s : Stmt) → IsLevel s → first_level s ≡ level_kind.Serializable → Makes (λ (u : Unit {0}). stmt.SetSerializable) Any s
+serializable_back stmt.SetSerializable g e = record { of = tt; is = refl; is_good = tt }
+serializable_back s g e = absurd cc
+
+committed_back : (s : Stmt) → IsLevel s → first_level s ≡ level_kind.Read → Makes (λ (u : Unit {0}). stmt.SetCommitted) Any s
+committed_back stmt.SetCommitted g e = record { of = tt; is = refl; is_good = tt }
+committed_back s g e = absurd cc
+
+no_other_level : (s : Stmt) → IsLevel s → first_level s ≡ level_kind.Other → ⊥
+no_other_level stmt.SetSerializable g e = cc
+no_other_level stmt.SetCommitted g e = cc
+no_other_level s g e = g
+
+level_choices : (k : LevelKind) → Choice spell_level IsLevel never first_level k (level_by k)
+level_choices level_kind.Serializable =
+    chosen (made_law spell_level (GoodFirst IsLevel first_level level_kind.Serializable) never (λ u. stmt.SetSerializable) (word_law key.Serializable)
+    (λ u g. record { is_good = tt; is_first = refl }) (λ s g. serializable_back s g.is_good g.is_first) (λ u. refl) (λ u t. refl))
+level_choices level_kind.Read =
+    chosen (made_law spell_level (GoodFirst IsLevel first_level level_kind.Read) never (λ u. stmt.SetCommitted) (after_word_law key.Read (word_law key.Committed))
+    (λ u g. record { is_good = tt; is_first = refl }) (λ s g. committed_back s g.is_good g.is_first) (λ u. refl) (λ u t. refl))
+level_choices level_kind.Other = none_chosen (λ ts. refl) no_other_level
+
+level_law : Reads spell_level IsLevel never (picked kind_of_level level_by)
+level_law = picked_law spell_level IsLevel never kind_of_level level_by first_level stmt.SetSerializable tt level_firsts level_choices
+
+abbrev spell_mode : Stmt → List Token
+spell_mode stmt.SetReadOnly = word key.Read ∷ word key.Only ∷ []
+spell_mode s = word key.Isolation ∷ word key.Level ∷ spell_level s
+
+abbrev IsMode : Stmt → Type 0
+IsMode stmt.SetReadOnly = Unit {0}
+IsMode s = IsLevel s
+
+abbrev first_mode : Stmt → ModeKind
+first_mode stmt.SetReadOnly = mode_kind.ReadOnly
+first_mode s = mode_kind.Isolation
+
+mode_firsts : (s : Stmt) → IsMode s → FirstKind kind_of_mode (first_mode s) (spell_mode s)
+mode_firsts stmt.SetReadOnly g = first_kind (word key.Read) _ refl
+mode_firsts stmt.SetSerializable g = first_kind (word key.Isolation) _ refl
+mode_firsts s g = first_kind (word key.Isolation) _ refl
+
+read_only_back : (s : Stmt) → IsMode s → first_mode s ≡ mode_kind.ReadOnly → Makes (λ (u : Unit {0}). stmt.SetReadOnly) Any s
+read_only_back stmt.SetReadOnly g e = record { of = tt; is = refl; is_good = tt }
+read_only_back s g e = absurd cc
+
+isolation_forth : (s : Stmt) → IsLevel s → GoodFirst IsMode first_mode mode_kind.Isolation s
+isolation_forth stmt.SetSerializable g = record { is_good = tt; is_first = refl }
+isolation_forth stmt.SetCommitted g = record { is_good = tt; is_first = refl }
+isolation_forth s g = absurd g
+
+isolation_back : (s : Stmt) → IsMode s → first_mode s ≡ mode_kind.Isolation → IsLevel s
+isolation_back stmt.SetReadOnly g e = absurd cc
+isolation_back s g e = g
+
+isolation_spells : (s : Stmt) → IsLevel s → spell_mode s ≡ word key.Isolation ∷ word key.Level ∷ spell_level s
+isolation_spells stmt.SetReadOnly g = absurd g
+isolation_spells s g = refl
+
+isolation_law : Reads spell_mode (GoodFirst IsMode first_mode mode_kind.Isolation) never isolation_at
+unfolding isolation_at
+isolation_law =
+    agreed_law spell_mode (GoodFirst IsMode first_mode mode_kind.Isolation) never (after_word_law key.Isolation (after_word_law key.Level level_law))
+    isolation_forth (λ s g. isolation_back s g.is_good g.is_first) isolation_spells (λ s g t. refl)
+
+no_other_mode : (s : Stmt) → IsMode s → first_mode s ≡ mode_kind.Other → ⊥
+no_other_mode stmt.SetReadOnly g e = cc
+no_other_mode s g e = cc
+
+mode_choices : (k : ModeKind) → Choice spell_mode IsMode never first_mode k (mode_by k)
+mode_choices mode_kind.ReadOnly =
+    chosen (made_law spell_mode (GoodFirst IsMode first_mode mode_kind.ReadOnly) never (λ u. stmt.SetReadOnly) (after_word_law key.Read (word_law key.Only))
+    (λ u g. record { is_good = tt; is_first = refl }) (λ s g. read_only_back s g.is_good g.is_first) (λ u. refl) (λ u t. refl))
+mode_choices mode_kind.Isolation = chosen isolation_law
+mode_choices mode_kind.Other = none_chosen (λ ts. refl) no_other_mode
+
+mode_law : Reads spell_mode IsMode never mode_at
+unfolding mode_at
+mode_law = picked_law spell_mode IsMode never kind_of_mode mode_by first_mode stmt.SetReadOnly tt mode_firsts mode_choices
+
+transaction_forth : (s : Stmt) → IsMode s → GoodOf stmt_kind.Set s
+transaction_forth stmt.SetReadOnly g = record { is_good = tt; is_first = refl }
+transaction_forth stmt.SetSerializable g = record { is_good = tt; is_first = refl }
+transaction_forth stmt.SetCommitted g = record { is_good = tt; is_first = refl }
+transaction_forth s g = absurd g
+
+transaction_back : (s : Stmt) → IsStmt s → first_stmt s ≡ stmt_kind.Set → IsMode s
+transaction_back stmt.SetReadOnly g e = tt
+transaction_back stmt.SetSerializable g e = tt
+transaction_back stmt.SetCommitted g e = tt
+transaction_back s g e = absurd cc
+
+transaction_spells : (s : Stmt) → IsMode s → spelling s ≡ word key.Set ∷ word key.Transaction ∷ spell_mode s
+transaction_spells stmt.SetReadOnly g = refl
+transaction_spells stmt.SetSerializable g = refl
+transaction_spells stmt.SetCommitted g = refl
+transaction_spells s g = absurd g
+
+transaction_goes : (s : Stmt) → IsMode s → (t : Token) → goes_stmt s t ≡ false
+transaction_goes stmt.SetReadOnly g t = refl
+transaction_goes stmt.SetSerializable g t = refl
+transaction_goes stmt.SetCommitted g t = refl
+transaction_goes s g t = absurd g
+
+transaction_law : Reads spelling (GoodOf stmt_kind.Set) goes_stmt transaction_at
+unfolding transaction_at
+transaction_law =
+    agreed_law spelling (GoodOf stmt_kind.Set) goes_stmt (after_word_law key.Set (after_word_law key.Transaction mode_law))
+    transaction_forth (λ s g. transaction_back s g.is_good g.is_first) transaction_spells transaction_goes
+
+-- ---- single words
+
+commit_back : (s : Stmt) → first_stmt s ≡ stmt_kind.Commit → Makes (λ (u : Unit {0}). stmt.Commit) Any s
+commit_back stmt.Commit e = record { of = tt; is = refl; is_good = tt }
+commit_back s e = absurd cc
+
+rollback_back : (s : Stmt) → first_stmt s ≡ stmt_kind.Rollback → Makes (λ (u : Unit {0}). stmt.Rollback) Any s
+rollback_back stmt.Rollback e = record { of = tt; is = refl; is_good = tt }
+rollback_back s e = absurd cc
+
+run_back : (s : Stmt) → first_stmt s ≡ stmt_kind.Run → Makes (λ (u : Unit {0}). stmt.Run) Any s
+run_back stmt.Run e = record { of = tt; is = refl; is_good = tt }
+run_back s e = absurd cc
+
+begin_back : (s : Stmt) → first_stmt s ≡ stmt_kind.Begin → Makes (λ (u : Unit {0}). stmt.Begin) Any s
+begin_back stmt.Begin e = record { of = tt; is = refl; is_good = tt }
+begin_back s e = absurd cc
+
+switch_back : (s : Stmt) → first_stmt s ≡ stmt_kind.Switch → Makes (λ (u : Unit {0}). stmt.Switch) Any s
+switch_back stmt.Switch e = record { of = tt; is = refl; is_good = tt }
+switch_back s e = absurd cc
+
+cancel_back : (s : Stmt) → first_stmt s ≡ stmt_kind.Cancel → Makes (λ (u : Unit {0}). stmt.Cancel) Any s
+cancel_back stmt.Cancel e = record { of = tt; is = refl; is_good = tt }
+cancel_back s e = absurd cc
+
+single_law : (k : Keyword) (s : Stmt) (kind : StmtKind) → GoodOf kind s → ((x : Stmt) → first_stmt x ≡ kind → Makes (λ (u : Unit {0}). s) Any x)
+    → spelling s ≡ word k ∷ [] → ((t : Token) → goes_stmt s t ≡ false) → Reads spelling (GoodOf kind) goes_stmt (single_at k s)
+single_law k s kind good back spells goes =
+    made_law spelling (GoodOf kind) goes_stmt (λ u. s) (word_law k) (λ u g. good) (λ x g. back x g.is_first) (λ u. spells) (λ u t. goes t)
+
+trickle_back : (s : Stmt) → IsStmt s → first_stmt s ≡ stmt_kind.Trickle → Makes stmt.Trickle (IsWithin 1 1000000) s
+trickle_back (stmt.Trickle n) g e = record { of = n; is = refl; is_good = g }
+trickle_back s g e = absurd cc
+
+trickle_law : Reads spelling (GoodOf stmt_kind.Trickle) goes_stmt trickle_at
+unfolding trickle_at
+trickle_law =
+    made_law spelling (GoodOf stmt_kind.Trickle) goes_stmt stmt.Trickle (after_word_law key.Trickle (number_law 1 1000000 (omega arith)))
+    (λ n g. record { is_good = g; is_first = refl }) (λ s g. trickle_back s g.is_good g.is_first) (λ n. refl) (λ n t. refl)
+
+evict_back : (s : Stmt) → IsStmt s → first_stmt s ≡ stmt_kind.Evict → Makes (λ (x : List ℕ × ℕ). stmt.Evict x.0 x.1) (GoodBoth IsName (IsWithin 0 4294967295)) s
+evict_back (stmt.Evict name extent) g e = record { of = (name, extent); is = refl; is_good = g }
+evict_back s g e = absurd cc
+
+evict_law : Reads spelling (GoodOf stmt_kind.Evict) goes_stmt evict_at
+unfolding evict_at
+evict_law =
+    made_law spelling (GoodOf stmt_kind.Evict) goes_stmt (λ x. stmt.Evict x.0 x.1)
+    (after_word_law key.Evict (both_law name_law (number_law 0 4294967295 (omega arith)) (λ n e _ _. Ends-never n (number e ∷ []))))
+    (λ x g. record { is_good = g; is_first = refl }) (λ s g. evict_back s g.is_good g.is_first) (λ x. refl) (λ x t. refl)
+
+-- ---- statements
+
+abbrev good_single : {k : StmtKind} → (s : Stmt) → IsStmt s → first_stmt s ≡ k → GoodOf k s
+good_single s g e = record { is_good = g; is_first = e }
+
+stmt_choices : (k : StmtKind) → Choice spelling IsStmt goes_stmt first_stmt k (statement_by k)
+stmt_choices stmt_kind.Select = chosen select_law
+stmt_choices stmt_kind.Explain = chosen explain_law
+stmt_choices stmt_kind.Create = chosen create_law
+stmt_choices stmt_kind.Alter = chosen alter_law
+stmt_choices stmt_kind.Insert = chosen insert_law
+stmt_choices stmt_kind.Update = chosen update_law
+stmt_choices stmt_kind.Delete = chosen delete_law
+stmt_choices stmt_kind.Set = chosen transaction_law
+stmt_choices stmt_kind.Commit = chosen (single_law key.Commit stmt.Commit stmt_kind.Commit (good_single stmt.Commit tt refl) commit_back refl (λ t. refl))
+stmt_choices stmt_kind.Rollback = chosen (single_law key.Rollback stmt.Rollback stmt_kind.Rollback (good_single stmt.Rollback tt refl) rollback_back refl (λ t. refl))
+stmt_choices stmt_kind.Open = chosen open_law
+stmt_choices stmt_kind.Step = chosen step_law
+stmt_choices stmt_kind.Fetch = chosen fetch_law
+stmt_choices stmt_kind.Close = chosen close_law
+stmt_choices stmt_kind.Run = chosen (single_law key.Run stmt.Run stmt_kind.Run (good_single stmt.Run tt refl) run_back refl (λ t. refl))
+stmt_choices stmt_kind.Begin = chosen (single_law key.Begin stmt.Begin stmt_kind.Begin (good_single stmt.Begin tt refl) begin_back refl (λ t. refl))
+stmt_choices stmt_kind.Switch = chosen (single_law key.Switch stmt.Switch stmt_kind.Switch (good_single stmt.Switch tt refl) switch_back refl (λ t. refl))
+stmt_choices stmt_kind.Cancel = chosen (single_law key.Cancel stmt.Cancel stmt_kind.Cancel (good_single stmt.Cancel tt refl) cancel_back refl (λ t. refl))
+stmt_choices stmt_kind.Trickle = chosen trickle_law
+stmt_choices stmt_kind.Evict = chosen evict_law
+stmt_choices stmt_kind.Other = none_chosen (λ ts. refl) no_other_stmt
+
+pub statement_law : Reads spelling IsStmt goes_stmt statement_at
+unfolding statement_at
+statement_law = picked_law spelling IsStmt goes_stmt kind_of_statement statement_by first_stmt stmt.Commit tt stmt_firsts stmt_choices

@@ -1,0 +1,6 @@
+pub mod Marks
+pub mod Conditions
+pub mod Queries
+pub mod Tables
+pub mod Statements
+pub mod Parsing

@@ -1,0 +1,260 @@
+ghost use Rattle.std.specs.Prelude.{◌≡◌, ◌≤◌, Some, None, IfSome, IfOk};
+ghost use Rattle.im_readers.specs.Reading.{Found, mark, peek as peeked};
+ghost use Rattle.im_readers.specs.Answers.{Gives};
+ghost use Rattle.im_parse.specs.Marks as marks;
+
+use im_readers::Halt;
+use im_syntax::{Keyword, Level, Lit, Sign, Token, is_name};
+use im_values::{Cmp, Name};
+use std::alloc::Global;
+
+/// The next token.
+pub fn peek(tokens: &[Token]) -> Result<&Token, Halt>
+    ensures { Gives (λ t. Found t.now tokens.now) result (peeked tokens.now) }
+{
+    match tokens {
+        [token, ..] => Ok(token),
+        [] => Err(Halt::Left(0)),
+    }
+}
+
+/// Whether a token is this keyword.
+pub fn is_key(token: &Token, keyword: Keyword) -> bool
+    ensures { result ≡ marks.is_key keyword token.now }
+{
+    match token {
+        Token::Word(word) => word.bytes() == keyword.text(),
+        _ => false,
+    }
+}
+
+/// Whether the next token is this keyword.
+pub fn begins(tokens: &[Token], keyword: Keyword) -> bool
+    ensures { result ≡ marks.begins_with_key keyword tokens.now }
+{
+    match tokens {
+        [token, ..] => is_key(token, keyword),
+        [] => false,
+    }
+}
+
+/// The keyword that a token is.
+pub fn keyword(token: &Token) -> Option<Keyword>
+    ensures { result ≡ marks.keyword_at token.now }
+{
+    match token {
+        Token::Word(word) => Keyword::of(word.bytes()),
+        _ => None,
+    }
+}
+
+/// A keyword, and the tokens behind it.
+#[tactic(auto, unfolding(crate::specs::Marks::word_at))]
+pub fn word(tokens: &[Token], keyword: Keyword) -> Result<&[Token], Halt>
+    ensures { Gives (λ rest. Found tt rest.now) result (marks.word_at keyword tokens.now) }
+{
+    match tokens {
+        [token, rest @ ..] if is_key(token, keyword) => Ok(rest),
+        _ => Err(Halt::Left(tokens.len())),
+    }
+}
+
+pub fn left_paren(tokens: &[Token]) -> Result<&[Token], Halt>
+    ensures { Gives (λ rest. Found tt rest.now) result (mark marks.is_left tokens.now) }
+{
+    match tokens {
+        [Token::Sign(Sign::LeftParen), rest @ ..] => Ok(rest),
+        _ => Err(Halt::Left(tokens.len())),
+    }
+}
+
+pub fn right_paren(tokens: &[Token]) -> Result<&[Token], Halt>
+    ensures { Gives (λ rest. Found tt rest.now) result (mark marks.is_right tokens.now) }
+{
+    match tokens {
+        [Token::Sign(Sign::RightParen), rest @ ..] => Ok(rest),
+        _ => Err(Halt::Left(tokens.len())),
+    }
+}
+
+pub fn star(tokens: &[Token]) -> Result<&[Token], Halt>
+    ensures { Gives (λ rest. Found tt rest.now) result (mark marks.is_star tokens.now) }
+{
+    match tokens {
+        [Token::Sign(Sign::Star), rest @ ..] => Ok(rest),
+        _ => Err(Halt::Left(tokens.len())),
+    }
+}
+
+pub fn equals(tokens: &[Token]) -> Result<&[Token], Halt>
+    ensures { Gives (λ rest. Found tt rest.now) result (mark marks.is_equals tokens.now) }
+{
+    match tokens {
+        [Token::Sign(Sign::Eq), rest @ ..] => Ok(rest),
+        _ => Err(Halt::Left(tokens.len())),
+    }
+}
+
+/// Whether a token is a comma.
+pub fn is_comma(token: &Token) -> bool
+    ensures { result ≡ marks.is_comma token.now }
+{
+    matches!(token, Token::Sign(Sign::Comma))
+}
+
+/// Whether a token is an opening parenthesis.
+pub fn is_left_paren(token: &Token) -> bool
+    ensures { result ≡ marks.is_left token.now }
+{
+    matches!(token, Token::Sign(Sign::LeftParen))
+}
+
+/// Whether a token is a star.
+pub fn is_star(token: &Token) -> bool
+    ensures { result ≡ marks.is_star token.now }
+{
+    matches!(token, Token::Sign(Sign::Star))
+}
+
+/// The comparison of a sign.
+pub fn cmp_of(token: &Token) -> Option<Cmp>
+    ensures { result ≡ marks.cmp_of token.now }
+{
+    match token {
+        Token::Sign(Sign::Eq) => Some(Cmp::Eq),
+        Token::Sign(Sign::Ne) => Some(Cmp::Ne),
+        Token::Sign(Sign::Lt) => Some(Cmp::Lt),
+        Token::Sign(Sign::Le) => Some(Cmp::Le),
+        Token::Sign(Sign::Gt) => Some(Cmp::Gt),
+        Token::Sign(Sign::Ge) => Some(Cmp::Ge),
+        _ => None,
+    }
+}
+
+#[tactic(auto, unfolding(crate::specs::Marks::cmp_at))]
+pub fn cmp(tokens: &[Token]) -> Result<(Cmp, &[Token]), Halt>
+    ensures { Gives (λ x. Found x.0 x.1.now) result (marks.cmp_at tokens.now) }
+{
+    let [token, rest @ ..] = tokens else {
+        return Err(Halt::Left(0));
+    };
+    match cmp_of(token) {
+        Some(cmp) => Ok((cmp, rest)),
+        None => Err(Halt::Left(tokens.len())),
+    }
+}
+
+/// The name of a table or of a column.
+#[tactic(auto, unfolding(crate::specs::Marks::name_at))]
+pub fn name(alloc: Global, tokens: &[Token]) -> Result<(Name, &[Token]), Halt>
+    ensures { Gives (λ x. Found x.0 x.1.now) result (marks.name_at tokens.now) }
+{
+    match tokens {
+        [Token::Word(word), rest @ ..] if is_free(word.bytes()) => match word.copy(alloc) {
+            Ok(name) => Ok((name, rest)),
+            Err(_) => Err(Halt::NoMemory),
+        },
+        _ => Err(Halt::Left(tokens.len())),
+    }
+}
+
+/// Whether a word is a name.
+fn is_free(word: &[u8]) -> bool
+    ensures { result ≡ marks.is_name word.now }
+{
+    is_name(word)
+}
+
+fn number_of(token: &Token, low: u64, high: u64) -> Option<u64>
+    ensures within { IfSome result (λ n. n ≤ high) }
+    ensures exact { result ≡ marks.number_of low high token.now }
+{
+    let Token::Int(number) = token else {
+        return None;
+    };
+    let number = u64::try_from(*number).ok()?;
+    if low <= number && number <= high {
+        Some(number)
+    } else {
+        None
+    }
+}
+
+/// A number from low to high.
+#[tactic(auto, unfolding(crate::specs::Marks::number_at))]
+pub fn wide_number(tokens: &[Token], low: u64, high: u64) -> Result<(u64, &[Token]), Halt>
+    ensures within { IfOk result (λ x. x.0 ≤ high) }
+    ensures exact { Gives (λ x. Found x.0 x.1.now) result (marks.number_at low high tokens.now) }
+{
+    let [token, rest @ ..] = tokens else {
+        return Err(Halt::Left(0));
+    };
+    match number_of(token, low, high) {
+        Some(number) => Ok((number, rest)),
+        None => Err(Halt::Left(tokens.len())),
+    }
+}
+
+/// A number from low to high, of 32 bits.
+pub fn number(tokens: &[Token], low: u32, high: u32) -> Result<(u32, &[Token]), Halt>
+    ensures within { IfOk result (λ x. x.0 ≤ high) }
+    ensures exact { Gives (λ x. Found x.0 x.1.now) result (marks.number_at low high tokens.now) }
+{
+    match wide_number(tokens, u64::from(low), u64::from(high)) {
+        Ok((number, rest)) => Ok((number as u32, rest)),
+        Err(halt) => Err(halt),
+    }
+}
+
+/// A value as it is written.
+#[tactic(auto, unfolding(crate::specs::Marks::lit_at))]
+pub fn lit(alloc: Global, tokens: &[Token]) -> Result<(Lit, &[Token]), Halt>
+    ensures { Gives (λ x. Found x.0 x.1.now) result (marks.lit_at tokens.now) }
+{
+    match tokens {
+        [Token::Int(number), rest @ ..] => Ok((Lit::Int(*number), rest)),
+        [Token::Text(text), rest @ ..] => match text.copy(alloc) {
+            Ok(text) => Ok((Lit::Text(text), rest)),
+            Err(_) => Err(Halt::NoMemory),
+        },
+        [Token::Word(word), rest @ ..] if word.bytes() == Keyword::Null.text() => {
+            Ok((Lit::Null, rest))
+        }
+        _ => Err(Halt::Left(tokens.len())),
+    }
+}
+
+fn level_of(token: &Token) -> Option<Level>
+    ensures { result ≡ marks.level_of token.now }
+{
+    if is_key(token, Keyword::Critical) {
+        return Some(Level::Critical);
+    }
+    if is_key(token, Keyword::High) {
+        return Some(Level::High);
+    }
+    if is_key(token, Keyword::Medium) {
+        return Some(Level::Medium);
+    }
+    if is_key(token, Keyword::Low) {
+        return Some(Level::Low);
+    }
+    if is_key(token, Keyword::None) {
+        return Some(Level::None);
+    }
+    None
+}
+
+/// A level of PRIORITY.
+#[tactic(auto, unfolding(crate::specs::Marks::level_at))]
+pub fn level(tokens: &[Token]) -> Result<(Level, &[Token]), Halt>
+    ensures { Gives (λ x. Found x.0 x.1.now) result (marks.level_at tokens.now) }
+{
+    let [token, rest @ ..] = tokens else {
+        return Err(Halt::Left(0));
+    };
+    match level_of(token) {
+        Some(level) => Ok((level, rest)),
+        None => Err(Halt::Left(tokens.len())),
+    }
+}

@@ -1,0 +1,81 @@
+ghost use Rattle.std.specs.Prelude.{◌≡◌, ◌≤◌, [], length, IfOk, IfErr};
+ghost use Rattle.im_readers.specs.Reading.{Found};
+ghost use Rattle.im_readers.specs.Answers.{Gives};
+ghost use Rattle.im_syntax.specs.declared.statement.Stmt.{Stmt as AnyStmt};
+ghost use Rattle.im_syntax.specs.Spelling.{spelling};
+ghost use Rattle.im_syntax.specs.Rules.{IsStmt, IsStmtOf};
+ghost use Rattle.im_parse.specs.Statements.{whole_at};
+ghost use Rattle.im_parse.specs.Statements as statements;
+ghost use Rattle.im_parse.specs.Parsing.{IsReadAs, IsFaultAmong};
+
+use crate::statement_kinds::begins_side;
+use crate::statements::statement;
+use im_readers::Halt;
+use im_syntax::{Side, Stmt, Token};
+use std::alloc::Global;
+
+/// Why tokens gave no statement.
+#[derive(Clone, Copy, Debug, PartialEq, Eq)]
+pub enum ParseFault {
+    /// The tokens are those of no statement: so many of them begin one, and no more.
+    At(u64),
+    /// There was no memory for the statement.
+    NoMemory,
+}
+
+#[tactic(auto, unfolding(crate::specs::Statements::whole_at))]
+fn whole(alloc: Global, tokens: &[Token]) -> Result<Stmt, Halt>
+    ensures { Gives (λ s. Found s []) result (whole_at tokens.now) }
+{
+    let (stmt, rest) = statement(alloc, tokens)?;
+    match rest {
+        [] => Ok(stmt),
+        [_, ..] => Err(Halt::Left(rest.len())),
+    }
+}
+
+/// The statement that the tokens spell.
+pub fn parse(alloc: Global, tokens: &[Token]) -> Result<Stmt, ParseFault>
+    // What is read is a statement, and the tokens are its spelling.
+    ensures found { IfOk result (λ s. IsStmt s × (tokens.now ≡ spelling s)) }
+    // The tokens of a statement are read as it, unless memory runs out.
+    ensures only { (s : AnyStmt) → IsStmt s → tokens.now ≡ spelling s → IsReadAs s result }
+    // A fault is where the tokens leave the language.
+    ensures place { IfErr result (IsFaultAmong IsStmt tokens.now) }
+{
+    match whole(alloc, tokens) {
+        Ok(stmt) => Ok(stmt),
+        Err(Halt::NoMemory) => Err(ParseFault::NoMemory),
+        Err(Halt::Left(left)) => Err(ParseFault::At((tokens.len() - left) as u64)),
+    }
+}
+
+fn begins(tokens: &[Token], side: Side) -> bool
+    ensures { result ≡ statements.begins_of side tokens.now }
+{
+    match tokens {
+        [first, ..] => begins_side(first, side),
+        [] => false,
+    }
+}
+
+/// The statement of one side that the tokens spell.
+pub fn parse_for(alloc: Global, side: Side, tokens: &[Token]) -> Result<Stmt, ParseFault>
+    // What is read is a statement of the side, and the tokens are its spelling.
+    ensures found { IfOk result (λ s. IsStmtOf side s × (tokens.now ≡ spelling s)) }
+    // The tokens of a statement of the side are read as it, unless memory runs out.
+    ensures only { (s : AnyStmt) → IsStmtOf side s → tokens.now ≡ spelling s → IsReadAs s result }
+    // A fault is where the tokens leave the statements of the side.
+    ensures place { IfErr result (IsFaultAmong (IsStmtOf side) tokens.now) }
+{
+    if begins(tokens, side) {
+        parse(alloc, tokens)
+    } else {
+        Err(ParseFault::At(0))
+    }
+}
+
+/// Two statements of one spelling are one.
+pub fn one_spelling()
+    ensures { (a b : AnyStmt) → IsStmt a → IsStmt b → spelling a ≡ spelling b → a ≡ b }
+{}

@@ -1,0 +1,221 @@
+ghost use Rattle.std.specs.Prelude.{◌≡◌};
+ghost use Rattle.im_readers.specs.Reading.{Found};
+ghost use Rattle.im_readers.specs.Answers.{Gives};
+ghost use Rattle.im_parse.specs.Marks as marks;
+ghost use Rattle.im_parse.specs.Queries as queries;
+
+use crate::conditions::cond;
+use crate::kinds::{ItemKind, StarKind};
+use crate::marks::{begins, is_comma, is_key, left_paren, name, peek, right_paren, star, word};
+use crate::query_kinds::{kind_of_item, kind_of_star};
+use crate::values::Names;
+use im_readers::{Halt, Part, list};
+use im_syntax::{Cond, ItemPart, KeyPart, Keyword, ListPart, Parts, Query, Token, Way};
+use im_values::Name;
+use std::alloc::Global;
+
+/// How deep NOT and parentheses may nest in a condition.
+const DEEPEST: u32 = 64;
+
+#[tactic(auto, unfolding(crate::specs::Queries::aggregate_at))]
+fn aggregate(alloc: Global, keyword: Keyword, tokens: &[Token]) -> Result<(Name, &[Token]), Halt>
+    ensures { Gives (λ x. Found x.0 x.1.now) result (queries.aggregate_at keyword tokens.now) }
+{
+    let rest = word(tokens, keyword)?;
+    let rest = left_paren(rest)?;
+    let (column, rest) = name(alloc, rest)?;
+    let rest = right_paren(rest)?;
+    Ok((column, rest))
+}
+
+#[tactic(auto, unfolding(crate::specs::Queries::counted_at))]
+fn counted(alloc: Global, tokens: &[Token]) -> Result<(ItemPart, &[Token]), Halt>
+    ensures { Gives (λ x. Found x.0 x.1.now) result (queries.counted_at tokens.now) }
+{
+    match kind_of_star(peek(tokens)?) {
+        StarKind::Star => {
+            let rest = star(tokens)?;
+            Ok((ItemPart::CountAll, rest))
+        }
+        StarKind::Other => {
+            let (column, rest) = name(alloc, tokens)?;
+            Ok((ItemPart::Count(column), rest))
+        }
+    }
+}
+
+#[tactic(auto, unfolding(crate::specs::Queries::count_at))]
+fn count(alloc: Global, tokens: &[Token]) -> Result<(ItemPart, &[Token]), Halt>
+    ensures { Gives (λ x. Found x.0 x.1.now) result (queries.count_at tokens.now) }
+{
+    let rest = word(tokens, Keyword::Count)?;
+    let rest = left_paren(rest)?;
+    let (item, rest) = counted(alloc, rest)?;
+    let rest = right_paren(rest)?;
+    Ok((item, rest))
+}
+
+/// One column of an answer.
+#[tactic(auto, unfolding(crate::specs::Queries::item_at))]
+fn item(alloc: Global, tokens: &[Token]) -> Result<(ItemPart, &[Token]), Halt>
+    ensures { Gives (λ x. Found x.0 x.1.now) result (queries.item_at tokens.now) }
+{
+    match kind_of_item(peek(tokens)?) {
+        ItemKind::Column => {
+            let (column, rest) = name(alloc, tokens)?;
+            Ok((ItemPart::Column(column), rest))
+        }
+        ItemKind::Count => count(alloc, tokens),
+        ItemKind::Sum => {
+            let (column, rest) = aggregate(alloc, Keyword::Sum, tokens)?;
+            Ok((ItemPart::Sum(column), rest))
+        }
+        ItemKind::Min => {
+            let (column, rest) = aggregate(alloc, Keyword::Min, tokens)?;
+            Ok((ItemPart::Min(column), rest))
+        }
+        ItemKind::Max => {
+            let (column, rest) = aggregate(alloc, Keyword::Max, tokens)?;
+            Ok((ItemPart::Max(column), rest))
+        }
+    }
+}
+
+#[tactic(auto, unfolding(crate::specs::Queries::way_at))]
+fn way(tokens: &[Token]) -> (Way, &[Token])
+    ensures { queries.way_at tokens.now ≡ Found result.0 result.1.now }
+{
+    match tokens {
+        [token, rest @ ..] if is_key(token, Keyword::Asc) => (Way::Asc, rest),
+        [token, rest @ ..] if is_key(token, Keyword::Desc) => (Way::Desc, rest),
+        _ => (Way::Unsaid, tokens),
+    }
+}
+
+#[tactic(auto, unfolding(crate::specs::Queries::key_at))]
+fn key(alloc: Global, tokens: &[Token]) -> Result<(KeyPart, &[Token]), Halt>
+    ensures { Gives (λ x. Found x.0 x.1.now) result (queries.key_at tokens.now) }
+{
+    let (item, rest) = item(alloc, tokens)?;
+    let (way, rest) = way(rest);
+    Ok((KeyPart { item, way }, rest))
+}
+
+struct Items;
+
+impl Part<Token> for Items {
+    type Value = ItemPart;
+
+    ghost marks = { marks.is_comma };
+
+    ghost reads = { λ _. queries.item_at };
+
+    fn is_mark(&self, token: &Token) -> bool {
+        is_comma(token)
+    }
+
+    fn read<'a>(
+        &self,
+        alloc: Global,
+        tokens: &'a [Token],
+    ) -> Result<(ItemPart, &'a [Token]), Halt> {
+        item(alloc, tokens)
+    }
+}
+
+struct Keys;
+
+impl Part<Token> for Keys {
+    type Value = KeyPart;
+
+    ghost marks = { marks.is_comma };
+
+    ghost reads = { λ _. queries.key_at };
+
+    fn is_mark(&self, token: &Token) -> bool {
+        is_comma(token)
+    }
+
+    fn read<'a>(&self, alloc: Global, tokens: &'a [Token]) -> Result<(KeyPart, &'a [Token]), Halt> {
+        key(alloc, tokens)
+    }
+}
+
+#[tactic(auto, unfolding(crate::specs::Queries::list_at))]
+fn select_list(alloc: Global, tokens: &[Token]) -> Result<(ListPart, &[Token]), Halt>
+    ensures { Gives (λ x. Found x.0 x.1.now) result (queries.list_at tokens.now) }
+{
+    match kind_of_star(peek(tokens)?) {
+        StarKind::Star => {
+            let rest = star(tokens)?;
+            Ok((ListPart::Star, rest))
+        }
+        StarKind::Other => {
+            let (items, rest) = list(alloc, &Items, tokens)?;
+            Ok((ListPart::Items(Parts::of(items)), rest))
+        }
+    }
+}
+
+/// WHERE and its condition, where it is written.
+#[tactic(auto, unfolding(crate::specs::Queries::where_at))]
+pub fn where_part(alloc: Global, tokens: &[Token]) -> Result<(Option<Cond>, &[Token]), Halt>
+    ensures { Gives (λ x. Found x.0 x.1.now) result (queries.where_at tokens.now) }
+{
+    if !begins(tokens, Keyword::Where) {
+        return Ok((None, tokens));
+    }
+    let rest = word(tokens, Keyword::Where)?;
+    let (cond, rest) = cond(alloc, DEEPEST, rest)?;
+    Ok((Some(cond), rest))
+}
+
+#[tactic(auto, unfolding(crate::specs::Queries::groups_at))]
+fn group_by(alloc: Global, tokens: &[Token]) -> Result<(Parts<Name>, &[Token]), Halt>
+    ensures { Gives (λ x. Found x.0 x.1.now) result (queries.groups_at tokens.now) }
+{
+    if !begins(tokens, Keyword::Group) {
+        return Ok((Parts::of(Vec::new(alloc)), tokens));
+    }
+    let rest = word(tokens, Keyword::Group)?;
+    let rest = word(rest, Keyword::By)?;
+    let (names, rest) = list(alloc, &Names, rest)?;
+    Ok((Parts::of(names), rest))
+}
+
+#[tactic(auto, unfolding(crate::specs::Queries::keys_at))]
+fn order_by(alloc: Global, tokens: &[Token]) -> Result<(Parts<KeyPart>, &[Token]), Halt>
+    ensures { Gives (λ x. Found x.0 x.1.now) result (queries.keys_at tokens.now) }
+{
+    if !begins(tokens, Keyword::Order) {
+        return Ok((Parts::of(Vec::new(alloc)), tokens));
+    }
+    let rest = word(tokens, Keyword::Order)?;
+    let rest = word(rest, Keyword::By)?;
+    let (keys, rest) = list(alloc, &Keys, rest)?;
+    Ok((Parts::of(keys), rest))
+}
+
+/// A query.
+#[tactic(auto, unfolding(crate::specs::Queries::query_at))]
+pub fn query(alloc: Global, tokens: &[Token]) -> Result<(Query, &[Token]), Halt>
+    ensures { Gives (λ x. Found x.0 x.1.now) result (queries.query_at tokens.now) }
+{
+    let rest = word(tokens, Keyword::Select)?;
+    let (list, rest) = select_list(alloc, rest)?;
+    let rest = word(rest, Keyword::From)?;
+    let (table, rest) = name(alloc, rest)?;
+    let (cond, rest) = where_part(alloc, rest)?;
+    let (groups, rest) = group_by(alloc, rest)?;
+    let (keys, rest) = order_by(alloc, rest)?;
+    Ok((
+        Query {
+            list,
+            table,
+            cond,
+            groups,
+            keys,
+        },
+        rest,
+    ))
+}

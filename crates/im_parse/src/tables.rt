@@ -1,0 +1,202 @@
+ghost use Rattle.std.specs.Prelude.{◌≡◌};
+ghost use Rattle.im_readers.specs.Reading.{Found, and_then};
+ghost use Rattle.im_readers.specs.Answers.{Gives};
+ghost use Rattle.im_parse.specs.Marks as marks;
+ghost use Rattle.im_parse.specs.Tables as tables;
+
+use crate::kinds::{AlterKind, ColumnKind};
+use crate::marks::{begins, is_comma, left_paren, level, name, number, peek, right_paren, word};
+use crate::table_kinds::{kind_of_alter, kind_of_column};
+use im_readers::{Halt, Part, list_up_to};
+use im_syntax::{ColumnPart, Keyword, KindWord, Level, MemoryPart, Parts, Stmt, Token};
+use std::alloc::Global;
+
+#[tactic(auto, unfolding(crate::specs::Tables::varchar2_at))]
+fn varchar2(tokens: &[Token]) -> Result<(u16, &[Token]), Halt>
+    ensures { Gives (λ x. Found x.0 x.1.now) result (tables.varchar2_at tokens.now) }
+{
+    let rest = word(tokens, Keyword::Varchar2)?;
+    let rest = left_paren(rest)?;
+    let (length, rest) = number(rest, 1, 255)?;
+    let rest = right_paren(rest)?;
+    Ok((length as u16, rest))
+}
+
+#[tactic(auto, unfolding(crate::specs::Tables::kind_at))]
+fn kind(tokens: &[Token]) -> Result<(KindWord, &[Token]), Halt>
+    ensures { Gives (λ x. Found x.0 x.1.now) result (tables.kind_at tokens.now) }
+{
+    match kind_of_column(peek(tokens)?) {
+        ColumnKind::Number => {
+            let rest = word(tokens, Keyword::Number)?;
+            Ok((KindWord::Number, rest))
+        }
+        ColumnKind::Integer => {
+            let rest = word(tokens, Keyword::Integer)?;
+            Ok((KindWord::Integer, rest))
+        }
+        ColumnKind::Varchar2 => {
+            let (length, rest) = varchar2(tokens)?;
+            Ok((KindWord::Varchar2(length), rest))
+        }
+        ColumnKind::Other => Err(Halt::Left(tokens.len())),
+    }
+}
+
+struct Columns;
+
+impl Part<Token> for Columns {
+    type Value = ColumnPart;
+
+    ghost marks = { marks.is_comma };
+
+    ghost reads = { λ _. tables.column_at };
+
+    fn is_mark(&self, token: &Token) -> bool {
+        is_comma(token)
+    }
+
+    fn read<'a>(
+        &self,
+        alloc: Global,
+        tokens: &'a [Token],
+    ) -> Result<(ColumnPart, &'a [Token]), Halt> {
+        column(alloc, tokens)
+    }
+}
+
+#[tactic(auto, unfolding(crate::specs::Tables::column_at))]
+fn column(alloc: Global, tokens: &[Token]) -> Result<(ColumnPart, &[Token]), Halt>
+    ensures { Gives (λ x. Found x.0 x.1.now) result (tables.column_at tokens.now) }
+{
+    let (name, rest) = name(alloc, tokens)?;
+    let (kind, rest) = kind(rest)?;
+    Ok((ColumnPart { name, kind }, rest))
+}
+
+/// 1 to 16 columns in parentheses.
+#[tactic(auto, unfolding(crate::specs::Tables::columns_at))]
+fn column_list(alloc: Global, tokens: &[Token]) -> Result<(Parts<ColumnPart>, &[Token]), Halt>
+    ensures { Gives (λ x. Found x.0 x.1.now) result (tables.columns_at tokens.now) }
+{
+    let rest = left_paren(tokens)?;
+    let (columns, rest) = list_up_to(alloc, &Columns, 15, rest)?;
+    let rest = right_paren(rest)?;
+    Ok((Parts::of(columns), rest))
+}
+
+#[tactic(auto, unfolding(crate::specs::Tables::compress_at))]
+fn compress(tokens: &[Token]) -> Result<(bool, &[Token]), Halt>
+    ensures { Gives (λ x. Found x.0 x.1.now) result (tables.compress_at tokens.now) }
+{
+    if !begins(tokens, Keyword::MemCompress) {
+        return Ok((false, tokens));
+    }
+    let rest = word(tokens, Keyword::MemCompress)?;
+    let rest = word(rest, Keyword::For)?;
+    let rest = word(rest, Keyword::Query)?;
+    let rest = word(rest, Keyword::Low)?;
+    Ok((true, rest))
+}
+
+#[tactic(auto, unfolding(crate::specs::Tables::priority_at))]
+fn priority(tokens: &[Token]) -> Result<(Option<Level>, &[Token]), Halt>
+    ensures { Gives (λ x. Found x.0 x.1.now) result (tables.priority_at tokens.now) }
+{
+    if !begins(tokens, Keyword::Priority) {
+        return Ok((None, tokens));
+    }
+    let rest = word(tokens, Keyword::Priority)?;
+    let (level, rest) = level(rest)?;
+    Ok((Some(level), rest))
+}
+
+#[tactic(auto, unfolding(crate::specs::Tables::memory_at))]
+fn memory(tokens: &[Token]) -> Result<(MemoryPart, &[Token]), Halt>
+    ensures { Gives (λ x. Found x.0 x.1.now) result (tables.memory_at tokens.now) }
+{
+    let rest = word(tokens, Keyword::InMemory)?;
+    let (compress, rest) = compress(rest)?;
+    let (level, rest) = priority(rest)?;
+    Ok((MemoryPart { compress, level }, rest))
+}
+
+#[tactic(auto, unfolding(crate::specs::Tables::option_at))]
+fn option(tokens: &[Token], keyword: Keyword) -> Result<(Option<u32>, &[Token]), Halt>
+    ensures { Gives (λ x. Found x.0 x.1.now) result (tables.option_at keyword tokens.now) }
+{
+    if !begins(tokens, keyword) {
+        return Ok((None, tokens));
+    }
+    let rest = word(tokens, keyword)?;
+    let (number, rest) = number(rest, 1, 64)?;
+    Ok((Some(number), rest))
+}
+
+#[tactic(auto, unfolding(crate::specs::Tables::memory_option_at))]
+fn memory_option(tokens: &[Token]) -> Result<(Option<MemoryPart>, &[Token]), Halt>
+    ensures { Gives (λ x. Found x.0 x.1.now) result (tables.memory_option_at tokens.now) }
+{
+    if !begins(tokens, Keyword::InMemory) {
+        return Ok((None, tokens));
+    }
+    let (memory, rest) = memory(tokens)?;
+    Ok((Some(memory), rest))
+}
+
+/// CREATE TABLE.
+#[tactic(auto, unfolding(crate::specs::Tables::create_at))]
+pub fn create(alloc: Global, tokens: &[Token]) -> Result<(Stmt, &[Token]), Halt>
+    ensures { Gives (λ x. Found x.0 x.1.now) result (tables.create_at tokens.now) }
+{
+    let rest = word(tokens, Keyword::Create)?;
+    let rest = word(rest, Keyword::Table)?;
+    let (name, rest) = name(alloc, rest)?;
+    let (columns, rest) = column_list(alloc, rest)?;
+    let (block, rest) = option(rest, Keyword::Block)?;
+    let (extent, rest) = option(rest, Keyword::Extent)?;
+    let (memory, rest) = memory_option(rest)?;
+    Ok((
+        Stmt::Create {
+            name,
+            columns,
+            block,
+            extent,
+            memory,
+        },
+        rest,
+    ))
+}
+
+#[tactic(auto, unfolding(crate::specs::Tables::altered_at))]
+fn altered(tokens: &[Token]) -> Result<(Option<MemoryPart>, &[Token]), Halt>
+    ensures { Gives (λ x. Found x.0 x.1.now) result (tables.altered_at tokens.now) }
+{
+    match kind_of_alter(peek(tokens)?) {
+        AlterKind::Memory => {
+            let (memory, rest) = memory(tokens)?;
+            Ok((Some(memory), rest))
+        }
+        AlterKind::NoMemory => {
+            let rest = word(tokens, Keyword::No)?;
+            let rest = word(rest, Keyword::InMemory)?;
+            Ok((None, rest))
+        }
+        AlterKind::Other => Err(Halt::Left(tokens.len())),
+    }
+}
+
+/// ALTER TABLE.
+#[tactic(auto, unfolding(crate::specs::Tables::alter_at))]
+pub fn alter(alloc: Global, tokens: &[Token]) -> Result<(Stmt, &[Token]), Halt>
+    ensures { Gives (λ x. Found x.0 x.1.now) result (tables.alter_at tokens.now) }
+{
+    let rest = word(tokens, Keyword::Alter)?;
+    let rest = word(rest, Keyword::Table)?;
+    let (name, rest) = name(alloc, rest)?;
+    let (memory, rest) = altered(rest)?;
+    match memory {
+        Some(memory) => Ok((Stmt::AlterMemory { name, memory }, rest)),
+        None => Ok((Stmt::AlterNoMemory { name }, rest)),
+    }
+}

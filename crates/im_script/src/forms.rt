@@ -1,0 +1,139 @@
+ghost use Rattle.std.specs.Prelude.{◌≡◌, ◌≤◌, length, drop, slice_index};
+ghost use Rattle.std.specs.List.{list_all};
+ghost use Rattle.im_lex.specs.Bytes as bytes_of;
+ghost use Rattle.im_script.specs.Forms as forms;
+ghost use Rattle.im_script.specs.Lines.{AreLines};
+
+use crate::form::Form;
+use im_lex::is_blank;
+
+/// The most bytes of a line that is read.
+pub const LONGEST_LINE: usize = 1_048_576;
+
+/// How many blanks begin a line.
+pub fn blanks(line: &[u8]) -> usize
+    ensures count { result ≡ forms.blanks_of line.now }
+    ensures within { result ≤ length line.now }
+{
+    for (i, byte) in line.iter().enumerate() {
+        if !is_blank(*byte) {
+            return i;
+        }
+    }
+    line.len()
+}
+
+fn all_blank(bytes: &[u8]) -> bool
+    ensures { result ≡ list_all bytes_of.is_blank bytes.now }
+{
+    for byte in bytes {
+        if !is_blank(*byte) {
+            return false;
+        }
+    }
+    true
+}
+
+fn byte_at(bytes: &[u8], i: usize) -> u8
+    ensures { result ≡ slice_index bytes.now i }
+{
+    if i < bytes.len() { bytes[i] } else { 0 }
+}
+
+fn is_race(bytes: &[u8]) -> bool
+    ensures { result ≡ forms.is_race bytes.now }
+{
+    if bytes.len() < 5 {
+        return false;
+    }
+    let (front, rest) = bytes.split_at(5);
+    front == b"race>".as_slice() && all_blank(rest)
+}
+
+fn begins_comment(bytes: &[u8]) -> bool
+    ensures { result ≡ bytes_of.begins_comment bytes.now }
+{
+    match bytes {
+        [b'-', b'-', ..] => true,
+        _ => false,
+    }
+}
+
+fn is_low(bytes: &[u8]) -> bool
+    ensures { result ≡ forms.is_low bytes.now }
+{
+    let digit = byte_at(bytes, 0);
+    49 <= digit && digit <= 57 && byte_at(bytes, 1) == b'>'
+}
+
+fn is_high(bytes: &[u8]) -> bool
+    ensures { result ≡ forms.is_high bytes.now }
+{
+    let digit = byte_at(bytes, 1);
+    byte_at(bytes, 0) == b'1' && 48 <= digit && digit <= 54 && byte_at(bytes, 2) == b'>'
+}
+
+fn is_background(bytes: &[u8]) -> bool
+    ensures { result ≡ forms.is_background bytes.now }
+{
+    byte_at(bytes, 0) == b'b' && byte_at(bytes, 1) == b'g' && byte_at(bytes, 2) == b'>'
+}
+
+fn form_behind(blanks: usize, bytes: &[u8]) -> Form
+    requires { blanks ≤ 1048576 }
+    ensures { result ≡ forms.form_behind blanks bytes.now }
+{
+    if bytes.is_empty() {
+        return Form::Skip;
+    }
+    if begins_comment(bytes) {
+        return Form::Skip;
+    }
+    if is_race(bytes) {
+        return Form::Race;
+    }
+    if is_low(bytes) {
+        return Form::Session(u32::from(byte_at(bytes, 0).saturating_sub(48)), blanks + 2);
+    }
+    if is_high(bytes) {
+        return Form::Session(u32::from(byte_at(bytes, 1).saturating_sub(38)), blanks + 3);
+    }
+    if is_background(bytes) {
+        return Form::Background(blanks + 3);
+    }
+    Form::Bare
+}
+
+/// The form of a line.
+pub fn form(line: &[u8]) -> Form
+    ensures { result ≡ forms.form_of line.now }
+{
+    if line.len() > LONGEST_LINE {
+        return Form::Long;
+    }
+    let blanks = blanks(line);
+    form_behind(blanks, &line[blanks..])
+}
+
+/// The first byte that is not blank, from 1, or 0 where there is none.
+pub fn first(line: &[u8]) -> u64
+    ensures { result ≡ forms.first_of line.now }
+{
+    let blanks = blanks(line);
+    if blanks < line.len() {
+        blanks as u64 + 1
+    } else {
+        0
+    }
+}
+
+/// Whom a line names.
+pub fn who(form: Form) -> Option<u32>
+    ensures { result ≡ forms.who_of form }
+{
+    match form {
+        Form::Session(number, _) => Some(number),
+        Form::Background(_) => Some(0),
+        Form::Long | Form::Skip | Form::Race | Form::Bare => None,
+    }
+}

@@ -1,0 +1,10 @@
+pub mod Keywords
+pub mod Condition
+pub mod ConditionCode
+pub mod ConditionFalls
+pub mod Written
+pub mod WrittenCode
+pub mod WrittenFalls
+pub mod Words
+pub mod Spelling
+pub mod Rules

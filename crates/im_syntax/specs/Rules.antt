@@ -1,0 +1,164 @@
+-- Which values of the syntax are statements: what names, numbers and lists must be, and how deep a condition nests.
+use Rattle.std.specs.Prelude.{◌≡◌, ℕ, zero, suc, ◌≤◌, List, Option}
+use Rattle.std.specs.List.{AllByRecursion}
+use Rattle.im_readers.specs.Grammar.{Any, GoodOptional, GoodJoined, GoodJoinedUpTo}
+use Rattle.im_syntax.specs.declared.literal.Lit.{Lit}
+use Rattle.im_syntax.specs.declared.table.KindWord.{KindWord}
+use Rattle.im_syntax.specs.declared.table.KindWord.TheVariants as kind
+use Rattle.im_syntax.specs.declared.table.ColumnPart.{ColumnPart}
+use Rattle.im_syntax.specs.declared.query.ItemPart.{ItemPart}
+use Rattle.im_syntax.specs.declared.query.ItemPart.TheVariants as item
+use Rattle.im_syntax.specs.declared.query.KeyPart.{KeyPart}
+use Rattle.im_syntax.specs.declared.query.ListPart.{ListPart}
+use Rattle.im_syntax.specs.declared.query.ListPart.TheVariants as list
+use Rattle.im_syntax.specs.declared.query.Query.{Query}
+use Rattle.im_syntax.specs.declared.statement.Side.{Side}
+use Rattle.im_syntax.specs.declared.statement.Side.TheVariants as side
+use Rattle.im_syntax.specs.declared.statement.Stmt.{Stmt}
+use Rattle.im_syntax.specs.declared.statement.Stmt.TheVariants as stmt
+use Rattle.im_syntax.specs.Condition.{TermOf, negation, nested, comparison, null_test, between, within, ConjOf, no_term, and_term, CondOf, no_conj, or_conj}
+use Rattle.im_syntax.specs.Words.{IsName}
+
+-- a number from low to high
+pub record IsWithin (low high n : ℕ) : Type 0 where
+  pub low_end : low ≤ n
+  pub high_end : n ≤ high
+
+-- a list of literals is not empty
+abbrev pub IsTuple : List Lit → Type 0
+IsTuple = GoodJoined Any
+
+-- ---- conditions
+
+-- NOT and parentheses may nest so deep in a condition
+abbrev pub deepest : ℕ
+deepest = 64
+
+-- a term in which they nest at most d deep, and lists of such terms
+abbrev mutual
+  pub IsTerm : ℕ → TermOf (List ℕ) Lit → Type 0
+  IsTerm zero (negation t) = ⊥
+  IsTerm (suc d) (negation t) = IsTerm d t
+  IsTerm zero (nested c) = ⊥
+  IsTerm (suc d) (nested c) = IsCond d c
+  IsTerm d (comparison column cmp value) = IsName column
+  IsTerm d (null_test column negated) = IsName column
+  IsTerm d (between column negated low high) = IsName column
+  IsTerm d (within column negated values) = IsName column × IsTuple values
+
+  -- one term or more
+  pub IsConj : ℕ → ConjOf (List ℕ) Lit → Type 0
+  IsConj d no_term = ⊥
+  IsConj d (and_term t ts) = IsTerm d t × AreTerms d ts
+
+  pub AreTerms : ℕ → ConjOf (List ℕ) Lit → Type 0
+  AreTerms d no_term = Unit {0}
+  AreTerms d (and_term t ts) = IsTerm d t × AreTerms d ts
+
+  -- one conjunction or more
+  pub IsCond : ℕ → CondOf (List ℕ) Lit → Type 0
+  IsCond d no_conj = ⊥
+  IsCond d (or_conj c cs) = IsConj d c × AreConjs d cs
+
+  pub AreConjs : ℕ → CondOf (List ℕ) Lit → Type 0
+  AreConjs d no_conj = Unit {0}
+  AreConjs d (or_conj c cs) = IsConj d c × AreConjs d cs
+
+abbrev pub IsWhere : Option (CondOf (List ℕ) Lit) → Type 0
+IsWhere = GoodOptional (IsCond deepest)
+
+-- ---- queries
+
+abbrev pub IsItem : ItemPart → Type 0
+IsItem (item.Column n) = IsName n
+IsItem item.CountAll = Unit {0}
+IsItem (item.Count n) = IsName n
+IsItem (item.Sum n) = IsName n
+IsItem (item.Min n) = IsName n
+IsItem (item.Max n) = IsName n
+
+abbrev pub IsKey : KeyPart → Type 0
+IsKey k = IsItem k.item
+
+abbrev pub IsList : ListPart → Type 0
+IsList list.Star = Unit {0}
+IsList (list.Items items) = GoodJoined IsItem items
+
+pub record IsQuery (q : Query) : Type 0 where
+  pub list : IsList q.list
+  pub table : IsName q.table
+  pub cond : IsWhere q.cond
+  pub groups : AllByRecursion IsName q.groups
+  pub keys : AllByRecursion IsKey q.keys
+
+-- ---- tables
+
+abbrev pub IsKind : KindWord → Type 0
+IsKind kind.Number = Unit {0}
+IsKind kind.Integer = Unit {0}
+IsKind (kind.Varchar2 n) = IsWithin 1 255 n
+
+abbrev pub IsColumn : ColumnPart → Type 0
+IsColumn c = IsName c.name × IsKind c.kind
+
+-- a table of 1 to 16 columns
+pub record IsCreate (n : List ℕ) (cs : List ColumnPart) (b e : Option ℕ) : Type 0 where
+  pub name : IsName n
+  pub columns : GoodJoinedUpTo 15 IsColumn cs
+  pub block : GoodOptional (IsWithin 1 64) b
+  pub extent : GoodOptional (IsWithin 1 64) e
+
+pub record IsInsert (n : List ℕ) (cs : List (List ℕ)) (ts : List (List Lit)) : Type 0 where
+  pub name : IsName n
+  pub columns : AllByRecursion IsName cs
+  pub tuples : GoodJoined IsTuple ts
+
+abbrev pub IsSet : List ℕ × Lit → Type 0
+IsSet s = IsName s.0
+
+pub record IsUpdate (n : List ℕ) (ss : List (List ℕ × Lit)) (c : Option (CondOf (List ℕ) Lit)) : Type 0 where
+  pub name : IsName n
+  pub sets : GoodJoined IsSet ss
+  pub cond : IsWhere c
+
+-- ---- statements
+
+abbrev pub IsStmt : Stmt → Type 0
+IsStmt (stmt.Select q) = IsQuery q
+IsStmt (stmt.Explain q) = IsQuery q
+IsStmt (stmt.Create name columns block extent memory) = IsCreate name columns block extent
+IsStmt (stmt.AlterMemory name memory) = IsName name
+IsStmt (stmt.AlterNoMemory name) = IsName name
+IsStmt (stmt.Insert name columns tuples) = IsInsert name columns tuples
+IsStmt (stmt.Update name sets cond) = IsUpdate name sets cond
+IsStmt (stmt.Delete name cond) = IsName name × IsWhere cond
+IsStmt stmt.SetReadOnly = Unit {0}
+IsStmt stmt.SetSerializable = Unit {0}
+IsStmt stmt.SetCommitted = Unit {0}
+IsStmt stmt.Commit = Unit {0}
+IsStmt stmt.Rollback = Unit {0}
+IsStmt (stmt.OpenFor cursor q) = IsWithin 1 999 cursor × IsQuery q
+IsStmt (stmt.Step cursor) = IsWithin 1 999 cursor
+IsStmt (stmt.Fetch cursor) = IsWithin 1 999 cursor
+IsStmt (stmt.Close cursor) = IsWithin 1 999 cursor
+IsStmt stmt.Run = Unit {0}
+IsStmt stmt.Begin = Unit {0}
+IsStmt stmt.Switch = Unit {0}
+IsStmt stmt.Cancel = Unit {0}
+IsStmt (stmt.Trickle n) = IsWithin 1 1000000 n
+IsStmt (stmt.Evict name extent) = IsName name × IsWithin 0 4294967295 extent
+
+-- whose statement it is
+abbrev pub side_of : Stmt → Side
+side_of stmt.Run = side.Background
+side_of stmt.Begin = side.Background
+side_of stmt.Switch = side.Background
+side_of stmt.Cancel = side.Background
+side_of (stmt.Trickle n) = side.Background
+side_of (stmt.Evict name extent) = side.Background
+side_of s = side.Session
+
+-- a statement of one side
+pub record IsStmtOf (whose : Side) (s : Stmt) : Type 0 where
+  pub is_stmt : IsStmt s
+  pub is_of : side_of s ≡ whose

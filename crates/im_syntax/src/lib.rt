@@ -1,0 +1,40 @@
+//! Tokens, statements, and the one spelling of each statement.
+//!
+//! A [`Stmt`] keeps each optional part as written or absent, so it has one list of tokens: `spelling`, in
+//! `specs/Spelling.antt`, which [`spell`] computes. `IsStmt`, in `specs/Rules.antt`, says which values are statements:
+//! what names, numbers and lists must be, and how deep a condition nests. Contracts see a [`Parts`] as a list and a
+//! condition as a tree (`specs/Condition.antt`), so two of them are equal in a contract exactly where they are written
+//! alike. The words that the language keeps for itself are the [`Keyword`]s; [`is_name`] tests what else a word may be.
+//!
+//! Start with `statement.rt`, then `specs/Rules.antt` and `specs/Spelling.antt`.
+#![tactic(auto)]
+
+mod condition;
+mod keyword;
+mod literal;
+mod parts;
+mod query;
+mod spell_condition;
+mod spell_query;
+mod spell_rows;
+mod spell_statement;
+mod spell_table;
+mod spelled;
+mod statement;
+mod table;
+mod token;
+mod word;
+
+pub use condition::{Cond, Conj, Term, Test};
+pub use keyword::Keyword;
+pub use literal::Lit;
+pub use parts::Parts;
+pub use query::{ItemPart, KeyPart, ListPart, Query, Way};
+pub use spell_statement::spell;
+pub use statement::{Side, Stmt};
+pub use table::{ColumnPart, KindWord, Level, MemoryPart};
+pub use token::{Sign, Token};
+pub use word::{LONGEST_WORD, is_name, is_word, is_word_byte};
+
+#[cfg(test)]
+mod tests;

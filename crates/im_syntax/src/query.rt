@@ -1,0 +1,46 @@
+use crate::condition::Cond;
+use crate::parts::Parts;
+use im_values::Name;
+
+/// One column of an answer.
+#[derive(Debug, Drop)]
+pub enum ItemPart {
+    Column(Name),
+    CountAll,
+    Count(Name),
+    Sum(Name),
+    Min(Name),
+    Max(Name),
+}
+
+/// The direction of a key of ORDER BY as it is written.
+#[derive(Clone, Copy, Debug, PartialEq, Eq)]
+pub enum Way {
+    Unsaid,
+    Asc,
+    Desc,
+}
+
+/// A key of ORDER BY.
+#[derive(Debug, Drop)]
+pub struct KeyPart {
+    pub item: ItemPart,
+    pub way: Way,
+}
+
+/// What a query answers: each column, or these items.
+#[derive(Debug, Drop)]
+pub enum ListPart {
+    Star,
+    Items(Parts<ItemPart>),
+}
+
+/// A query. `groups` and `keys` are empty where the clause is not written.
+#[derive(Debug, Drop)]
+pub struct Query {
+    pub list: ListPart,
+    pub table: Name,
+    pub cond: Option<Cond>,
+    pub groups: Parts<Name>,
+    pub keys: Parts<KeyPart>,
+}

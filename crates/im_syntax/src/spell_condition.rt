@@ -1,0 +1,123 @@
+ghost use Rattle.std.specs.Prelude.{◌≡◌, ◌++◌, ◌∷◌, [], ◌==◌, if◌then◌else◌, OnOk};
+ghost use Rattle.im_syntax.specs.Spelling as spelled;
+
+use crate::condition::{Cond, Conj, Term, Test};
+use crate::keyword::Keyword;
+use crate::spelled::{put_in_parens, put_lit, put_name, put_sign, put_word};
+use crate::token::{Sign, Token};
+use im_values::{Cmp, NoMemory};
+use std::alloc::Global;
+
+fn sign_of(cmp: Cmp) -> Sign
+    ensures { result ≡ spelled.cmp_sign cmp }
+{
+    match cmp {
+        Cmp::Eq => Sign::Eq,
+        Cmp::Ne => Sign::Ne,
+        Cmp::Lt => Sign::Lt,
+        Cmp::Le => Sign::Le,
+        Cmp::Gt => Sign::Gt,
+        Cmp::Ge => Sign::Ge,
+    }
+}
+
+fn put_not(alloc: Global, out: &mut Vec<Token>, negated: bool) -> Result<(), NoMemory>
+    ensures { OnOk result (out.new.items ≡ out.old.items ++ spelled.spell_not negated) }
+{
+    if negated {
+        put_word(alloc, out, Keyword::Not)
+    } else {
+        Ok(())
+    }
+}
+
+/// The word that stands before each part but the first.
+fn put_between(
+    alloc: Global,
+    out: &mut Vec<Token>,
+    keyword: Keyword,
+    index: usize,
+) -> Result<(), NoMemory>
+    ensures { OnOk result (out.new.items
+        ≡ out.old.items ++ (if index == 0 then [] else (spelled.word keyword ∷ []))) }
+{
+    if index == 0 {
+        Ok(())
+    } else {
+        put_word(alloc, out, keyword)
+    }
+}
+
+#[cycle(put_condition)]
+fn put_term(alloc: Global, out: &mut Vec<Token>, term: &Term) -> Result<(), NoMemory>
+    ensures { OnOk result (out.new.items ≡ out.old.items ++ spelled.spell_term term.now) }
+{
+    match term.test() {
+        Test::Not(term) => {
+            put_word(alloc, out, Keyword::Not)?;
+            put_term(alloc, out, term)
+        }
+        Test::Nest(cond) => {
+            put_sign(out, Sign::LeftParen)?;
+            put_cond(alloc, out, cond)?;
+            put_sign(out, Sign::RightParen)
+        }
+        Test::Compare { column, cmp, value } => {
+            put_name(alloc, out, column)?;
+            put_sign(out, sign_of(*cmp))?;
+            put_lit(alloc, out, value)
+        }
+        Test::IsNull { column, negated } => {
+            put_name(alloc, out, column)?;
+            put_word(alloc, out, Keyword::Is)?;
+            put_not(alloc, out, *negated)?;
+            put_word(alloc, out, Keyword::Null)
+        }
+        Test::Between {
+            column,
+            negated,
+            low,
+            high,
+        } => {
+            put_name(alloc, out, column)?;
+            put_not(alloc, out, *negated)?;
+            put_word(alloc, out, Keyword::Between)?;
+            put_lit(alloc, out, low)?;
+            put_word(alloc, out, Keyword::And)?;
+            put_lit(alloc, out, high)
+        }
+        Test::Within {
+            column,
+            negated,
+            values,
+        } => {
+            put_name(alloc, out, column)?;
+            put_not(alloc, out, *negated)?;
+            put_word(alloc, out, Keyword::In)?;
+            put_in_parens(alloc, out, values.items())
+        }
+    }
+}
+
+#[cycle(put_condition)]
+fn put_conj(alloc: Global, out: &mut Vec<Token>, conj: &Conj) -> Result<(), NoMemory>
+    ensures { OnOk result (out.new.items ≡ out.old.items ++ spelled.spell_conj conj.now) }
+{
+    for (i, term) in conj.terms().iter().enumerate() {
+        put_between(alloc, out, Keyword::And, i)?;
+        put_term(alloc, out, term)?;
+    }
+    Ok(())
+}
+
+/// The tokens of a condition.
+#[cycle(put_condition)]
+pub fn put_cond(alloc: Global, out: &mut Vec<Token>, cond: &Cond) -> Result<(), NoMemory>
+    ensures { OnOk result (out.new.items ≡ out.old.items ++ spelled.spell_cond cond.now) }
+{
+    for (i, conj) in cond.lists().iter().enumerate() {
+        put_between(alloc, out, Keyword::Or, i)?;
+        put_conj(alloc, out, conj)?;
+    }
+    Ok(())
+}

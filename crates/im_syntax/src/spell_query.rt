@@ -1,0 +1,127 @@
+ghost use Rattle.std.specs.Prelude.{◌≡◌, ◌++◌, ◌∷◌, [], OnOk};
+ghost use Rattle.im_syntax.specs.Spelling as spelled;
+ghost use Rattle.im_syntax.specs.declared.token.Token.TheVariants as token;
+
+use crate::condition::Cond;
+use crate::keyword::Keyword;
+use crate::query::{ItemPart, KeyPart, ListPart, Query, Way};
+use crate::spell_condition::put_cond;
+use crate::spelled::{Spelled, put_list, put_name, put_sign, put_word};
+use crate::token::{Sign, Token};
+use im_values::{Name, NoMemory};
+use std::alloc::Global;
+
+fn put_column_of(
+    alloc: Global,
+    out: &mut Vec<Token>,
+    aggregate: Keyword,
+    column: &Name,
+) -> Result<(), NoMemory>
+    ensures { OnOk result (out.new.items
+        ≡ out.old.items ++ spelled.word aggregate ∷ spelled.in_parens (token.Word column.now ∷ [])) }
+{
+    put_word(alloc, out, aggregate)?;
+    put_sign(out, Sign::LeftParen)?;
+    put_name(alloc, out, column)?;
+    put_sign(out, Sign::RightParen)
+}
+
+impl Spelled for ItemPart {
+    ghost tokens = { spelled.spell_item };
+
+    fn put(&self, alloc: Global, out: &mut Vec<Token>) -> Result<(), NoMemory> {
+        match self {
+            ItemPart::Column(column) => put_name(alloc, out, column),
+            ItemPart::CountAll => {
+                put_word(alloc, out, Keyword::Count)?;
+                put_sign(out, Sign::LeftParen)?;
+                put_sign(out, Sign::Star)?;
+                put_sign(out, Sign::RightParen)
+            }
+            ItemPart::Count(column) => put_column_of(alloc, out, Keyword::Count, column),
+            ItemPart::Sum(column) => put_column_of(alloc, out, Keyword::Sum, column),
+            ItemPart::Min(column) => put_column_of(alloc, out, Keyword::Min, column),
+            ItemPart::Max(column) => put_column_of(alloc, out, Keyword::Max, column),
+        }
+    }
+}
+
+fn put_way(alloc: Global, out: &mut Vec<Token>, way: Way) -> Result<(), NoMemory>
+    ensures { OnOk result (out.new.items ≡ out.old.items ++ spelled.spell_way way) }
+{
+    match way {
+        Way::Unsaid => Ok(()),
+        Way::Asc => put_word(alloc, out, Keyword::Asc),
+        Way::Desc => put_word(alloc, out, Keyword::Desc),
+    }
+}
+
+impl Spelled for KeyPart {
+    ghost tokens = { spelled.spell_key };
+
+    fn put(&self, alloc: Global, out: &mut Vec<Token>) -> Result<(), NoMemory> {
+        self.item.put(alloc, out)?;
+        put_way(alloc, out, self.way)
+    }
+}
+
+fn put_select_list(alloc: Global, out: &mut Vec<Token>, list: &ListPart) -> Result<(), NoMemory>
+    ensures { OnOk result (out.new.items ≡ out.old.items ++ spelled.spell_list list.now) }
+{
+    match list {
+        ListPart::Star => put_sign(out, Sign::Star),
+        ListPart::Items(items) => put_list(alloc, out, items.items()),
+    }
+}
+
+/// WHERE and its condition, where it is written.
+pub fn put_where(alloc: Global, out: &mut Vec<Token>, cond: &Option<Cond>) -> Result<(), NoMemory>
+    ensures { OnOk result (out.new.items ≡ out.old.items ++ spelled.spell_where cond.now) }
+{
+    match cond {
+        None => Ok(()),
+        Some(cond) => {
+            put_word(alloc, out, Keyword::Where)?;
+            put_cond(alloc, out, cond)
+        }
+    }
+}
+
+fn put_groups(alloc: Global, out: &mut Vec<Token>, groups: &[Name]) -> Result<(), NoMemory>
+    ensures { OnOk result (out.new.items ≡ out.old.items ++ spelled.spell_groups groups.now) }
+{
+    match groups {
+        [] => Ok(()),
+        [_, ..] => {
+            put_word(alloc, out, Keyword::Group)?;
+            put_word(alloc, out, Keyword::By)?;
+            put_list(alloc, out, groups)
+        }
+    }
+}
+
+fn put_keys(alloc: Global, out: &mut Vec<Token>, keys: &[KeyPart]) -> Result<(), NoMemory>
+    ensures { OnOk result (out.new.items ≡ out.old.items ++ spelled.spell_keys keys.now) }
+{
+    match keys {
+        [] => Ok(()),
+        [_, ..] => {
+            put_word(alloc, out, Keyword::Order)?;
+            put_word(alloc, out, Keyword::By)?;
+            put_list(alloc, out, keys)
+        }
+    }
+}
+
+/// The tokens of a query.
+pub fn put_query(alloc: Global, out: &mut Vec<Token>, query: &Query) -> Result<(), NoMemory>
+    ensures { OnOk result (out.new.items ≡ out.old.items ++ spelled.spell_query query.now) }
+{
+    put_word(alloc, out, Keyword::Select)?;
+    put_select_list(alloc, out, &query.list)?;
+    put_word(alloc, out, Keyword::From)?;
+    put_name(alloc, out, &query.table)?;
+    put_where(alloc, out, &query.cond)?;
+    put_groups(alloc, out, query.groups.items())?;
+    put_keys(alloc, out, query.keys.items())
+}

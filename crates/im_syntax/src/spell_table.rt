@@ -1,0 +1,157 @@
+ghost use Rattle.std.specs.Prelude.{◌≡◌, ◌++◌, ◌∷◌, [], OnOk};
+ghost use Rattle.im_readers.specs.Grammar.{spell_optional};
+ghost use Rattle.im_syntax.specs.Spelling as spelled;
+ghost use Rattle.im_syntax.specs.declared.token.Token.TheVariants as token;
+ghost use Rattle.im_syntax.specs.declared.keyword.Keyword.TheVariants as key;
+ghost use Rattle.im_syntax.specs.declared.statement.Stmt.TheVariants as stmt;
+
+use crate::keyword::Keyword;
+use crate::spelled::{Spelled, put_in_parens, put_name, put_number, put_sign, put_word};
+use crate::table::{ColumnPart, KindWord, Level, MemoryPart};
+use crate::token::{Sign, Token};
+use im_values::{Name, NoMemory};
+use std::alloc::Global;
+
+fn put_kind(alloc: Global, out: &mut Vec<Token>, kind: KindWord) -> Result<(), NoMemory>
+    ensures { OnOk result (out.new.items ≡ out.old.items ++ spelled.spell_kind kind) }
+{
+    match kind {
+        KindWord::Number => put_word(alloc, out, Keyword::Number),
+        KindWord::Integer => put_word(alloc, out, Keyword::Integer),
+        KindWord::Varchar2(length) => {
+            put_word(alloc, out, Keyword::Varchar2)?;
+            put_sign(out, Sign::LeftParen)?;
+            put_number(out, u32::from(length))?;
+            put_sign(out, Sign::RightParen)
+        }
+    }
+}
+
+impl Spelled for ColumnPart {
+    ghost tokens = { spelled.spell_column };
+
+    fn put(&self, alloc: Global, out: &mut Vec<Token>) -> Result<(), NoMemory> {
+        put_name(alloc, out, &self.name)?;
+        put_kind(alloc, out, self.kind)
+    }
+}
+
+fn level_word(level: Level) -> Keyword
+    ensures { result ≡ spelled.level_word level }
+{
+    match level {
+        Level::Critical => Keyword::Critical,
+        Level::High => Keyword::High,
+        Level::Medium => Keyword::Medium,
+        Level::Low => Keyword::Low,
+        Level::None => Keyword::None,
+    }
+}
+
+fn put_compress(alloc: Global, out: &mut Vec<Token>, compress: bool) -> Result<(), NoMemory>
+    ensures { OnOk result (out.new.items ≡ out.old.items ++ spelled.spell_compress compress) }
+{
+    if !compress {
+        return Ok(());
+    }
+    put_word(alloc, out, Keyword::MemCompress)?;
+    put_word(alloc, out, Keyword::For)?;
+    put_word(alloc, out, Keyword::Query)?;
+    put_word(alloc, out, Keyword::Low)
+}
+
+/// An INMEMORY clause.
+pub fn put_memory(alloc: Global, out: &mut Vec<Token>, memory: MemoryPart) -> Result<(), NoMemory>
+    ensures { OnOk result (out.new.items ≡ out.old.items ++ spelled.spell_memory memory) }
+{
+    put_word(alloc, out, Keyword::InMemory)?;
+    put_compress(alloc, out, memory.compress)?;
+    match memory.level {
+        None => Ok(()),
+        Some(level) => {
+            put_word(alloc, out, Keyword::Priority)?;
+            put_word(alloc, out, level_word(level))
+        }
+    }
+}
+
+fn put_option(
+    alloc: Global,
+    out: &mut Vec<Token>,
+    keyword: Keyword,
+    number: Option<u32>,
+) -> Result<(), NoMemory>
+    ensures { OnOk result (out.new.items ≡ out.old.items ++ spelled.spell_option keyword number) }
+{
+    match number {
+        None => Ok(()),
+        Some(number) => {
+            put_word(alloc, out, keyword)?;
+            put_number(out, number)
+        }
+    }
+}
+
+fn put_shape(
+    alloc: Global,
+    out: &mut Vec<Token>,
+    block: Option<u32>,
+    extent: Option<u32>,
+    memory: Option<MemoryPart>,
+) -> Result<(), NoMemory>
+    ensures { OnOk result (out.new.items ≡ out.old.items ++ (spelled.spell_option key.Block block
+        ++ (spelled.spell_option key.Extent extent ++ spell_optional spelled.spell_memory memory))) }
+{
+    put_option(alloc, out, Keyword::Block, block)?;
+    put_option(alloc, out, Keyword::Extent, extent)?;
+    match memory {
+        None => Ok(()),
+        Some(memory) => put_memory(alloc, out, memory),
+    }
+}
+
+/// CREATE TABLE.
+pub fn put_create(
+    alloc: Global,
+    out: &mut Vec<Token>,
+    name: &Name,
+    columns: &[ColumnPart],
+    block: Option<u32>,
+    extent: Option<u32>,
+    memory: Option<MemoryPart>,
+) -> Result<(), NoMemory>
+    ensures { OnOk result (out.new.items
+        ≡ out.old.items ++ spelled.spelling (stmt.Create name.now columns.now block extent memory)) }
+{
+    put_word(alloc, out, Keyword::Create)?;
+    put_word(alloc, out, Keyword::Table)?;
+    put_name(alloc, out, name)?;
+    put_in_parens(alloc, out, columns)?;
+    put_shape(alloc, out, block, extent, memory)
+}
+
+/// ALTER TABLE with an INMEMORY clause.
+pub fn put_alter_memory(
+    alloc: Global,
+    out: &mut Vec<Token>,
+    name: &Name,
+    memory: MemoryPart,
+) -> Result<(), NoMemory>
+    ensures { OnOk result (out.new.items ≡ out.old.items ++ spelled.spelling (stmt.AlterMemory name.now memory)) }
+{
+    put_word(alloc, out, Keyword::Alter)?;
+    put_word(alloc, out, Keyword::Table)?;
+    put_name(alloc, out, name)?;
+    put_memory(alloc, out, memory)
+}
+
+/// ALTER TABLE with NO INMEMORY.
+pub fn put_alter_no_memory(alloc: Global, out: &mut Vec<Token>, name: &Name) -> Result<(), NoMemory>
+    ensures { OnOk result (out.new.items ≡ out.old.items ++ spelled.spelling (stmt.AlterNoMemory name.now)) }
+{
+    put_word(alloc, out, Keyword::Alter)?;
+    put_word(alloc, out, Keyword::Table)?;
+    put_name(alloc, out, name)?;
+    put_word(alloc, out, Keyword::No)?;
+    put_word(alloc, out, Keyword::InMemory)
+}

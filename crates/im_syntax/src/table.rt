@@ -1,0 +1,36 @@
+use im_values::Name;
+
+/// The kind of a column as it is written: INTEGER is another word for NUMBER.
+#[derive(Clone, Copy, Debug, PartialEq, Eq)]
+pub enum KindWord {
+    Number,
+    Integer,
+    /// A text of at most so many bytes, 1 to 255.
+    Varchar2(u16),
+}
+
+/// A column of a table that is created.
+#[derive(Debug, Drop)]
+pub struct ColumnPart {
+    pub name: Name,
+    pub kind: KindWord,
+}
+
+/// How soon a table is populated in the column store.
+#[derive(Clone, Copy, Debug, PartialEq, Eq)]
+pub enum Level {
+    Critical,
+    High,
+    Medium,
+    Low,
+    None,
+}
+
+/// An INMEMORY clause as it is written.
+#[derive(Clone, Copy, Debug, PartialEq, Eq)]
+pub struct MemoryPart {
+    /// MEMCOMPRESS FOR QUERY LOW is written.
+    pub compress: bool,
+    /// The level behind PRIORITY, where that is written.
+    pub level: Option<Level>,
+}

@@ -1,0 +1,28 @@
+use im_values::Name;
+
+/// A sign of the language. `!=` is [`Sign::Ne`], as `<>` is.
+#[derive(Clone, Copy, Debug, PartialEq, Eq)]
+pub enum Sign {
+    LeftParen,
+    RightParen,
+    Comma,
+    Star,
+    Eq,
+    Lt,
+    Le,
+    Gt,
+    Ge,
+    Ne,
+}
+
+/// The smallest part of a line that has a meaning.
+#[derive(Debug, PartialEq, Eq, Drop)]
+pub enum Token {
+    /// A word in capitals: a keyword, or the name of a table or a column.
+    Word(Name),
+    /// A whole number of 64 bits.
+    Int(i64),
+    /// The bytes of a text, without its quotes.
+    Text(Name),
+    Sign(Sign),
+}

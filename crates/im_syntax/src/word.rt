@@ -1,0 +1,51 @@
+ghost use Rattle.std.specs.Prelude.{◌≡◌, ◌↔◌, IsTrue};
+ghost use Rattle.std.specs.List.{list_all};
+ghost use Rattle.im_syntax.specs.Words as words;
+ghost use Rattle.im_syntax.specs.Spelling.{spelling};
+ghost use Rattle.im_syntax.specs.Rules.{IsStmt};
+
+use crate::keyword::Keyword;
+
+/// The most bytes that a word has.
+pub const LONGEST_WORD: usize = 128;
+
+/// Whether a byte goes on in a word: a capital, a digit, `_`, `$` or `#`.
+pub fn is_word_byte(byte: u8) -> bool
+    ensures { result ≡ words.is_word_byte byte }
+{
+    byte.is_ascii_uppercase()
+        || byte.is_ascii_digit()
+        || byte == b'_'
+        || byte == b'$'
+        || byte == b'#'
+}
+
+fn are_word_bytes(bytes: &[u8]) -> bool
+    ensures { result ≡ list_all words.is_word_byte bytes.now }
+{
+    for byte in bytes {
+        if !is_word_byte(*byte) {
+            return false;
+        }
+    }
+    true
+}
+
+/// Whether the bytes are a word in capitals.
+pub fn is_word(bytes: &[u8]) -> bool
+    ensures { result ≡ words.is_word bytes.now }
+{
+    match bytes {
+        [] => false,
+        [first, rest @ ..] => {
+            first.is_ascii_uppercase() && bytes.len() <= LONGEST_WORD && are_word_bytes(rest)
+        }
+    }
+}
+
+/// Whether the bytes are a word in capitals that is no keyword.
+pub fn is_name(bytes: &[u8]) -> bool
+    ensures { IsTrue result ↔ words.IsName bytes.now }
+{
+    is_word(bytes) && Keyword::of(bytes).is_none()
+}
