@@ -48,9 +48,9 @@ place_once good ts n m p q =
     elim (cases_lt n m) [
       | inl less ↦ absurd (not_longer good ts n m p q less)
       | inr more ↦ elim (cases_lt m n) [
-          | inl less ↦ absurd (not_longer good ts m n q p less)
-          | inr same ↦ omega arith
-        ]
+        | inl less ↦ absurd (not_longer good ts m n q p less)
+        | inr same ↦ omega arith
+      ]
     ]
 
 module _ (whose : Side) (before : ℕ) (line : List ℕ) (of : Stmt → LineKind) where

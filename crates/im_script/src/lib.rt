@@ -15,6 +15,7 @@ mod reading;
 mod script;
 
 pub use line::{Line, LineKind};
+pub use reading::line_of;
 pub use script::{lines, one_kind};
 
 #[cfg(test)]

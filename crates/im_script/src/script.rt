@@ -56,5 +56,4 @@ pub fn one_kind()
     ensures { (line : List ℕ) (a b : AnyKind) →
         lines_are.HasKind (forms.form_of line) line a → lines_are.HasKind (forms.form_of line) line b →
         a ≢ kind.NoMemory → b ≢ kind.NoMemory → a ≡ b }
-{
-}
+{}
