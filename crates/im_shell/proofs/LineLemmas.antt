@@ -2,17 +2,19 @@
 use Rattle.std.proofs.Common.{◌≡◌, ◌==◌, ℕ, zero, suc, ◌+◌, ◌≤◌, not, Bool, true, false, if◌then◌else◌, List, [], ◌∷◌, length, take, drop, refl, sym, ap, ◌∙◌, ◌-◌, ◌<◌, one-add, length-drop, arith}
 use Rattle.std.proofs.lemmas.List.{take_all}
 use Rattle.std.specs.List.{prefix_len}
-use Rattle.im_shell.specs.Lines.{lines_of, onto_first}
+use Rattle.im_script.specs.Forms.{lines_of, before_first}
 
 -- the length of the first line
 abbrev pub line_len : List ℕ → ℕ
 line_len text = prefix_len (λ byte. not (byte == 10)) text
 
-first : (byte : ℕ) (rest : List ℕ) (feed : Bool) → (lines_of rest ≡ take (line_len rest) rest ∷ lines_of (drop (suc (line_len rest)) rest)) → (if feed then [] ∷ lines_of rest else onto_first byte (lines_of rest)) ≡ take (if not feed then 1 + line_len rest else 0) (byte ∷ rest) ∷ lines_of (drop (suc (if not feed then 1 + line_len rest else 0)) (byte ∷ rest))
+first : (byte : ℕ) (rest : List ℕ) (feed : Bool) → (lines_of rest ≡ take (line_len rest) rest ∷ lines_of (drop (suc (line_len rest)) rest)) → (if feed then [] ∷ lines_of rest else before_first byte (lines_of rest)) ≡ take (if not feed then 1 + line_len rest else 0) (byte ∷ rest) ∷ lines_of (drop (suc (if not feed then 1 + line_len rest else 0)) (byte ∷ rest))
+unfolding lines_of
 first byte rest true known = refl
 first byte rest false known = rw (known, one-add) refl
 
 pub lines_of-first : (text : List ℕ) → 1 ≤ length text → lines_of text ≡ take (line_len text) text ∷ lines_of (drop (suc (line_len text)) text)
+unfolding lines_of
 lines_of-first [] some = absurd (omega arith)
 lines_of-first (byte ∷ []) some = last (byte == 10)
   where

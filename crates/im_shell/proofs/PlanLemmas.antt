@@ -16,10 +16,9 @@ use Rattle.im_history.proofs.Laws.{scn-push, begun-push}
 use Rattle.im_plan.specs.Goes.{After, Nobody, Ends, Goes}
 use Rattle.im_plan.specs.Plan.{Plan, End, Turn, made, counted}
 use Rattle.im_shell.specs.declared.reply.Reply.{Reply}
-use Rattle.im_shell.specs.declared.command.Command.{Command}
 use Rattle.im_shell.specs.declared.reply.Body.TheVariants.{Created, Inserted, Committed, Counted}
 use Rattle.im_shell.specs.declared.reply.Fault.{Fault}
-use Rattle.im_shell.specs.Machine.{look, answer_at, amends, memory_reply, number_column, table_named, rows_seen, with_table, insert_row, count_rows, create_refusal, unless_refused, or_refused, create_last, commit_plan, insert_plan, count_plan, create_plan, command_plan, who_of, IsRest, IsLine}
+use Rattle.im_shell.specs.Machine.{look, answer_at, amends, memory_reply, number_column, table_named, rows_seen, with_table, insert_row, count_rows, create_refusal, unless_refused, or_refused, create_last, commit_plan, insert_plan, count_plan, create_plan, Request, IsRest, IsAnswer}
 use Rattle.std.specs.List.{list_any}
 
 -- nobody came between
@@ -131,5 +130,5 @@ create-committed who h middle new name column reply open_now middle_is rest =
     (rest-look who 1 (h ++ record { who = who; what = what.Commit } ∷ []) (λ after. create_last name column) reply new (rw middle_is at rest))))
 
 -- a whole line, none of whose entries was made before
-pub line-from_rest : (command : Command) (h : History) (reply : Reply) (new : History) → IsRest (who_of command) 0 h (command_plan command) reply new → IsLine command h reply new
-line-from_rest command h reply new rest = record { line = record { whole = rest.rest } }
+pub answer-from_rest : (request : Request) (h : History) (reply : Reply) (new : History) → IsRest request.who 0 h request.plan reply new → IsAnswer request h reply new
+answer-from_rest request h reply new rest = record { line = record { whole = rest.rest } }

@@ -4,14 +4,19 @@ use Rattle.std.proofs.lemmas.List.{take-append-drop}
 use Rattle.im_edge.specs.Writing.{Took, TookPart}
 use Rattle.im_edge.proofs.ForCallers.{Took-nil, Took-append}
 use Rattle.im_history.specs.History.{History}
-use Rattle.im_plan.specs.Alone.{Played, may_lack}
+use Rattle.im_plan.specs.Alone.{Played}
 use Rattle.im_plan.proofs.AloneLaws.{line_alone}
 use Rattle.im_shell.specs.declared.reply.Reply.{Reply}
-use Rattle.im_shell.specs.Commands.{command_of}
-use Rattle.im_shell.specs.Lines.{lines_of}
-use Rattle.im_shell.specs.Machine.{command_plan, who_of, amends, IsLine}
-use Rattle.im_shell.specs.Play.{play_line, replies, may_lack_in, IsPlayed, IsPlayedInPart, Sends, Plays, PlaysInPart, IsSoFar, PlaysNext}
-use Rattle.im_shell.specs.Texts.{body_text, text_from}
+use Rattle.im_script.specs.declared.form.Form.{Form}
+use Rattle.im_script.specs.declared.form.Form.TheVariants as form
+use Rattle.im_script.specs.declared.line.Line.{Line}
+use Rattle.im_script.specs.declared.line.LineKind.{LineKind}
+use Rattle.im_script.specs.declared.line.LineKind.TheVariants as kind
+use Rattle.im_script.specs.Forms.{lines_of, first_of, form_of, who_of}
+use Rattle.im_script.specs.Lines.{AreLines, IsLine, HasKind, no_memory}
+use Rattle.im_shell.specs.Machine.{Request, asked, request_of, with_request, requests_of, amends, IsAnswer, IsAnswered}
+use Rattle.im_shell.specs.Play.{play_request, replies, may_lack_in, reply_text, IsPlayed, IsPlayedInPart, Sends, Plays, PlaysInPart, IsSoFar, PlaysNext}
+use Rattle.im_shell.specs.Texts.{body_text, text_of}
 
 -- a fact that holds anyway holds where a call failed
 pub OnErr-always : {T E P : Type 0} (r : Result T E) → P → OnErr r P
@@ -19,45 +24,113 @@ OnErr-always (Ok value) p = tt
 OnErr-always (Err error) p = p
 
 -- memory may lack in no line
-may_lack_in-nil : (h : History) (lines : List (List ℕ)) → may_lack_in [] h lines ≡ true
+may_lack_in-nil : (h : History) (requests : List Request) → may_lack_in [] h requests ≡ true
 may_lack_in-nil h [] = refl
-may_lack_in-nil h (line ∷ lines) = may_lack_in-nil (play_line None h line).history lines
+may_lack_in-nil h (request ∷ requests) = may_lack_in-nil (play_request None h request).history requests
+
+-- ---- any lines can be read: those with a statement at least so that memory lacked
+
+abbrev kind_by : Form → List ℕ → LineKind
+kind_by form.Long line = kind.Long (length line)
+kind_by form.Skip line = kind.Skip
+kind_by form.Race line = kind.Race
+kind_by form.Bare line = kind.Bad (first_of line)
+kind_by (form.Session n before) line = kind.NoMemory
+kind_by (form.Background before) line = kind.NoMemory
+
+has_kind : (f : Form) (line : List ℕ) → HasKind f line (kind_by f line)
+has_kind form.Long line = refl
+has_kind form.Skip line = refl
+has_kind form.Race line = refl
+has_kind form.Bare line = refl
+has_kind (form.Session n before) line = no_memory
+has_kind (form.Background before) line = no_memory
+
+abbrev some_lines : ℕ → List (List ℕ) → List Line
+some_lines n [] = []
+some_lines n (line ∷ lines) =
+    record { number = n; first = first_of line; who = who_of (form_of line); kind = kind_by (form_of line) line } ∷ some_lines (n + 1) lines
+
+are_lines : (n : ℕ) (lines : List (List ℕ)) → AreLines n lines (some_lines n lines)
+are_lines n [] = tt
+are_lines n (line ∷ lines) =
+    (record { number = refl; first = refl; who = refl; kind = has_kind (form_of line) line }, are_lines (n + 1) lines)
 
 -- ---- what the lines so far come to
 
 pub IsSoFar-start : (script : List ℕ) → IsSoFar script [] 1 [] script
-IsSoFar-start script = record { on = λ lacked lawful. record { played = record { lacked = lacked; lawful = lawful; text_is = refl } } }
+IsSoFar-start script = record { on = λ lines read lacked lawful. record { lines = lines; read = read; played = record { lacked = lacked; lawful = lawful; text_is = refl } } }
 
-module _ (script written : List ℕ) (number : ℕ) (h new : History) (rest behind line : List ℕ) (reply : Reply) where
+-- a request has its line's number
+numbered : (n : ℕ) (request other : Request) → other.number ≡ n → Some other ≡ Some request → request.number ≡ n
+numbered n request other is same = cc
+
+asked-number : (n : ℕ) (k : LineKind) (request : Request) → asked n k ≡ Some request → request.number ≡ n
+asked-number n kind.Skip request is = absurd (cc)
+asked-number n kind.Race request is = absurd (cc)
+asked-number n (kind.Long length) request is = numbered n request _ refl is
+asked-number n (kind.Bad byte) request is = numbered n request _ refl is
+asked-number n (kind.Session who statement) request is = numbered n request _ refl is
+asked-number n (kind.Background statement) request is = numbered n request _ refl is
+asked-number n kind.NoMemory request is = numbered n request _ refl is
+
+module _ (script written : List ℕ) (number : ℕ) (h new : History) (rest behind bytes : List ℕ) (line : Line) where
+  -- whatever the lines behind the next one come to
+  onward : IsSoFar script written number h rest → lines_of rest ≡ bytes ∷ lines_of behind → IsLine number bytes line → (lines : List Line) → AreLines (number + 1) (lines_of behind) lines → (lacked : List (Option ℕ)) → may_lack_in lacked h (with_request (request_of line) (requests_of lines)) ≡ true → IsPlayed script (written ++ text_of (replies lacked h (with_request (request_of line) (requests_of lines))))
+  onward so_far lines_are read lines more = so_far.on (line ∷ lines) (subst (λ (l : List (List ℕ)). AreLines number l (line ∷ lines)) (sym lines_are) (read, more))
+
   -- the next line, played to this reply and this history, and then those behind it
-  abbrev Onward : List (Option ℕ) → Played Reply → Type 0
-  Onward lacked played =
-      may_lack_in lacked played.history (lines_of behind) ≡ true →
-      IsPlayed script (written ++ (body_text number played.result.body ++ text_from (number + 1) (replies lacked played.history (lines_of behind))))
+  abbrev Onward : List Line → List (Option ℕ) → ℕ → Played Reply → Type 0
+  Onward lines lacked n played =
+      may_lack_in lacked played.history (requests_of lines) ≡ true →
+      IsPlayed script (written ++ (body_text n played.result.body ++ text_of (replies lacked played.history (requests_of lines))))
 
-  onward : IsSoFar script written number h rest → lines_of rest ≡ line ∷ lines_of behind → (first : Option ℕ) → may_lack (who_of (command_of line)) h (command_plan (command_of line)) first ≡ true → (lacked : List (Option ℕ)) → Onward lacked (play_line first h line)
-  onward so_far lines_are first may lacked lawful =
-      subst (λ (lines : List (List ℕ)). may_lack_in (first ∷ lacked) h lines ≡ true → IsPlayed script (written ++ text_from number (replies (first ∷ lacked) h lines))) lines_are (so_far.on (first ∷ lacked)) (rw may lawful)
+  next_none : IsSoFar script written number h rest → lines_of rest ≡ bytes ∷ lines_of behind → IsLine number bytes line → request_of line ≡ None → new ≡ h → IsSoFar script (written ++ []) (number + 1) new behind
+  next_none so_far lines_are read none new_is = record {
+    on = λ lines more lacked lawful.
+        let whole : may_lack_in lacked h (requests_of lines) ≡ true → IsPlayed script (written ++ text_of (replies lacked h (requests_of lines))) = rw none at (onward so_far lines_are read lines more lacked) in
+        rw (new_is, append-nil written) (whole (rw new_is at lawful));
+  }
 
-  pub IsSoFar-next : IsSoFar script written number h rest → lines_of rest ≡ line ∷ lines_of behind → IsLine (command_of line) h reply new → IsSoFar script (written ++ body_text number reply.body) (number + 1) new behind
-  IsSoFar-next so_far lines_are is_line =
-      let machine = line_alone (who_of (command_of line)) (amends (who_of (command_of line))) h (command_plan (command_of line)) reply new is_line.line in
+  next_some : (request : Request) (reply : Reply) → IsSoFar script written number h rest → lines_of rest ≡ bytes ∷ lines_of behind → IsLine number bytes line → request_of line ≡ Some request → IsAnswer request h reply new → IsSoFar script (written ++ body_text number reply.body) (number + 1) new behind
+  next_some request reply so_far lines_are read is answer =
+      let machine = line_alone request.who (amends request.who) h request.plan reply new answer.line in
+      let numbered : request.number ≡ number = asked-number line.number line.kind request is ∙ read.number in
       record {
-        on = λ lacked lawful.
-            let played = subst (Onward lacked) machine.same (onward so_far lines_are machine.lacked machine.lawful lacked) lawful in
-            subst (IsPlayed script) (sym (append_assoc written (body_text number reply.body) (text_from (number + 1) (replies lacked new (lines_of behind))))) played;
+        on = λ lines more lacked lawful.
+            let whole : may_lack_in (machine.lacked ∷ lacked) h (request ∷ requests_of lines) ≡ true → IsPlayed script (written ++ text_of (replies (machine.lacked ∷ lacked) h (request ∷ requests_of lines))) = rw is at (onward so_far lines_are read lines more (machine.lacked ∷ lacked)) in
+            let going : Onward lines lacked request.number (play_request machine.lacked h request) = λ may. whole (rw machine.lawful may) in
+            let played = subst (Onward lines lacked request.number) machine.same going lawful in
+            subst (IsPlayed script) (ap (λ (n : ℕ). written ++ (body_text n reply.body ++ text_of (replies lacked new (requests_of lines)))) numbered ∙ sym (append_assoc written (body_text number reply.body) (text_of (replies lacked new (requests_of lines))))) played;
       }
+
+  next_by : (request : Option Request) (reply : Option Reply) → IsSoFar script written number h rest → lines_of rest ≡ bytes ∷ lines_of behind → IsLine number bytes line → request_of line ≡ request → IsAnswered request h reply new → IsSoFar script (written ++ reply_text number reply) (number + 1) new behind
+  next_by None None so_far lines_are read is answered = next_none so_far lines_are read is answered
+  next_by None (Some reply) so_far lines_are read is answered = absurd answered
+  next_by (Some request) None so_far lines_are read is answered = absurd answered
+  next_by (Some request) (Some reply) so_far lines_are read is answered = next_some request reply so_far lines_are read is answered
+
+  pub IsSoFar-next : (reply : Option Reply) → IsSoFar script written number h rest → lines_of rest ≡ bytes ∷ lines_of behind → IsLine number bytes line → IsAnswered (request_of line) h reply new → IsSoFar script (written ++ reply_text number reply) (number + 1) new behind
+  IsSoFar-next reply so_far lines_are read answered = next_by (request_of line) reply so_far lines_are read refl answered
+
+-- nothing has no lines
+lines_of-nil : lines_of [] ≡ []
+unfolding lines_of
+lines_of-nil = refl
 
 pub IsSoFar-end : (script written : List ℕ) (number : ℕ) (h : History) (rest : List ℕ) → IsSoFar script written number h rest → rest ≡ [] → IsPlayed script written
 IsSoFar-end script written number h rest so_far none =
-    subst (IsPlayed script) (append-nil written) ((subst (λ (left : List ℕ). IsSoFar script written number h left) none so_far).on [] refl)
+    let no_lines : lines_of rest ≡ [] = ap lines_of none ∙ lines_of-nil in
+    subst (IsPlayed script) (append-nil written) (so_far.on [] (subst (λ (l : List (List ℕ)). AreLines number l []) (sym no_lines) tt) [] refl)
 
 -- a front of what was written is a front of what the script comes to
 pub IsSoFar-part : (script written : List ℕ) (number : ℕ) (h : History) (rest front more : List ℕ) → IsSoFar script written number h rest → written ≡ front ++ more → IsPlayedInPart script front
-IsSoFar-part script written number h rest front more so_far split = record {
-  rest = more ++ text_from number (replies [] h (lines_of rest));
-  played = subst (IsPlayed script) (ap (λ (text : List ℕ). text ++ text_from number (replies [] h (lines_of rest))) split ∙ append_assoc front more _) (so_far.on [] (may_lack_in-nil h (lines_of rest)));
-}
+IsSoFar-part script written number h rest front more so_far split =
+    let lines = some_lines number (lines_of rest) in
+    record {
+      rest = more ++ text_of (replies [] h (requests_of lines));
+      played = subst (IsPlayed script) (ap (λ (text : List ℕ). text ++ text_of (replies [] h (requests_of lines))) split ∙ append_assoc front more _) (so_far.on lines (are_lines number (lines_of rest)) [] (may_lack_in-nil h (requests_of lines)));
+    }
 
 -- ---- what was sent
 
@@ -97,9 +170,9 @@ IsGoing-start script taken waiting none = record {
 
 pub IsGoing-next : (script : List ℕ) (before now after : Option (List ℕ)) (number : ℕ) (h new : History) (rest behind line waiting middle new_waiting : List ℕ) → IsGoing script before now number h rest waiting → lines_of rest ≡ line ∷ lines_of behind → length behind + 1 ≤ length rest → PlaysNext line number h new waiting middle → Sends now after middle new_waiting → IsGoing script before after (number + 1) new behind new_waiting
 IsGoing-next script before now after number h new rest behind line waiting middle new_waiting going lines_are shorter next sends = record {
-  written = going.written ++ body_text number next.reply.body;
-  so_far = IsSoFar-next script going.written number h new rest behind line next.reply going.so_far lines_are next.line_is;
-  sends = Sends-after before now after _ middle new_waiting (Sends-more before now going.written waiting (body_text number next.reply.body) middle going.sends next.text) sends;
+  written = going.written ++ reply_text number next.reply;
+  so_far = IsSoFar-next script going.written number h new rest behind line next.plays.line next.reply going.so_far lines_are next.plays.read.is_line next.plays.answers.answered;
+  sends = Sends-after before now after _ middle new_waiting (Sends-more before now going.written waiting (reply_text number next.reply) middle going.sends next.text) sends;
   numbered = omega (arith, going.numbered);
 }
 

@@ -1,7 +1,6 @@
-pub mod Commands
+pub mod Built
 pub mod Counting
 pub mod Engine
-pub mod Lines
 pub mod Machine
 pub mod Names
 pub mod Play

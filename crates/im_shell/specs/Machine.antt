@@ -15,12 +15,14 @@ use Rattle.im_history.specs.Legal.{put_from}
 use Rattle.im_history.specs.Rows.{Row, seen, present, snapshot, own_changes}
 use Rattle.im_history.specs.Tables.{tables, is_named, name_is_taken, given}
 use Rattle.im_history.specs.Transactions.{is_open}
-use Rattle.im_plan.specs.Goes.{Line, Nobody, Rest}
+use Rattle.im_plan.specs.Goes.{Line as Whole, Nobody, Rest}
 use Rattle.im_plan.specs.Plan.{Plan, End, Turn}
-use Rattle.im_shell.specs.declared.command.Command.{Command}
-use Rattle.im_shell.specs.declared.command.Command.TheVariants.{Session, NotBuilt}
-use Rattle.im_shell.specs.declared.command.Statement.{Statement}
-use Rattle.im_shell.specs.declared.command.Statement.TheVariants.{Create, Insert, Commit, Count}
+use Rattle.im_syntax.specs.declared.statement.Stmt.{Stmt}
+use Rattle.im_syntax.specs.declared.statement.Stmt.TheVariants.{Create, Insert, Commit, Select}
+use Rattle.im_script.specs.declared.line.Line.{Line}
+use Rattle.im_script.specs.declared.line.LineKind.{LineKind}
+use Rattle.im_script.specs.declared.line.LineKind.TheVariants as line
+use Rattle.im_shell.specs.Built.{is_nil, is_bare, number_column_alone, integer_alone, is_count_alone}
 use Rattle.im_shell.specs.declared.reply.Body.{Body}
 use Rattle.im_shell.specs.declared.reply.Body.TheVariants.{Created, Inserted, Committed, Counted, Error}
 use Rattle.im_shell.specs.declared.reply.Fault.{Fault}
@@ -118,22 +120,24 @@ count_rows who table =
 abbrev pub count_plan : ℕ → List ℕ → Plan Reply
 count_plan who name = look (λ at. with_table name at (count_rows who) (table_named at name))
 
--- the plan of a statement of a session; a name is one letter, and a row one number
-abbrev pub statement_plan : ℕ → Statement → Plan Reply
-statement_plan who (Create table column) = create_plan who (table ∷ []) (column ∷ [])
-statement_plan who (Insert table number) = insert_plan (table ∷ []) (row_of number)
+-- a line that is refused before anything is looked up
+abbrev pub refusal : Fault → Plan Reply
+refusal why = End (record { place = None; body = Error why })
+
+-- the plan of what was found in a statement, where it is played
+abbrev pub if_built : {X : Type 0} → (X → Plan Reply) → Option X → Plan Reply
+if_built plan None = refusal fault.NotBuilt
+if_built plan (Some found) = plan found
+
+-- the plan of a statement of a session
+abbrev pub statement_plan : ℕ → Stmt → Plan Reply
+statement_plan who (Create name columns block extent memory) =
+    if_built (create_plan who name) (if is_bare block extent memory then number_column_alone columns else None)
+statement_plan who (Insert name columns tuples) =
+    if_built (λ number. insert_plan name (row_of number)) (if is_nil columns then integer_alone tuples else None)
 statement_plan who Commit = commit_plan
-statement_plan who (Count table) = count_plan who (table ∷ [])
-
--- the plan of a line
-abbrev pub command_plan : Command → Plan Reply
-command_plan (Session who statement) = statement_plan who statement
-command_plan NotBuilt = End (record { place = None; body = Error fault.NotBuilt })
-
--- the number that the line's entries have; a line of no form adds none
-abbrev pub who_of : Command → ℕ
-who_of (Session who statement) = who
-who_of NotBuilt = 0
+statement_plan who (Select query) = if is_count_alone query then count_plan who query.table else refusal fault.NotBuilt
+statement_plan who statement = refusal fault.NotBuilt
 
 -- the reply of a line that lacked memory after k entries
 abbrev pub memory_reply : ℕ → Reply
@@ -147,6 +151,58 @@ amends who k = Turn false (λ at. if is_cursor_open at who 0 then Some (what.Shu
 pub record IsRest (who k : ℕ) (old : History) (plan : Plan Reply) (reply : Reply) (new : History) : Type 0 where
   pub rest : Rest Nobody who (amends who) k old plan reply new
 
--- a whole line that is played alone
-pub record IsLine (command : Command) (old : History) (reply : Reply) (new : History) : Type 0 where
-  pub line : Line Nobody (who_of command) (amends (who_of command)) old (command_plan command) reply new
+-- ---- lines
+
+-- whose statement a line has
+abbrev pub who_of : LineKind → ℕ
+who_of (line.Session who statement) = who
+who_of kind = 0
+
+-- what a line asks for: its number, the number that its entries have, and its plan
+pub record Request : Type 0 where
+  pub number : ℕ
+  pub who : ℕ
+  pub plan : Plan Reply
+
+-- a line that adds no entry
+abbrev pub without_entries : ℕ → Plan Reply → Request
+without_entries number plan = record { number = number; who = 0; plan = plan }
+
+-- what a line of this kind asks for; blanks, comments and the end of a prelude ask for nothing
+abbrev pub asked : ℕ → LineKind → Option Request
+asked number line.Skip = None
+asked number line.Race = None
+asked number (line.Long length) = Some (without_entries number (refusal (fault.LineTooLong length)))
+asked number (line.Bad byte) = Some (without_entries number (refusal (fault.Syntax byte)))
+asked number (line.Session who statement) = Some (record { number = number; who = who; plan = statement_plan who statement })
+asked number (line.Background statement) = Some (without_entries number (refusal fault.NotBuilt))
+asked number line.NoMemory = Some (without_entries number (End (memory_reply 0)))
+
+-- what a line asks for
+abbrev pub request_of : Line → Option Request
+request_of line = asked line.number line.kind
+
+-- one more request, where there is one
+abbrev pub with_request : Option Request → List Request → List Request
+with_request None requests = requests
+with_request (Some request) requests = request ∷ requests
+
+-- what lines ask for, in order
+abbrev pub requests_of : List Line → List Request
+requests_of [] = []
+requests_of (line ∷ lines) = with_request (request_of line) (requests_of lines)
+
+-- a whole line, played alone
+pub record IsAnswer (request : Request) (old : History) (reply : Reply) (new : History) : Type 0 where
+  pub line : Whole Nobody request.who (amends request.who) old request.plan reply new
+
+-- where nothing is asked for there is no reply, and the history stays
+abbrev pub IsAnswered : Option Request → History → Option Reply → History → Type 0
+IsAnswered None old None new = new ≡ old
+IsAnswered None old (Some reply) new = ⊥
+IsAnswered (Some request) old None new = ⊥
+IsAnswered (Some request) old (Some reply) new = IsAnswer request old reply new
+
+-- a line was played to its reply, where it has one
+pub record Answers (line : Line) (old : History) (reply : Option Reply) (new : History) : Type 0 where
+  pub answered : IsAnswered (request_of line) old reply new

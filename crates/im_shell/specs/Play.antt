@@ -1,17 +1,18 @@
 -- A script, played line by line with nobody else there.
-use Rattle.std.specs.Prelude.{◌≡◌, ℕ, Bool, true, ◌&&◌, List, [], ◌∷◌, ◌++◌, Option, None}
+use Rattle.std.specs.Prelude.{◌≡◌, ℕ, Bool, true, ◌&&◌, List, [], ◌∷◌, ◌++◌, Option, Some, None}
 use Rattle.im_edge.specs.Writing.{Took}
 use Rattle.im_history.specs.History.{History}
 use Rattle.im_plan.specs.Alone.{Played, play_or_cut, may_lack}
 use Rattle.im_shell.specs.declared.reply.Reply.{Reply}
-use Rattle.im_shell.specs.Commands.{command_of}
-use Rattle.im_shell.specs.Lines.{lines_of}
-use Rattle.im_shell.specs.Machine.{command_plan, who_of, amends, IsLine}
-use Rattle.im_shell.specs.Texts.{body_text, text_from}
+use Rattle.im_script.specs.declared.line.Line.{Line}
+use Rattle.im_script.specs.Forms.{lines_of}
+use Rattle.im_script.specs.Lines.{AreLines, IsLine}
+use Rattle.im_shell.specs.Machine.{Request, requests_of, amends, Answers}
+use Rattle.im_shell.specs.Texts.{body_text, text_of}
 
--- one line, memory having lacked after so many entries of it or not at all
-abbrev pub play_line : Option ℕ → History → List ℕ → Played Reply
-play_line lacked history line = play_or_cut (who_of (command_of line)) (amends (who_of (command_of line))) lacked history (command_plan (command_of line))
+-- one request, memory having lacked after so many entries of it or not at all
+abbrev pub play_request : Option ℕ → History → Request → Played Reply
+play_request lacked history request = play_or_cut request.who (amends request.who) lacked history request.plan
 
 -- where memory lacked in the first of these lines
 abbrev pub first_of : List (Option ℕ) → Option ℕ
@@ -23,35 +24,38 @@ abbrev pub rest_of : List (Option ℕ) → List (Option ℕ)
 rest_of [] = []
 rest_of (first ∷ rest) = rest
 
--- the replies to the lines of a script, in order
-abbrev pub replies : List (Option ℕ) → History → List (List ℕ) → List Reply
+-- the replies to requests, in order, each with its line's number
+abbrev pub replies : List (Option ℕ) → History → List Request → List (ℕ × Reply)
 replies lacked history [] = []
-replies lacked history (line ∷ lines) =
-    let played = play_line (first_of lacked) history line in
-    played.result ∷ replies (rest_of lacked) played.history lines
+replies lacked history (request ∷ requests) =
+    let played = play_request (first_of lacked) history request in
+    (request.number, played.result) ∷ replies (rest_of lacked) played.history requests
 
 -- the history that they leave
-abbrev pub history_after : List (Option ℕ) → History → List (List ℕ) → History
+abbrev pub history_after : List (Option ℕ) → History → List Request → History
 history_after lacked history [] = history
-history_after lacked history (line ∷ lines) = history_after (rest_of lacked) (play_line (first_of lacked) history line).history lines
+history_after lacked history (request ∷ requests) =
+    history_after (rest_of lacked) (play_request (first_of lacked) history request).history requests
 
 -- memory may lack so: in each line before the entry that decides it
-abbrev pub may_lack_in : List (Option ℕ) → History → List (List ℕ) → Bool
+abbrev pub may_lack_in : List (Option ℕ) → History → List Request → Bool
 may_lack_in lacked history [] = true
-may_lack_in lacked history (line ∷ lines) =
-    may_lack (who_of (command_of line)) history (command_plan (command_of line)) (first_of lacked)
-    && may_lack_in (rest_of lacked) (play_line (first_of lacked) history line).history lines
+may_lack_in lacked history (request ∷ requests) =
+    may_lack request.who history request.plan (first_of lacked)
+    && may_lack_in (rest_of lacked) (play_request (first_of lacked) history request).history requests
 
--- the text is that of the replies to these lines, which are numbered from this one on. `lacked` says of each line whether
--- memory lacked in it and after how many of its entries: these are the lines that are answered so, and no others
-pub record IsTextFrom (number : ℕ) (history : History) (lines : List (List ℕ)) (text : List ℕ) : Type 0 where
+-- the text is that of the replies to these requests. `lacked` says of each whether memory lacked in it and after how many
+-- of its entries: these are the lines that are answered so, beside those that lacked memory to be read, and no others
+pub record IsTextOf (history : History) (requests : List Request) (text : List ℕ) : Type 0 where
   pub lacked : List (Option ℕ)
-  pub lawful : may_lack_in lacked history lines ≡ true
-  pub text_is : text ≡ text_from number (replies lacked history lines)
+  pub lawful : may_lack_in lacked history requests ≡ true
+  pub text_is : text ≡ text_of (replies lacked history requests)
 
 -- the text is that of the replies to a script
 pub record IsPlayed (script text : List ℕ) : Type 0 where
-  pub played : IsTextFrom 1 [] (lines_of script) text
+  pub lines : List Line
+  pub read : AreLines 1 (lines_of script) lines
+  pub played : IsTextOf [] (requests_of lines) text
 
 -- the text is a front of such a text, perhaps all of it
 pub record IsPlayedInPart (script text : List ℕ) : Type 0 where
@@ -78,10 +82,27 @@ pub record PlaysInPart (script : List ℕ) (before after : Option (List ℕ)) : 
 
 -- so far: whatever the lines of the rest come to, the whole script comes to the text written so far and then that
 pub record IsSoFar (script written : List ℕ) (number : ℕ) (history : History) (rest : List ℕ) : Type 0 where
-  pub on : (lacked : List (Option ℕ)) → may_lack_in lacked history (lines_of rest) ≡ true → IsPlayed script (written ++ text_from number (replies lacked history (lines_of rest)))
+  pub on : (lines : List Line) → AreLines number (lines_of rest) lines
+      → (lacked : List (Option ℕ)) → may_lack_in lacked history (requests_of lines) ≡ true
+      → IsPlayed script (written ++ text_of (replies lacked history (requests_of lines)))
+
+-- what comes behind the text that waits: the reply to a line, where there is one
+abbrev pub reply_text : ℕ → Option Reply → List ℕ
+reply_text number None = []
+reply_text number (Some reply) = body_text number reply.body
+
+-- the line of these bytes, with its number
+pub record IsRead (number : ℕ) (bytes : List ℕ) (line : Line) : Type 0 where
+  pub is_line : IsLine number bytes line
+
+-- a line was read and played to its reply, where it has one
+pub record PlaysBytes (bytes : List ℕ) (number : ℕ) (old : History) (reply : Option Reply) (new : History) : Type 0 where
+  pub line : Line
+  pub read : IsRead number bytes line
+  pub answers : Answers line old reply new
 
 -- a line was played, and the text of its reply came behind what waits to be written
-pub record PlaysNext (line : List ℕ) (number : ℕ) (old new : History) (waiting new_waiting : List ℕ) : Type 0 where
-  pub reply : Reply
-  pub line_is : IsLine (command_of line) old reply new
-  pub text : new_waiting ≡ waiting ++ body_text number reply.body
+pub record PlaysNext (bytes : List ℕ) (number : ℕ) (old new : History) (waiting new_waiting : List ℕ) : Type 0 where
+  pub reply : Option Reply
+  pub plays : PlaysBytes bytes number old reply new
+  pub text : new_waiting ≡ waiting ++ reply_text number reply

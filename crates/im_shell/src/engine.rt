@@ -142,21 +142,27 @@ impl Engine {
     }
 
     /// Creates a table of one column of numbers.
-    pub fn create(&mut self, alloc: Global, who: u32, name: u8, column: u8) -> Result<(), NoMemory>
+    pub fn create(
+        &mut self,
+        alloc: Global,
+        who: u32,
+        name: &[u8],
+        column: &[u8],
+    ) -> Result<(), NoMemory>
         requires session { who < NUMBERS }
         requires idle { is_open self.old who ≡ false }
-        requires free { name_is_taken self.old (name ∷ []) ≡ false }
+        requires free { name_is_taken self.old name.now ≡ false }
         requires room { nat_lt (length (tables self.old)) 64 ≡ true }
         ensures ok { OnOk result
-            (Adds self.old who (what.Create (name ∷ []) (number_column (column ∷ [])) default_grid) self.new) }
+            (Adds self.old who (what.Create name.now (number_column column.now) default_grid) self.new) }
         ensures err { OnErr result (self.new ≡ self.old) }
     {
         let kept = Kept {
-            name: Name::of(alloc, &[name])?,
+            name: Name::of(alloc, name)?,
             given: 0,
         };
         let created = What::Create {
-            name: Name::of(alloc, &[name])?,
+            name: Name::of(alloc, name)?,
             schema: column_of_numbers(alloc, column)?,
             shape: Shape::standard(),
         };
@@ -216,12 +222,12 @@ impl Engine {
 }
 
 /// A schema of one column of numbers.
-fn column_of_numbers(alloc: Global, column: u8) -> Result<Schema, NoMemory>
-    ensures { IfOk result (λ schema. schema ≡ number_column (column ∷ [])) }
+fn column_of_numbers(alloc: Global, column: &[u8]) -> Result<Schema, NoMemory>
+    ensures { IfOk result (λ schema. schema ≡ number_column column.now) }
 {
     let mut columns = Vec::with_capacity(alloc, 1)?;
     columns.push(Column {
-        name: Name::of(alloc, &[column])?,
+        name: Name::of(alloc, column)?,
         kind: Kind::Int,
     })?;
     Ok(Schema::of(columns))

@@ -1,8 +1,8 @@
 //! The program's one call, [`run`]: it reads a script from a source, plays it line by line over a store of its own, and
 //! writes the replies to a sink.
 //!
-//! What must be believed is in `specs/`. `Lines.antt` cuts a script into lines, `Commands.antt` says which lines are
-//! played, `Machine.antt` has the plan of each statement, `Play.antt` plays a whole script and says where memory may
+//! What must be believed is in `specs/`. The lines of a script are those of `im_script`. `Built.antt` says which
+//! statements are played, `Machine.antt` has the plan of each statement, `Play.antt` plays a whole script and says where memory may
 //! lack, and `Texts.antt` has the text of each reply. The store is [`engine`](engine): the recorded history, and beside
 //! it what the next line asks for, in agreement with it (`specs/Engine.antt`). Only a count reads the history again
 //! (`specs/Counting.antt`).
@@ -10,7 +10,7 @@
 //! The main promise is the clause `done` of [`run`]. Start with `top.rt`, then `specs/Play.antt`.
 #![tactic(auto)]
 
-mod command;
+mod built;
 mod counting;
 mod engine;
 mod lines;

@@ -1,6 +1,6 @@
 ghost use Rattle.std.specs.Prelude.{◌≡◌, ◌==◌, ◌∷◌, ◌+◌, ◌≤◌, length, not};
 ghost use Rattle.std.specs.List.{prefix_len};
-ghost use Rattle.im_shell.specs.Lines.{lines_of};
+ghost use Rattle.im_script.specs.Forms.{lines_of};
 
 /// How many bytes stand before the first line feed, or in all.
 fn line_len(text: &[u8]) -> usize

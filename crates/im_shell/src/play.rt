@@ -1,14 +1,17 @@
-ghost use Rattle.std.specs.Prelude.{◌≡◌, ◌≤◌, [], ◌++◌, IfOk, OnOk, OnErr, IsErrOf};
+ghost use Rattle.std.specs.Prelude.{◌≡◌, ◌<◌, ◌≤◌, [], ◌++◌, IfOk, OnOk, OnErr, IsErrOf};
 ghost use Rattle.im_edge.specs.Faults.{Rose};
 ghost use Rattle.im_edge.specs.Writing.{Took, TookPart};
 ghost use Rattle.im_shell.specs.declared.play.Stop.TheVariants as stop;
-ghost use Rattle.im_shell.specs.Play.{Sends, Plays, PlaysInPart, PlaysNext};
+ghost use Rattle.im_shell.specs.Machine.{who_of};
+ghost use Rattle.im_shell.specs.Play.{IsRead, reply_text, Sends, Plays, PlaysBytes, PlaysInPart, PlaysNext};
 
 use crate::engine::Engine;
 use crate::lines::first_line;
 use crate::player::play_line;
+use crate::reply::Reply;
 use crate::text::body_text;
 use im_edge::{Sink, WriteFault, write_all};
+use im_script::{Line, line_of};
 use im_values::{NoMemory, Steps};
 use std::alloc::Global;
 use std::sync::ledger::Ledger;
@@ -44,22 +47,59 @@ impl From<NoMemory> for Stop {
     }
 }
 
+/// The line of these bytes. A session that it names is known.
+fn read_line(alloc: Global, number: u64, bytes: &[u8]) -> Line
+    ensures read { IsRead number bytes.now result }
+    ensures known { who_of result.kind < 25 }
+{
+    line_of(alloc, number, bytes)
+}
+
+/// Reads the next line, and plays it.
+fn play_bytes<L: Ledger>(
+    alloc: Global,
+    engine: &mut Engine,
+    bytes: &[u8],
+    number: u64,
+    steps: &mut Steps<L>,
+) -> Option<Reply>
+    ensures { PlaysBytes bytes.now number engine.old result engine.new }
+{
+    let line = read_line(alloc, number, bytes);
+    play_line(alloc, engine, &line, steps)
+}
+
+/// Puts the text of a reply, where there is one, behind what waits to be written.
+fn put_reply(
+    alloc: Global,
+    number: u64,
+    reply: &Option<Reply>,
+    waiting: &mut Vec<u8>,
+) -> Result<(), NoMemory>
+    ensures ok { OnOk result (waiting.new.items ≡ waiting.old.items ++ reply_text number reply.now) }
+    ensures err { OnErr result (waiting.new.items ≡ waiting.old.items) }
+{
+    if let Some(reply) = reply {
+        let text = body_text(alloc, number, &reply.body)?;
+        waiting.extend_from_slice(text.as_slice())?;
+    }
+    Ok(())
+}
+
 /// Plays the next line, and puts the text of its reply behind what waits to be written.
 fn play_next<L: Ledger>(
     alloc: Global,
     engine: &mut Engine,
-    line: &[u8],
+    bytes: &[u8],
     number: u64,
     waiting: &mut Vec<u8>,
     steps: &mut Steps<L>,
 ) -> Result<(), NoMemory>
-    ensures ok { OnOk result (PlaysNext line.now number engine.old engine.new waiting.old.items waiting.new.items) }
+    ensures ok { OnOk result (PlaysNext bytes.now number engine.old engine.new waiting.old.items waiting.new.items) }
     ensures err { OnErr result (waiting.new.items ≡ waiting.old.items) }
 {
-    let reply = play_line(alloc, engine, line, steps);
-    let text = body_text(alloc, number, &reply.body)?;
-    waiting.extend_from_slice(text.as_slice())?;
-    Ok(())
+    let reply = play_bytes(alloc, engine, bytes, number, steps);
+    put_reply(alloc, number, &reply, waiting)
 }
 
 /// Writes all that waits.

@@ -1,12 +1,14 @@
 ghost use Rattle.std.specs.Prelude.{◌≡◌, ◌<◌, ◌≤◌, [], ◌∷◌, false, None};
 ghost use Rattle.im_history.specs.Transactions.{is_open};
-ghost use Rattle.im_shell.specs.Commands.{command_of};
+ghost use Rattle.im_shell.specs.declared.reply.Body.TheVariants.{Error};
 ghost use Rattle.im_shell.specs.Machine as machine;
 
-use crate::command::{Command, Statement, command_of};
+use crate::built::{integer_alone, is_bare, is_count_alone, number_column_alone};
 use crate::counting::NUMBERS;
 use crate::engine::Engine;
 use crate::reply::{Body, Fault, Reply};
+use im_script::{Line, LineKind};
+use im_syntax::Stmt;
 use im_values::{Name, NoMemory, Steps};
 use std::alloc::Global;
 use std::sync::ledger::Ledger;
@@ -22,11 +24,11 @@ fn lacked(k: u64) -> Reply
 }
 
 /// The reply that no table has this name.
-fn unknown_table(alloc: Global, engine: &Engine, who: u32, table: u8) -> Reply
-    ensures { machine.IsRest who 0 engine.now (machine.unknown_table (table ∷ []) engine.now) result engine.now }
+fn unknown_table(alloc: Global, engine: &Engine, who: u32, table: &[u8]) -> Reply
+    ensures { machine.IsRest who 0 engine.now (machine.unknown_table table.now engine.now) result engine.now }
 {
     let place = Some(engine.len());
-    match Name::of(alloc, &[table]) {
+    match Name::of(alloc, table) {
         Ok(name) => Reply {
             place,
             body: Body::Error(Fault::UnknownTable { name }),
@@ -51,12 +53,12 @@ fn play_commit(engine: &mut Engine, who: u32) -> Reply
 }
 
 /// Inserts a row of one number.
-fn play_insert(alloc: Global, engine: &mut Engine, who: u32, table: u8, value: i64) -> Reply
+fn play_insert(alloc: Global, engine: &mut Engine, who: u32, table: &[u8], value: i64) -> Reply
     requires { who < NUMBERS }
     ensures { machine.IsRest who 0 engine.old
-        (machine.insert_plan (table ∷ []) (machine.row_of value)) result engine.new }
+        (machine.insert_plan table.now (machine.row_of value)) result engine.new }
 {
-    let Some(number) = engine.table_named(&[table]) else {
+    let Some(number) = engine.table_named(table) else {
         return unknown_table(alloc, engine, who, table);
     };
     let place = Some(engine.len());
@@ -74,13 +76,13 @@ fn play_count<L: Ledger>(
     alloc: Global,
     engine: &mut Engine,
     who: u32,
-    table: u8,
+    table: &[u8],
     steps: &mut Steps<L>,
 ) -> Reply
     requires { who < NUMBERS }
-    ensures { machine.IsRest who 0 engine.old (machine.count_plan who (table ∷ [])) result engine.new }
+    ensures { machine.IsRest who 0 engine.old (machine.count_plan who table.now) result engine.new }
 {
-    let Some(number) = engine.table_named(&[table]) else {
+    let Some(number) = engine.table_named(table) else {
         return unknown_table(alloc, engine, who, table);
     };
     let (place, scn) = (Some(engine.len()), engine.scn());
@@ -101,18 +103,18 @@ fn create_table(
     alloc: Global,
     engine: &mut Engine,
     who: u32,
-    table: u8,
-    column: u8,
+    table: &[u8],
+    column: &[u8],
     entries: u64,
 ) -> Reply
     requires session { who < NUMBERS }
     requires idle { is_open engine.old who ≡ false }
     ensures { machine.IsRest who entries engine.old
-        (machine.create_last (table ∷ []) (column ∷ [])) result engine.new }
+        (machine.create_last table.now column.now) result engine.new }
 {
     let place = Some(engine.len());
-    if engine.is_taken(&[table]) {
-        return match Name::of(alloc, &[table]) {
+    if engine.is_taken(table) {
+        return match Name::of(alloc, table) {
             Ok(name) => Reply {
                 place,
                 body: Body::Error(Fault::TableExists { name }),
@@ -140,10 +142,10 @@ fn create_table(
 }
 
 /// Creates a table. An open transaction of the session is committed first, whether or not the table is then created.
-fn play_create(alloc: Global, engine: &mut Engine, who: u32, table: u8, column: u8) -> Reply
+fn play_create(alloc: Global, engine: &mut Engine, who: u32, table: &[u8], column: &[u8]) -> Reply
     requires { who < NUMBERS }
     ensures { machine.IsRest who 0 engine.old
-        (machine.create_plan who (table ∷ []) (column ∷ [])) result engine.new }
+        (machine.create_plan who table.now column.now) result engine.new }
 {
     if !engine.is_open(who) {
         return create_table(alloc, engine, who, table, column, 0);
@@ -154,41 +156,72 @@ fn play_create(alloc: Global, engine: &mut Engine, who: u32, table: u8, column: 
     }
 }
 
+/// The reply to a line that is refused before anything is looked up.
+fn refusal(why: Fault) -> Reply
+    ensures { result ≡ record { place = None; body = Error why } }
+{
+    Reply {
+        place: None,
+        body: Body::Error(why),
+    }
+}
+
 /// Plays one statement of a session.
 fn play_statement<L: Ledger>(
     alloc: Global,
     engine: &mut Engine,
     who: u32,
-    statement: Statement,
+    statement: &Stmt,
     steps: &mut Steps<L>,
 ) -> Reply
     requires { who < NUMBERS }
-    ensures { machine.IsRest who 0 engine.old (machine.statement_plan who statement) result engine.new }
+    ensures { machine.IsRest who 0 engine.old (machine.statement_plan who statement.now) result engine.new }
 {
     match statement {
-        Statement::Create { table, column } => play_create(alloc, engine, who, table, column),
-        Statement::Insert { table, value } => play_insert(alloc, engine, who, table, value),
-        Statement::Commit => play_commit(engine, who),
-        Statement::Count { table } => play_count(alloc, engine, who, table, steps),
+        Stmt::Create {
+            name,
+            columns,
+            block,
+            extent,
+            memory,
+        } if is_bare(*block, *extent, *memory) => match number_column_alone(columns.items()) {
+            Some(column) => play_create(alloc, engine, who, name.bytes(), column.bytes()),
+            None => refusal(Fault::NotBuilt),
+        },
+        Stmt::Insert {
+            name,
+            columns,
+            tuples,
+        } if columns.items().is_empty() => match integer_alone(tuples.items()) {
+            Some(number) => play_insert(alloc, engine, who, name.bytes(), number),
+            None => refusal(Fault::NotBuilt),
+        },
+        Stmt::Commit => play_commit(engine, who),
+        Stmt::Select(query) if is_count_alone(query) => {
+            play_count(alloc, engine, who, query.table.bytes(), steps)
+        }
+        _ => refusal(Fault::NotBuilt),
     }
 }
 
-/// Plays one line.
+/// Plays one line. Blanks, comments and the end of a prelude have no reply.
 pub fn play_line<L: Ledger>(
     alloc: Global,
     engine: &mut Engine,
-    line: &[u8],
+    line: &Line,
     steps: &mut Steps<L>,
-) -> Reply
-    ensures { machine.IsLine (command_of line.now) engine.old result engine.new }
+) -> Option<Reply>
+    requires { machine.who_of line.now.kind < NUMBERS }
+    ensures { machine.Answers line.now engine.old result engine.new }
 {
-    match command_of(line) {
-        Command::Session { who, statement } => {
-            play_statement(alloc, engine, who, statement, steps)
+    match &line.kind {
+        LineKind::Skip | LineKind::Race => None,
+        LineKind::Long(length) => Some(refusal(Fault::LineTooLong { length: *length })),
+        LineKind::Bad(byte) => Some(refusal(Fault::Syntax { byte: *byte })),
+        LineKind::Session(who, statement) => {
+            Some(play_statement(alloc, engine, *who, statement, steps))
         }
-        Command::NotBuilt => Reply {
-            place: None,
-            body: Body::Error(Fault::NotBuilt),
-        },
+        LineKind::Background(_) => Some(refusal(Fault::NotBuilt)),
+        LineKind::NoMemory => Some(lacked(0)),
     }
 }

@@ -3,8 +3,12 @@ use im_values::Name;
 /// Why a line was refused.
 #[derive(Debug, Drop)]
 pub enum Fault {
-    /// The line is of no form that is played yet.
+    /// The line's statement is not played yet.
     NotBuilt,
+    /// The line leaves the language at this byte, counted from 1.
+    Syntax { byte: u64 },
+    /// The line has so many bytes, which is more than a line may have.
+    LineTooLong { length: u64 },
     /// No table has this name.
     UnknownTable { name: Name },
     /// A table has this name already.

@@ -113,14 +113,27 @@ fn scripts_come_to_the_text_of_their_replies(rt: HostRuntime) -> Result<(), Fail
         ),
         plain(
             "hello\n1> CREATE TABLE T (K NUMBER)\n2> CREATE TABLE T (K NUMBER)\n1> INSERT INTO U VALUES (1)\n",
-            "1,error,00,not-built\n2,created,1,1\n3,error,07,table-exists,T\n4,error,03,unknown-table,U\n",
+            "1,error,01,syntax,1\n2,created,1,1\n3,error,07,table-exists,T\n4,error,03,unknown-table,U\n",
         ),
         // CREATE TABLE commits first, also where the name is taken; others' pending rows are not seen.
         plain(
             "16> CREATE TABLE A (K NUMBER)\n16> INSERT INTO A VALUES (-007)\n3> INSERT INTO A VALUES (999999999999999999)\n\
              16> CREATE TABLE A (Z NUMBER)\n3> SELECT COUNT(*) FROM A\n4> SELECT COUNT(*) FROM A\n17> COMMIT\n\n16>COMMIT\n",
             "1,created,1,1\n2,inserted,1,0\n3,inserted,1,1\n4,error,07,table-exists,A\n5,answer,2,1\n5,row,2\n\
-             6,answer,2,1\n6,row,1\n7,error,00,not-built\n8,error,00,not-built\n9,error,00,not-built\n",
+             6,answer,2,1\n6,row,1\n7,error,01,syntax,1\n9,committed,3\n",
+        ),
+        // Any spelling is played; statements that are not played yet say so; comments have no reply.
+        plain(
+            "1> create table t (k integer);\nbg> RUN\n-- note\nrace>\n1> SELECT COUNT(*) FROM T -- all\n\
+             1> INSERT INTO T (K) VALUES (1)\n1> INSERT INTO T VALUES (NULL)\n1> SELECT COUNT(*) FROM T WHERE K = 1\n",
+            "1,created,1,1\n2,error,00,not-built\n5,answer,1,1\n5,row,0\n6,error,00,not-built\n7,error,00,not-built\n\
+             8,error,00,not-built\n",
+        ),
+        plain(
+            "1> SELECT\n1>\nbg> COMMIT\n1> RUN X\n1> -- note\n1> COMMIT;;\n1> SELECT K FORM T\n\
+             1> ALTER TABLE T INMEMORY MEMCOMPRESS FOR QUERY HIGH\n",
+            "1,error,01,syntax,10\n2,error,01,syntax,3\n3,error,01,syntax,5\n4,error,01,syntax,4\n5,error,01,syntax,11\n\
+             6,error,01,syntax,10\n7,error,01,syntax,13\n8,error,01,syntax,49\n",
         ),
         Case {
             read_piece: 4,

@@ -28,6 +28,12 @@ fn fault_text(alloc: Global, line: u64, fault: &Fault) -> Result<Vec<u8>, NoMemo
 {
     match fault {
         Fault::NotBuilt => Ok(bytes_of(format!(in alloc; "{line},error,00,not-built\n")?)),
+        Fault::Syntax { byte } => {
+            Ok(bytes_of(format!(in alloc; "{line},error,01,syntax,{byte}\n")?))
+        }
+        Fault::LineTooLong { length } => {
+            Ok(bytes_of(format!(in alloc; "{line},error,02,line-too-long,{length}\n")?))
+        }
         Fault::UnknownTable { name } => ended_by_name(
             format!(in alloc; "{line},error,03,unknown-table,")?,
             name,

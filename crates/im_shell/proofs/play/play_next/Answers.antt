@@ -1,0 +1,8 @@
+use Rattle.std.proofs.lemmas.Result.{on_ok_weaker}
+use Rattle.im_shell.specs.Play.{PlaysNext}
+use Rattle.im_shell.proofs.play.play_next.Goals as goal
+
+pub returns-clause-ok : goal.returns-clause-ok
+returns-clause-ok g c =
+    on_ok_weaker {Q = PlaysNext c.args.bytes.now c.args.number c.args.engine.now _ c.args.waiting.now.items _} _
+    (λ text. record { reply = c.play_bytes-reply.result; plays = c.play_bytes-reply.ensures; text = text }) c.put_reply.ensures.ok
