@@ -78,3 +78,16 @@ fn words_hold_whole_codes_alone(rt: HostRuntime) {
     assert_eq!(rt; words_for(3, 32), 2);
     assert_eq!(rt; words_for(4_294_967_295, 32), 2_147_483_648);
 }
+
+#[test]
+fn codes_that_memory_lacked_for_are_packed_at_the_second_try(rt: HostRuntime) -> Result<(), Fail> {
+    let alloc = rt.alloc();
+    for width in 0..33 {
+        let codes = great_codes(alloc, width, 20)?;
+        if Bits::pack(alloc, codes.as_slice(), width).is_err() {
+            assert!(rt; codes.as_slice() == great_codes(alloc, width, 20)?.as_slice());
+        }
+        assert!(rt; round_trips(alloc, codes.as_slice(), width)?);
+    }
+    Ok(())
+}

@@ -89,3 +89,35 @@ fn runs_are_as_long_as_they_can_be(rt: HostRuntime) -> Result<(), Fail> {
     }
     Ok(())
 }
+
+#[test]
+fn a_dictionary_that_lacks_memory_is_built_at_the_second_try(rt: HostRuntime) -> Result<(), Fail> {
+    let alloc = rt.alloc();
+    let values = mixed(alloc)?;
+    assert!(rt; values.len() < 8);
+    if Dict::build(alloc, values.as_slice()).is_err() {
+        assert!(rt; values.as_slice() == mixed(alloc)?.as_slice());
+    }
+    let dict = Dict::build(alloc, values.as_slice())?;
+    assert_eq!(rt; dict.len(), 4);
+    for (value, code) in values.iter().zip([2, 0, 1, 2, 4, 3, 4]) {
+        assert_eq!(rt; dict.code_of(value), Some(code));
+    }
+    Ok(())
+}
+
+#[test]
+fn runs_that_lack_memory_are_built_at_the_second_try(rt: HostRuntime) -> Result<(), Fail> {
+    let alloc = rt.alloc();
+    let codes = [1, 1, 2, 3, 3, 3, 4, 5, 6, 7];
+    if Runs::build(alloc, &codes).is_err() {
+        assert!(rt; codes == [1, 1, 2, 3, 3, 3, 4, 5, 6, 7]);
+    }
+    let runs = Runs::build(alloc, &codes)?;
+    assert_eq!(rt; runs.runs().len(), 7);
+    for (i, code) in codes.iter().enumerate() {
+        assert!(rt; (i as u64) < runs.len());
+        assert_eq!(rt; runs.get(i as u64), *code);
+    }
+    Ok(())
+}

@@ -4,3 +4,4 @@ pub mod Sink
 pub mod FromMemory
 pub mod Reading
 pub mod Writing
+pub mod FromStd

@@ -1,6 +1,7 @@
 //! The standard streams as a source and a sink: the trusted edge.
 //!
-//! No contract can say what a stream of the system gives or takes, so neither tells its bytes.
+//! No contract can say what a stream of the system gives or takes, so neither tells its bytes. Over a reader or a
+//! writer whose bytes std knows, each passes on exactly these.
 mod sink;
 mod source;
 

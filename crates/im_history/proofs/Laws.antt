@@ -5,11 +5,14 @@ use Rattle.im_history.specs.declared.entry.Mode.TheVariants.{Committed}
 use Rattle.im_history.specs.declared.entry.What.{What}
 use Rattle.im_history.specs.declared.entry.What.TheVariants.{Create, Commit}
 use Rattle.im_history.specs.Commits.{commits, committed_by, scn, moves_clock}
+use Rattle.im_history.specs.declared.limits.Limits.{Limits}
 use Rattle.im_history.specs.Cursors.{opened, opened_after}
 use Rattle.im_history.specs.History.{History, replay}
 use Rattle.im_history.specs.Legal.{IsAllowed, IsLegal, IsLegalFrom}
 use Rattle.im_history.specs.Tables.{tables, created, given, given_after}
+use Rattle.im_history.specs.Touched.{last_touch, touched_after}
 use Rattle.im_history.specs.Transactions.{pending, pending_after, begun, begun_after, mode, mode_after}
+use Rattle.im_history.specs.Weights.{weight, weight_after}
 use Rattle.im_history.proofs.Replay.{replay-push}
 
 pub tables-push : (h : History) (entry : Entry) → tables (h ++ entry ∷ []) ≡ created (tables h) entry.what
@@ -36,9 +39,17 @@ pub commits-push : (h : History) (entry : Entry) → commits (h ++ entry ∷ [])
 unfolding commits
 commits-push h entry = replay-push (λ before so_far e. so_far ++ committed_by before e.who e.what) [] h entry
 
-pub opened-push : (h : History) (entry : Entry) (who : ℕ) → opened (h ++ entry ∷ []) who ≡ (if entry.who == who then opened_after (length h) (opened h who) entry.what else opened h who)
+pub opened-push : (h : History) (entry : Entry) (who : ℕ) → opened (h ++ entry ∷ []) who ≡ (if entry.who == who then opened_after h who (opened h who) entry.what else opened h who)
 unfolding opened
-opened-push h entry who = replay-push (λ before so_far e. if e.who == who then opened_after (length before) so_far e.what else so_far) [] h entry
+opened-push h entry who = replay-push (λ before so_far e. if e.who == who then opened_after before who so_far e.what else so_far) [] h entry
+
+pub last_touch-push : (h : History) (entry : Entry) (table rid : ℕ) → last_touch (h ++ entry ∷ []) table rid ≡ touched_after table rid h (last_touch h table rid) entry.who entry.what
+unfolding last_touch
+last_touch-push h entry table rid = replay-push (λ before so_far e. touched_after table rid before so_far e.who e.what) 0 h entry
+
+pub weight-push : (h : History) (entry : Entry) → weight (h ++ entry ∷ []) ≡ weight_after (weight h) entry.what
+unfolding weight
+weight-push h entry = replay-push (λ before so_far e. weight_after so_far e.what) 0 h entry
 
 length-committed_by : (h : History) (who : ℕ) (what : What) → length (committed_by h who what) ≡ (if moves_clock what then 1 else 0)
 length-committed_by h who Commit = refl
@@ -53,11 +64,11 @@ scn-nil = refl
 pub scn-push : (h : History) (entry : Entry) → scn (h ++ entry ∷ []) ≡ scn h + (if moves_clock entry.what then 1 else 0)
 scn-push h entry = ap length (commits-push h entry) ∙ (length-append (commits h) (committed_by h entry.who entry.what) ∙ ap (λ n. scn h + n) (length-committed_by h entry.who entry.what))
 
-IsLegalFrom-push : (before h : History) (entry : Entry) → IsLegalFrom before h → IsAllowed (before ++ h) entry.who entry.what → IsLegalFrom before (h ++ entry ∷ [])
-IsLegalFrom-push before [] entry legal allowed = (rw append-nil at allowed, tt)
-IsLegalFrom-push before (first ∷ h) entry legal allowed =
-    (legal.0, IsLegalFrom-push (before ++ first ∷ []) h entry legal.1 (rw (← append_assoc before (first ∷ []) h) at allowed))
+IsLegalFrom-push : (limits : Limits) (before h : History) (entry : Entry) → IsLegalFrom limits before h → IsAllowed limits (before ++ h) entry.who entry.what → IsLegalFrom limits before (h ++ entry ∷ [])
+IsLegalFrom-push limits before [] entry legal allowed = (rw append-nil at allowed, tt)
+IsLegalFrom-push limits before (first ∷ h) entry legal allowed =
+    (legal.0, IsLegalFrom-push limits (before ++ first ∷ []) h entry legal.1 (rw (← append_assoc before (first ∷ []) h) at allowed))
 
 -- a legal history with an entry that is allowed after it is legal
-pub IsLegal-push : (h : History) (entry : Entry) → IsLegal h → IsAllowed h entry.who entry.what → IsLegal (h ++ entry ∷ [])
-IsLegal-push h entry legal allowed = record { each = IsLegalFrom-push [] h entry legal.each allowed }
+pub IsLegal-push : (limits : Limits) (h : History) (entry : Entry) → IsLegal limits h → IsAllowed limits h entry.who entry.what → IsLegal limits (h ++ entry ∷ [])
+IsLegal-push limits h entry legal allowed = record { each = IsLegalFrom-push limits [] h entry legal.each allowed }

@@ -1,30 +1,39 @@
 -- The open cursors of a session.
-use Rattle.std.specs.Prelude.{ℕ, ◌==◌, Bool, not, List, [], ◌∷◌, ◌++◌, length, filter, count_by, if◌then◌else◌}
-use Rattle.std.specs.List.{list_any}
+use Rattle.std.specs.Prelude.{ℕ, ◌==◌, Bool, not, List, [], ◌∷◌, ◌++◌, filter, count_by, Option, if◌then◌else◌}
+use Rattle.std.specs.List.{find, list_any}
 use Rattle.im_history.specs.declared.entry.What.{What}
 use Rattle.im_history.specs.declared.entry.What.TheVariants.{Open, Shut}
+use Rattle.im_history.specs.declared.view.View.{View}
 use Rattle.im_history.specs.History.{History, replay}
+use Rattle.im_history.specs.Views.{view_at}
 
--- a cursor that was opened, on which table, and the place of its Open: there its view was fixed
+-- a cursor that was opened, and the view that its opening fixed
 pub record Opened : Type 0 where
   pub cursor : ℕ
-  pub table : ℕ
-  pub place : ℕ
+  pub view : View
 
--- the open cursors after one more entry of the session at this place
-abbrev pub opened_after : ℕ → List Opened → What → List Opened
-opened_after place so_far (Open cursor table) = so_far ++ record { cursor = cursor; table = table; place = place } ∷ []
-opened_after place so_far (Shut cursor) = filter (λ other. not (other.cursor == cursor)) so_far
-opened_after place so_far _ = so_far
+-- it has this number
+abbrev pub is_cursor : ℕ → Opened → Bool
+is_cursor cursor opened = opened.cursor == cursor
+
+-- the open cursors of a session after one more entry of it
+abbrev pub opened_after : History → ℕ → List Opened → What → List Opened
+opened_after before who so_far (Open cursor table) = so_far ++ record { cursor = cursor; view = view_at before who table } ∷ []
+opened_after before who so_far (Shut cursor) = filter (λ other. not (is_cursor cursor other)) so_far
+opened_after before who so_far _ = so_far
 
 -- the cursors that the session opened and did not shut, in the order of their opening
 unfoldable pub opened : History → ℕ → List Opened
-opened history who = replay (λ before so_far entry. if entry.who == who then opened_after (length before) so_far entry.what else so_far) [] history
+opened history who = replay (λ before so_far entry. if entry.who == who then opened_after before who so_far entry.what else so_far) [] history
+
+-- the open cursor of this number
+abbrev pub cursor_at : History → ℕ → ℕ → Option Opened
+cursor_at history who cursor = find (is_cursor cursor) (opened history who)
 
 -- the cursor is open
 abbrev pub is_cursor_open : History → ℕ → ℕ → Bool
-is_cursor_open history who cursor = list_any (λ other. other.cursor == cursor) (opened history who)
+is_cursor_open history who cursor = list_any (is_cursor cursor) (opened history who)
 
 -- how many cursors are open beside cursor 0, which a statement's own scan uses
 abbrev pub cursors_open : History → ℕ → ℕ
-cursors_open history who = count_by (λ other. not (other.cursor == 0)) (opened history who)
+cursors_open history who = count_by (λ other. not (is_cursor 0 other)) (opened history who)

@@ -1,62 +1,105 @@
 -- Which histories a store may have: each entry is allowed after those before it.
-use Rattle.std.specs.Prelude.{◌≡◌, ℕ, ◌+◌, ◌<◌, ◌≤◌, ◌⊎◌, false, IsTrue, List, [], ◌∷◌, ◌++◌, length, All, Some}
+use Rattle.std.specs.Prelude.{◌≡◌, ℕ, ◌+◌, ◌<◌, ◌≤◌, ◌⊎◌, true, false, IsTrue, Bool, List, [], ◌∷◌, ◌++◌, length, All, fold, Option, Some, None, is_some}
+use Rattle.std.specs.List.{AllAdjacentBelow}
 use Rattle.im_values.specs.declared.schema.Column.{Column}
 use Rattle.im_values.specs.Fits.{fits}
 use Rattle.im_history.specs.declared.change.Change.{Change}
 use Rattle.im_history.specs.declared.entry.What.{What}
-use Rattle.im_history.specs.declared.entry.What.TheVariants.{Create, Open, Shut, Write, Commit}
-use Rattle.im_history.specs.Cursors.{is_cursor_open, cursors_open}
+use Rattle.im_history.specs.declared.entry.What.TheVariants.{Create, Begin, Open, Shut, Write, Commit, Rollback}
+use Rattle.im_history.specs.declared.limits.Limits.{Limits}
+use Rattle.im_history.specs.declared.look.TableInfo.{TableInfo}
+use Rattle.im_history.specs.Cursors.{Opened, cursor_at, is_cursor_open}
 use Rattle.im_history.specs.Grid.{Grid, IsInRange}
 use Rattle.im_history.specs.History.{History}
-use Rattle.im_history.specs.Rows.{Row}
-use Rattle.im_history.specs.Tables.{Table, tables, table_at, name_is_taken, given}
-use Rattle.im_history.specs.Transactions.{is_open}
+use Rattle.im_history.specs.Refusals.{create_refusal, begin_refusal, open_refusal, insert_refusal, write_refusal}
+use Rattle.im_history.specs.Rows.{Row, row_after}
+use Rattle.im_history.specs.Tables.{table_at, given}
+use Rattle.im_history.specs.Transactions.{is_open, pending}
+use Rattle.im_history.specs.Views.{seen_by}
 
--- a table may be created: the session has no open transaction, the name is free, there is room for a table, and it has
--- 1 to 16 columns and a shape in range
+-- a table may be created: the session has no open transaction, nothing refuses it, and it has 1 to 16 columns and a shape
+-- in range
 pub record MayCreate (history : History) (who : ℕ) (name : List ℕ) (schema : List Column) (grid : Grid) : Type 0 where
   pub idle : is_open history who ≡ false
-  pub free : name_is_taken history name ≡ false
-  pub room : length (tables history) < 64
+  pub allowed : create_refusal history name ≡ None
   pub columns : (1 ≤ length schema) × (length schema ≤ 16)
   pub shape : IsInRange grid.block × IsInRange grid.extent
 
--- a cursor may be opened: its table exists, it is not open, and not too many are
+-- a table of this number exists
+pub record Exists (history : History) (table : ℕ) : Type 0 where
+  pub made : TableInfo
+  pub is : table_at history table ≡ Some made
+
+-- a cursor may be opened: its table exists, and nothing refuses it
 pub record MayOpen (history : History) (who cursor table : ℕ) : Type 0 where
-  pub made : Table
-  pub exists : table_at history table ≡ Some made
-  pub shut : is_cursor_open history who cursor ≡ false
-  pub few : (cursor ≡ 0) ⊎ (cursors_open history who < 8)
+  pub exists : Exists history table
+  pub allowed : open_refusal history who cursor ≡ None
 
 -- rows put at row numbers of a table, from the first on
 abbrev pub put_from : ℕ → ℕ → List Row → List Change
 put_from table first [] = []
 put_from table first (row ∷ rows) = record { table = table; rid = first; row = Some row } ∷ put_from table (first + 1) rows
 
--- an insert: some rows that fit the table, at the next row numbers of it
-pub record IsInsert (history : History) (who : ℕ) (changes : List Change) : Type 0 where
-  pub table : ℕ
-  pub made : Table
-  pub exists : table_at history table ≡ Some made
-  pub rows : List Row
+-- rows that an insert may put into a table: it exists, there are some, and each fits it
+pub record MayInsert (history : History) (table : ℕ) (rows : List Row) : Type 0 where
+  pub exists : Exists history table
   pub some : 1 ≤ length rows
-  pub fit : All (λ row. IsTrue (fits row made.schema)) rows
+  pub fit : All (λ row. IsTrue (fits row exists.made.schema)) rows
+
+-- an insert: some rows that fit a table, at the next row numbers of it, which nothing refuses
+pub record IsInsert (limits : Limits) (history : History) (who : ℕ) (changes : List Change) : Type 0 where
+  pub table : ℕ
+  pub rows : List Row
+  pub may : MayInsert history table rows
   pub next : changes ≡ put_from table (given history table) rows
+  pub allowed : insert_refusal limits history who changes ≡ None
+
+-- a row that is put fits the table
+abbrev pub row_fits : List Column → Option Row → Bool
+row_fits schema None = true
+row_fits schema (Some row) = fits row schema
+
+-- the row that a view sees at a row number, changed by what the session has pending now
+abbrev pub still_seen : History → ℕ → Opened → ℕ → Option Row
+still_seen history who opened rid = fold (row_after opened.view.table rid) (seen_by history opened.view rid) (pending history who)
+
+-- changes that may be written to rows which an open cursor saw: there are some, all of the cursor's table and of rising row
+-- numbers. Each is to a row that the cursor's view saw and that still stands after the session's present changes, and what
+-- it puts fits the table
+pub record MayWrite (history : History) (who cursor : ℕ) (changes : List Change) : Type 0 where
+  pub opened : Opened
+  pub is : cursor_at history who cursor ≡ Some opened
+  pub exists : Exists history opened.view.table
+  pub some : 1 ≤ length changes
+  pub same : All (λ change. change.table ≡ opened.view.table) changes
+  pub rising : AllAdjacentBelow (λ before after. before.rid < after.rid) changes (length changes)
+  pub inside : All (λ change. change.rid < opened.view.rows) changes
+  pub saw : All (λ change. IsTrue (is_some (seen_by history opened.view change.rid))) changes
+  pub stands : All (λ change. IsTrue (is_some (still_seen history who opened change.rid))) changes
+  pub fit : All (λ change. IsTrue (row_fits exists.made.schema change.row)) changes
+
+-- a write to rows that an open cursor saw, which nothing refuses at its snapshot
+pub record IsRewrite (limits : Limits) (history : History) (who : ℕ) (changes : List Change) : Type 0 where
+  pub cursor : ℕ
+  pub may : MayWrite history who cursor changes
+  pub allowed : write_refusal limits history who may.opened.view.scn changes ≡ None
 
 -- the entry is allowed after this history; entries of the kinds that are not listed are not made yet
-abbrev pub IsAllowed : History → ℕ → What → Type 0
-IsAllowed history who (Create name schema grid) = MayCreate history who name schema grid
-IsAllowed history who (Open cursor table) = MayOpen history who cursor table
-IsAllowed history who (Shut cursor) = IsTrue (is_cursor_open history who cursor)
-IsAllowed history who (Write changes) = IsInsert history who changes
-IsAllowed history who Commit = Unit {0}
-IsAllowed history who _ = ⊥
+abbrev pub IsAllowed : Limits → History → ℕ → What → Type 0
+IsAllowed limits history who (Create name schema grid) = MayCreate history who name schema grid
+IsAllowed limits history who (Begin mode) = begin_refusal history who ≡ None
+IsAllowed limits history who (Open cursor table) = MayOpen history who cursor table
+IsAllowed limits history who (Shut cursor) = IsTrue (is_cursor_open history who cursor)
+IsAllowed limits history who (Write changes) = IsInsert limits history who changes ⊎ IsRewrite limits history who changes
+IsAllowed limits history who Commit = Unit {0}
+IsAllowed limits history who Rollback = IsTrue (is_open history who)
+IsAllowed limits history who _ = ⊥
 
 -- each of these entries is allowed after those before it
-abbrev pub IsLegalFrom : History → History → Type 0
-IsLegalFrom before [] = Unit {0}
-IsLegalFrom before (entry ∷ rest) = IsAllowed before entry.who entry.what × IsLegalFrom (before ++ entry ∷ []) rest
+abbrev pub IsLegalFrom : Limits → History → History → Type 0
+IsLegalFrom limits before [] = Unit {0}
+IsLegalFrom limits before (entry ∷ rest) = IsAllowed limits before entry.who entry.what × IsLegalFrom limits (before ++ entry ∷ []) rest
 
 -- each entry of the history is allowed after those before it
-pub record IsLegal (history : History) : Type 0 where
-  pub each : IsLegalFrom [] history
+pub record IsLegal (limits : Limits) (history : History) : Type 0 where
+  pub each : IsLegalFrom limits [] history

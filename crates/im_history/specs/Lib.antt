@@ -3,7 +3,11 @@ pub mod Cursors
 pub mod Grid
 pub mod History
 pub mod Legal
+pub mod Refusals
 pub mod Rows
 pub mod Stored
 pub mod Tables
+pub mod Touched
 pub mod Transactions
+pub mod Views
+pub mod Weights

@@ -1,41 +1,56 @@
 -- The tables that a history created, and the row numbers that it gave.
 use Rattle.std.specs.Prelude.{ℕ, zero, suc, ◌+◌, ◌==◌, Bool, max, List, [], ◌∷◌, ◌++◌, fold, slice_get, Option, None, if◌then◌else◌, nat_eq}
 use Rattle.std.specs.Cmp.Lexicographic.{pointwise}
-use Rattle.std.specs.List.{list_any}
-use Rattle.im_values.specs.declared.schema.Column.{Column}
+use Rattle.std.specs.List.{list_any, position}
+use Rattle.std.specs.Option.{option_map}
 use Rattle.im_history.specs.declared.change.Change.{Change}
+use Rattle.im_history.specs.declared.entry.Priority.{Priority}
 use Rattle.im_history.specs.declared.entry.What.{What}
-use Rattle.im_history.specs.declared.entry.What.TheVariants.{Create, Write}
-use Rattle.im_history.specs.Grid.{Grid}
+use Rattle.im_history.specs.declared.entry.What.TheVariants.{Create, Memory, Write}
+use Rattle.im_history.specs.declared.look.TableInfo.{TableInfo}
 use Rattle.im_history.specs.History.{History, replay}
 
--- a table as it was created
-pub record Table : Type 0 where
-  pub name : List ℕ
-  pub schema : List Column
-  pub grid : Grid
+-- the tables, the one at this place having joined the column store with a priority, or left it
+abbrev pub with_memory : ℕ → Option Priority → List TableInfo → List TableInfo
+with_memory place priority [] = []
+with_memory zero priority (table ∷ tables) = record table { memory = priority } ∷ tables
+with_memory (suc place) priority (table ∷ tables) = table ∷ with_memory place priority tables
 
--- the tables with what one more entry creates
-abbrev pub created : List Table → What → List Table
-created tables (Create name schema grid) = tables ++ record { name = name; schema = schema; grid = grid } ∷ []
+-- the tables after a Memory entry that names this number; no table has the number 0
+abbrev pub remembered : ℕ → Option Priority → List TableInfo → List TableInfo
+remembered zero priority tables = tables
+remembered (suc place) priority tables = with_memory place priority tables
+
+-- the tables with what one more entry makes of them
+abbrev pub created : List TableInfo → What → List TableInfo
+created tables (Create name schema grid) = tables ++ record { name = name; schema = schema; shape = grid; memory = None } ∷ []
+created tables (Memory table priority) = remembered table priority tables
 created tables _ = tables
 
 -- the tables in the order of their creation: the first of them is table 1
-unfoldable pub tables : History → List Table
+unfoldable pub tables : History → List TableInfo
 tables history = replay (λ before so_far entry. created so_far entry.what) [] history
 
 -- the table of this number; none has the number 0
-abbrev pub table_at : History → ℕ → Option Table
+abbrev pub table_at : History → ℕ → Option TableInfo
 table_at history zero = None
 table_at history (suc before) = slice_get (tables history) before
 
 -- a table has this name
-abbrev pub is_named : List ℕ → Table → Bool
+abbrev pub is_named : List ℕ → TableInfo → Bool
 is_named name table = pointwise nat_eq name table.name
 
 -- some table has this name
 abbrev pub name_is_taken : History → List ℕ → Bool
 name_is_taken history name = list_any (is_named name) (tables history)
+
+-- the number of the table of this name among tables that are numbered from 1
+abbrev pub number_among : List TableInfo → List ℕ → Option ℕ
+number_among tables name = option_map suc (position (is_named name) tables)
+
+-- the number of the table of this name
+abbrev pub table_named : History → List ℕ → Option ℕ
+table_named history name = number_among (tables history) name
 
 -- one more than the greatest row number that these changes name in the table, or so many where that is more
 abbrev pub given_by : ℕ → ℕ → List Change → ℕ

@@ -13,14 +13,22 @@
 mod change;
 mod entry;
 mod limits;
+mod look;
+mod refused;
 mod shape;
 mod stored;
+mod unit;
+mod view;
 
 pub use change::{Change, Changes};
 pub use entry::{Entry, Mode, Priority, What};
 pub use limits::Limits;
+pub use look::{Catalog, Look, TableInfo};
+pub use refused::{Refused, Why};
 pub use shape::Shape;
 pub use stored::History;
+pub use unit::UnitLike;
+pub use view::View;
 
 #[cfg(test)]
 mod tests;

@@ -46,6 +46,15 @@ impl Shape {
         }
     }
 
+    /// The same shape. That it is in range is a fact of its type, which reaches a caller only through a call.
+    pub fn known(self) -> Shape
+        ensures same { result ≡ self }
+        ensures block { IsInRange self.block }
+        ensures extent { IsInRange self.extent }
+    {
+        self
+    }
+
     /// Row numbers in a block.
     pub fn block(self) -> u32
         ensures block { result ≡ self.block }

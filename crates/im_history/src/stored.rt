@@ -82,7 +82,8 @@ impl History {
 
     /// The present SCN.
     pub fn scn(&self) -> u64
-        ensures { result ≡ scn self.now.entries }
+        ensures scn { result ≡ scn self.now.entries }
+        ensures few { result < 2 ^ 63 }
     {
         self.clock
     }

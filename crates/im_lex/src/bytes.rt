@@ -62,7 +62,7 @@ pub fn digit_run(bytes: &[u8]) -> &[u8]
     bytes
 }
 
-/// The number of digits, or a number past 2^63 where it is past that.
+/// The number that the digits say, or 2^63 + 1 where it is at least that.
 pub fn capped_value(digits: &[u8]) -> u64
     ensures { result ≡ min (bytes_of.value_of digits.now) (2 ^ 63 + 1) }
 {
@@ -70,14 +70,14 @@ pub fn capped_value(digits: &[u8]) -> u64
     for digit in digits {
         value = value
             .saturating_mul(10)
-            .saturating_add(u64::from(digit.saturating_sub(48)))
+            .saturating_add(u64::from(digit.saturating_sub(b'0')))
             .min(9_223_372_036_854_775_809);
     }
     value
 }
 
 /// Whether a comment stands at the front.
-fn begins_comment(bytes: &[u8]) -> bool
+pub fn begins_comment(bytes: &[u8]) -> bool
     ensures { result ≡ bytes_of.begins_comment bytes.now }
 {
     match bytes {

@@ -9,6 +9,7 @@ use im_syntax::{LONGEST_WORD, Sign, Token};
 use im_values::{Name, NoMemory};
 use std::alloc::Global;
 
+/// A word's letters as capitals.
 fn capitals(alloc: Global, letters: &[u8]) -> Result<Name, NoMemory>
     ensures { IfOk result (λ name. name ≡ map to_ascii_uppercase letters.now) }
 {
@@ -19,6 +20,7 @@ fn capitals(alloc: Global, letters: &[u8]) -> Result<Name, NoMemory>
     Name::of(alloc, capitals.as_slice())
 }
 
+/// A word, by its whole run of bytes.
 fn word(alloc: Global, run: &[u8]) -> Result<Front, NoMemory>
     ensures { IfOk result (λ f. f ≡ bytes_of.word_front run.now) }
 {
@@ -29,17 +31,17 @@ fn word(alloc: Global, run: &[u8]) -> Result<Front, NoMemory>
     Ok(Front::Lexed(Token::Word(name), run.len().saturating_sub(1)))
 }
 
+/// A number without a sign.
 fn positive(digits: &[u8]) -> Front
     ensures { result ≡ bytes_of.positive_front digits.now }
 {
-    let value = capped_value(digits);
-    if value <= 9_223_372_036_854_775_807 {
-        Front::Lexed(Token::Int(value as i64), digits.len().saturating_sub(1))
-    } else {
-        Front::Bad
+    match i64::try_from(capped_value(digits)) {
+        Ok(value) => Front::Lexed(Token::Int(value), digits.len().saturating_sub(1)),
+        Err(_) => Front::Bad,
     }
 }
 
+/// A number behind its minus.
 fn negative(digits: &[u8]) -> Front
     ensures { result ≡ bytes_of.negative_front digits.now }
 {
@@ -53,6 +55,7 @@ fn negative(digits: &[u8]) -> Front
     }
 }
 
+/// A comment or a number, behind a minus.
 fn behind_minus(rest: &[u8]) -> Front
     ensures { result ≡ bytes_of.minus_front rest.now }
 {
@@ -66,23 +69,24 @@ fn behind_minus(rest: &[u8]) -> Front
     }
 }
 
+/// What comes next in a text. Two quotes are one.
 fn piece(rest: &[u8]) -> Piece
     ensures { result ≡ bytes_of.piece_of rest.now }
 {
     match rest {
         [] => Piece::Over,
         [byte] => {
-            if *byte == 39 {
+            if *byte == b'\'' {
                 Piece::End
             } else {
                 Piece::Byte(*byte, 1)
             }
         }
         [byte, next, ..] => {
-            if *byte != 39 {
+            if *byte != b'\'' {
                 Piece::Byte(*byte, 1)
-            } else if *next == 39 {
-                Piece::Byte(39, 2)
+            } else if *next == b'\'' {
+                Piece::Byte(b'\'', 2)
             } else {
                 Piece::End
             }
@@ -96,6 +100,7 @@ fn sign_token(sign: Sign, more: usize) -> Front
     Front::Lexed(Token::Sign(sign), more)
 }
 
+/// A sign by its first byte and the next.
 fn sign(byte: u8, next: u8) -> Front
     ensures { result ≡ bytes_of.sign_front byte next }
 {
@@ -144,6 +149,7 @@ fn bang(next: u8) -> Front
     }
 }
 
+/// A text, behind its opening quote.
 fn text(alloc: Global, bytes: &[u8]) -> Result<Front, NoMemory>
     ensures { IfOk result (λ f. f ≡ bytes_of.text_found (bytes_of.text_of bytes.now)) }
 {
@@ -165,6 +171,7 @@ fn text(alloc: Global, bytes: &[u8]) -> Result<Front, NoMemory>
     Ok(Front::Bad)
 }
 
+/// What a `;` is, by the bytes behind it.
 fn end_of_line(rest: &[u8]) -> Front
     ensures { result ≡ (if bytes_of.only_ends rest.now then Front.Stop else Front.Bad) }
 {
@@ -175,6 +182,7 @@ fn end_of_line(rest: &[u8]) -> Front
     }
 }
 
+/// What stands at the front, by its first byte.
 fn front_at(alloc: Global, byte: u8, rest: &[u8], bytes: &[u8]) -> Result<Front, NoMemory>
     requires { bytes.now ≡ byte ∷ rest.now }
     ensures { IfOk result (λ f. f ≡ bytes_of.front_at byte rest.now) }
@@ -191,7 +199,7 @@ fn front_at(alloc: Global, byte: u8, rest: &[u8], bytes: &[u8]) -> Result<Front,
     if byte == b'-' {
         return Ok(behind_minus(rest));
     }
-    if byte == 39 {
+    if byte == b'\'' {
         return text(alloc, rest);
     }
     if byte == b';' {

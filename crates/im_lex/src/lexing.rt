@@ -35,6 +35,7 @@ impl<T: Drop> From<AllocFailed<T>> for LexFault {
     }
 }
 
+/// The tokens of a line, from left to right. Each round goes on by one byte or more.
 fn lexed(alloc: Global, line: &[u8]) -> Result<Vec<(Token, u64)>, LexFault>
     ensures { lexing.Gives result (lexing.lexed_in (length line.now) 0 line.now) }
 {
@@ -55,6 +56,8 @@ fn lexed(alloc: Global, line: &[u8]) -> Result<Vec<(Token, u64)>, LexFault>
 }
 
 /// The tokens of a line, each with the number of bytes before it.
+///
+/// An error is the first bad byte, wherever it stands, or want of memory. A comment's bytes are never bad.
 pub fn tokens(alloc: Global, line: &[u8]) -> Result<Vec<(Token, u64)>, LexFault>
     // What is found are the line's tokens.
     ensures found { IfOk result (λ ts. lexing.Lexes 0 line.now ts.items) }

@@ -14,7 +14,7 @@ mod front;
 mod fronts;
 mod lexing;
 
-pub use bytes::{behind, is_blank};
+pub use bytes::{begins_comment, behind, is_blank};
 pub use lexing::{LexFault, tokens};
 
 #[cfg(test)]

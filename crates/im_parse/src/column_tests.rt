@@ -1,7 +1,7 @@
 ghost use Rattle.std.specs.Prelude.{◌≡◌};
 ghost use Rattle.im_readers.specs.Reading.{Read, Found, and_then};
 ghost use Rattle.im_readers.specs.Answers.{Gives};
-ghost use Rattle.im_syntax.specs.Written.{term_of_test};
+ghost use Rattle.im_syntax.specs.Written.{term_of_form};
 ghost use Rattle.im_parse.specs.Conditions as conditions;
 
 use crate::condition_kinds::{kind_of_range, kind_of_tail};
@@ -9,7 +9,7 @@ use crate::kinds::{RangeKind, TailKind};
 use crate::marks::{cmp, is_key, lit, name, peek, word};
 use crate::values::tuple;
 use im_readers::Halt;
-use im_syntax::{Keyword, Test, Token};
+use im_syntax::{Keyword, TermForm, Token};
 use im_values::Name;
 use std::alloc::Global;
 
@@ -25,24 +25,24 @@ fn negated(tokens: &[Token]) -> (bool, &[Token])
 }
 
 #[tactic(auto, unfolding(crate::specs::Conditions::comparison_at))]
-fn comparison(alloc: Global, column: Name, tokens: &[Token]) -> Result<(Test, &[Token]), Halt>
-    ensures { Gives (λ x. Found (term_of_test x.0) x.1.now) result
+fn comparison(alloc: Global, column: Name, tokens: &[Token]) -> Result<(TermForm, &[Token]), Halt>
+    ensures { Gives (λ x. Found (term_of_form x.0) x.1.now) result
         (and_then (conditions.comparison_at tokens.now) (λ tail rest. Found (conditions.test_of (column, tail)) rest)) }
 {
     let (cmp, rest) = cmp(tokens)?;
     let (value, rest) = lit(alloc, rest)?;
-    Ok((Test::Compare { column, cmp, value }, rest))
+    Ok((TermForm::Compare { column, cmp, value }, rest))
 }
 
 #[tactic(auto, unfolding(crate::specs::Conditions::null_at))]
-fn null_test(column: Name, tokens: &[Token]) -> Result<(Test, &[Token]), Halt>
-    ensures { Gives (λ x. Found (term_of_test x.0) x.1.now) result
+fn null_test(column: Name, tokens: &[Token]) -> Result<(TermForm, &[Token]), Halt>
+    ensures { Gives (λ x. Found (term_of_form x.0) x.1.now) result
         (and_then (conditions.null_at tokens.now) (λ tail rest. Found (conditions.test_of (column, tail)) rest)) }
 {
     let rest = word(tokens, Keyword::Is)?;
     let (negated, rest) = negated(rest);
     let rest = word(rest, Keyword::Null)?;
-    Ok((Test::IsNull { column, negated }, rest))
+    Ok((TermForm::IsNull { column, negated }, rest))
 }
 
 #[tactic(auto, unfolding(crate::specs::Conditions::between_at))]
@@ -51,8 +51,8 @@ fn between(
     column: Name,
     negated: bool,
     tokens: &[Token],
-) -> Result<(Test, &[Token]), Halt>
-    ensures { Gives (λ x. Found (term_of_test x.0) x.1.now) result
+) -> Result<(TermForm, &[Token]), Halt>
+    ensures { Gives (λ x. Found (term_of_form x.0) x.1.now) result
         (and_then (conditions.between_at tokens.now) (λ range rest. Found (conditions.test_of (column, conditions.ranged negated range)) rest)) }
 {
     let rest = word(tokens, Keyword::Between)?;
@@ -60,7 +60,7 @@ fn between(
     let rest = word(rest, Keyword::And)?;
     let (high, rest) = lit(alloc, rest)?;
     Ok((
-        Test::Between {
+        TermForm::Between {
             column,
             negated,
             low,
@@ -76,14 +76,14 @@ fn within(
     column: Name,
     negated: bool,
     tokens: &[Token],
-) -> Result<(Test, &[Token]), Halt>
-    ensures { Gives (λ x. Found (term_of_test x.0) x.1.now) result
+) -> Result<(TermForm, &[Token]), Halt>
+    ensures { Gives (λ x. Found (term_of_form x.0) x.1.now) result
         (and_then (conditions.in_at tokens.now) (λ range rest. Found (conditions.test_of (column, conditions.ranged negated range)) rest)) }
 {
     let rest = word(tokens, Keyword::In)?;
     let (values, rest) = tuple(alloc, rest)?;
     Ok((
-        Test::Within {
+        TermForm::Within {
             column,
             negated,
             values,
@@ -93,8 +93,8 @@ fn within(
 }
 
 #[tactic(auto, unfolding(crate::specs::Conditions::ranged_at, crate::specs::Conditions::range_at))]
-fn range(alloc: Global, column: Name, tokens: &[Token]) -> Result<(Test, &[Token]), Halt>
-    ensures { Gives (λ x. Found (term_of_test x.0) x.1.now) result
+fn range(alloc: Global, column: Name, tokens: &[Token]) -> Result<(TermForm, &[Token]), Halt>
+    ensures { Gives (λ x. Found (term_of_form x.0) x.1.now) result
         (and_then (conditions.ranged_at tokens.now) (λ tail rest. Found (conditions.test_of (column, tail)) rest)) }
 {
     let (negated, rest) = negated(tokens);
@@ -107,8 +107,8 @@ fn range(alloc: Global, column: Name, tokens: &[Token]) -> Result<(Test, &[Token
 
 /// A test of a column.
 #[tactic(auto, unfolding(crate::specs::Conditions::test_at, crate::specs::Conditions::tail_at))]
-pub fn test(alloc: Global, tokens: &[Token]) -> Result<(Test, &[Token]), Halt>
-    ensures { Gives (λ x. Found (term_of_test x.0) x.1.now) result (conditions.test_at tokens.now) }
+pub fn test(alloc: Global, tokens: &[Token]) -> Result<(TermForm, &[Token]), Halt>
+    ensures { Gives (λ x. Found (term_of_form x.0) x.1.now) result (conditions.test_at tokens.now) }
 {
     let (column, rest) = name(alloc, tokens)?;
     match kind_of_tail(peek(rest)?) {

@@ -10,7 +10,7 @@ use crate::condition_kinds::kind_of_term;
 use crate::kinds::TermKind;
 use crate::marks::{is_key, left_paren, peek, right_paren, word};
 use im_readers::Halt;
-use im_syntax::{Cond, Conj, Keyword, Term, Test, Token};
+use im_syntax::{Cond, Conj, Keyword, Term, TermForm, Token};
 use std::alloc::Global;
 
 /// The tokens behind a keyword, where it stands.
@@ -36,6 +36,7 @@ fn flat_term(alloc: Global, tokens: &[Token]) -> Result<(Term, &[Token]), Halt>
     }
 }
 
+/// A test of a column, as a term.
 fn plain(alloc: Global, tokens: &[Token]) -> Result<(Term, &[Token]), Halt>
     ensures { Gives (λ x. Found x.0 x.1.now) result (conditions.test_at tokens.now) }
 {
@@ -55,6 +56,7 @@ fn term(alloc: Global, depth: u32, tokens: &[Token]) -> Result<(Term, &[Token]),
     }
 }
 
+/// A term in which NOT and parentheses may stand, and inside them nest at most so deep.
 #[cycle(condition)]
 #[tactic(auto, unfolding(crate::specs::Conditions::deep_term_at))]
 fn deep_term(alloc: Global, inside: u32, tokens: &[Token]) -> Result<(Term, &[Token]), Halt>
@@ -67,6 +69,7 @@ fn deep_term(alloc: Global, inside: u32, tokens: &[Token]) -> Result<(Term, &[To
     }
 }
 
+/// A term behind NOT.
 #[cycle(condition)]
 #[tactic(auto, unfolding(crate::specs::Conditions::negation_at))]
 fn negation(alloc: Global, inside: u32, tokens: &[Token]) -> Result<(Term, &[Token]), Halt>
@@ -74,9 +77,10 @@ fn negation(alloc: Global, inside: u32, tokens: &[Token]) -> Result<(Term, &[Tok
 {
     let rest = word(tokens, Keyword::Not)?;
     let (inner, rest) = term(alloc, inside, rest)?;
-    Ok((Term::of(Test::Not(Box::new(alloc, inner)?)), rest))
+    Ok((Term::of(TermForm::Not(Box::new(alloc, inner)?)), rest))
 }
 
+/// A condition in parentheses.
 #[cycle(condition)]
 #[tactic(auto, unfolding(crate::specs::Conditions::nested_at))]
 fn nested(alloc: Global, inside: u32, tokens: &[Token]) -> Result<(Term, &[Token]), Halt>
@@ -85,9 +89,10 @@ fn nested(alloc: Global, inside: u32, tokens: &[Token]) -> Result<(Term, &[Token
     let rest = left_paren(tokens)?;
     let (inner, rest) = cond(alloc, inside, rest)?;
     let rest = right_paren(rest)?;
-    Ok((Term::of(Test::Nest(Box::new(alloc, inner)?)), rest))
+    Ok((Term::of(TermForm::Nest(Box::new(alloc, inner)?)), rest))
 }
 
+/// Terms with AND between them.
 #[cycle(condition)]
 #[tactic(auto, unfolding(crate::specs::Conditions::conj_at, im_readers::specs::Reading::others))]
 fn conj(alloc: Global, depth: u32, tokens: &[Token]) -> Result<(Conj, &[Token]), Halt>

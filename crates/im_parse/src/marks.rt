@@ -8,7 +8,7 @@ use im_syntax::{Keyword, Level, Lit, Sign, Token, is_name};
 use im_values::{Cmp, Name};
 use std::alloc::Global;
 
-/// The next token.
+/// The next token, which stays where it is.
 pub fn peek(tokens: &[Token]) -> Result<&Token, Halt>
     ensures { Gives (λ t. Found t.now tokens.now) result (peeked tokens.now) }
 {
@@ -59,6 +59,7 @@ pub fn word(tokens: &[Token], keyword: Keyword) -> Result<&[Token], Halt>
     }
 }
 
+/// An opening parenthesis, and the tokens behind it.
 pub fn left_paren(tokens: &[Token]) -> Result<&[Token], Halt>
     ensures { Gives (λ rest. Found tt rest.now) result (mark marks.is_left tokens.now) }
 {
@@ -68,6 +69,7 @@ pub fn left_paren(tokens: &[Token]) -> Result<&[Token], Halt>
     }
 }
 
+/// A closing parenthesis, and the tokens behind it.
 pub fn right_paren(tokens: &[Token]) -> Result<&[Token], Halt>
     ensures { Gives (λ rest. Found tt rest.now) result (mark marks.is_right tokens.now) }
 {
@@ -77,6 +79,7 @@ pub fn right_paren(tokens: &[Token]) -> Result<&[Token], Halt>
     }
 }
 
+/// A star, and the tokens behind it.
 pub fn star(tokens: &[Token]) -> Result<&[Token], Halt>
     ensures { Gives (λ rest. Found tt rest.now) result (mark marks.is_star tokens.now) }
 {
@@ -86,6 +89,7 @@ pub fn star(tokens: &[Token]) -> Result<&[Token], Halt>
     }
 }
 
+/// The sign `=`, and the tokens behind it.
 pub fn equals(tokens: &[Token]) -> Result<&[Token], Halt>
     ensures { Gives (λ rest. Found tt rest.now) result (mark marks.is_equals tokens.now) }
 {
@@ -131,6 +135,7 @@ pub fn cmp_of(token: &Token) -> Option<Cmp>
     }
 }
 
+/// A comparison, and the tokens behind its sign.
 #[tactic(auto, unfolding(crate::specs::Marks::cmp_at))]
 pub fn cmp(tokens: &[Token]) -> Result<(Cmp, &[Token]), Halt>
     ensures { Gives (λ x. Found x.0 x.1.now) result (marks.cmp_at tokens.now) }
@@ -158,13 +163,14 @@ pub fn name(alloc: Global, tokens: &[Token]) -> Result<(Name, &[Token]), Halt>
     }
 }
 
-/// Whether a word is a name.
+/// Whether a word may name something.
 fn is_free(word: &[u8]) -> bool
     ensures { result ≡ marks.is_name word.now }
 {
     is_name(word)
 }
 
+/// The number that a token is, where it lies from low to high.
 fn number_of(token: &Token, low: u64, high: u64) -> Option<u64>
     ensures within { IfSome result (λ n. n ≤ high) }
     ensures exact { result ≡ marks.number_of low high token.now }
@@ -224,6 +230,7 @@ pub fn lit(alloc: Global, tokens: &[Token]) -> Result<(Lit, &[Token]), Halt>
     }
 }
 
+/// The level that a token names.
 fn level_of(token: &Token) -> Option<Level>
     ensures { result ≡ marks.level_of token.now }
 {

@@ -23,6 +23,7 @@ pub enum ParseFault {
     NoMemory,
 }
 
+/// A statement of all the tokens.
 #[tactic(auto, unfolding(crate::specs::Statements::whole_at))]
 fn whole(alloc: Global, tokens: &[Token]) -> Result<Stmt, Halt>
     ensures { Gives (λ s. Found s []) result (whole_at tokens.now) }
@@ -35,6 +36,9 @@ fn whole(alloc: Global, tokens: &[Token]) -> Result<Stmt, Halt>
 }
 
 /// The statement that the tokens spell.
+///
+/// An error is the number of tokens in the longest front that begins a statement, or want of memory. A NOT or a
+/// parenthesis past the 64th level is refused at its token, so the stack stays small.
 pub fn parse(alloc: Global, tokens: &[Token]) -> Result<Stmt, ParseFault>
     // What is read is a statement, and the tokens are its spelling.
     ensures found { IfOk result (λ s. IsStmt s × (tokens.now ≡ spelling s)) }
@@ -50,6 +54,7 @@ pub fn parse(alloc: Global, tokens: &[Token]) -> Result<Stmt, ParseFault>
     }
 }
 
+/// Whether the tokens begin as statements of a side do.
 fn begins(tokens: &[Token], side: Side) -> bool
     ensures { result ≡ statements.begins_of side tokens.now }
 {
@@ -60,6 +65,8 @@ fn begins(tokens: &[Token], side: Side) -> bool
 }
 
 /// The statement of one side that the tokens spell.
+///
+/// An error is the number of tokens in the longest front that begins a statement of the side, or want of memory.
 pub fn parse_for(alloc: Global, side: Side, tokens: &[Token]) -> Result<Stmt, ParseFault>
     // What is read is a statement of the side, and the tokens are its spelling.
     ensures found { IfOk result (λ s. IsStmtOf side s × (tokens.now ≡ spelling s)) }

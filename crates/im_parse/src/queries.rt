@@ -17,6 +17,7 @@ use std::alloc::Global;
 /// How deep NOT and parentheses may nest in a condition.
 const DEEPEST: u32 = 64;
 
+/// The column of an aggregate, in parentheses behind its keyword.
 #[tactic(auto, unfolding(crate::specs::Queries::aggregate_at))]
 fn aggregate(alloc: Global, keyword: Keyword, tokens: &[Token]) -> Result<(Name, &[Token]), Halt>
     ensures { Gives (λ x. Found x.0 x.1.now) result (queries.aggregate_at keyword tokens.now) }
@@ -28,6 +29,7 @@ fn aggregate(alloc: Global, keyword: Keyword, tokens: &[Token]) -> Result<(Name,
     Ok((column, rest))
 }
 
+/// What stands in the parentheses of COUNT.
 #[tactic(auto, unfolding(crate::specs::Queries::counted_at))]
 fn counted(alloc: Global, tokens: &[Token]) -> Result<(ItemPart, &[Token]), Halt>
     ensures { Gives (λ x. Found x.0 x.1.now) result (queries.counted_at tokens.now) }
@@ -44,6 +46,7 @@ fn counted(alloc: Global, tokens: &[Token]) -> Result<(ItemPart, &[Token]), Halt
     }
 }
 
+/// COUNT of rows or of a column.
 #[tactic(auto, unfolding(crate::specs::Queries::count_at))]
 fn count(alloc: Global, tokens: &[Token]) -> Result<(ItemPart, &[Token]), Halt>
     ensures { Gives (λ x. Found x.0 x.1.now) result (queries.count_at tokens.now) }
@@ -81,6 +84,7 @@ fn item(alloc: Global, tokens: &[Token]) -> Result<(ItemPart, &[Token]), Halt>
     }
 }
 
+/// ASC or DESC, where it is written.
 #[tactic(auto, unfolding(crate::specs::Queries::way_at))]
 fn way(tokens: &[Token]) -> (Way, &[Token])
     ensures { queries.way_at tokens.now ≡ Found result.0 result.1.now }
@@ -92,6 +96,7 @@ fn way(tokens: &[Token]) -> (Way, &[Token])
     }
 }
 
+/// One key of ORDER BY.
 #[tactic(auto, unfolding(crate::specs::Queries::key_at))]
 fn key(alloc: Global, tokens: &[Token]) -> Result<(KeyPart, &[Token]), Halt>
     ensures { Gives (λ x. Found x.0 x.1.now) result (queries.key_at tokens.now) }
@@ -101,6 +106,7 @@ fn key(alloc: Global, tokens: &[Token]) -> Result<(KeyPart, &[Token]), Halt>
     Ok((KeyPart { item, way }, rest))
 }
 
+/// Items in a list.
 struct Items;
 
 impl Part<Token> for Items {
@@ -123,6 +129,7 @@ impl Part<Token> for Items {
     }
 }
 
+/// Keys in a list.
 struct Keys;
 
 impl Part<Token> for Keys {
@@ -141,6 +148,7 @@ impl Part<Token> for Keys {
     }
 }
 
+/// What a query answers: a star, or items.
 #[tactic(auto, unfolding(crate::specs::Queries::list_at))]
 fn select_list(alloc: Global, tokens: &[Token]) -> Result<(ListPart, &[Token]), Halt>
     ensures { Gives (λ x. Found x.0 x.1.now) result (queries.list_at tokens.now) }
@@ -170,6 +178,7 @@ pub fn where_part(alloc: Global, tokens: &[Token]) -> Result<(Option<Cond>, &[To
     Ok((Some(cond), rest))
 }
 
+/// GROUP BY and its columns, where it is written.
 #[tactic(auto, unfolding(crate::specs::Queries::groups_at))]
 fn group_by(alloc: Global, tokens: &[Token]) -> Result<(Parts<Name>, &[Token]), Halt>
     ensures { Gives (λ x. Found x.0 x.1.now) result (queries.groups_at tokens.now) }
@@ -183,6 +192,7 @@ fn group_by(alloc: Global, tokens: &[Token]) -> Result<(Parts<Name>, &[Token]), 
     Ok((Parts::of(names), rest))
 }
 
+/// ORDER BY and its keys, where it is written.
 #[tactic(auto, unfolding(crate::specs::Queries::keys_at))]
 fn order_by(alloc: Global, tokens: &[Token]) -> Result<(Parts<KeyPart>, &[Token]), Halt>
     ensures { Gives (λ x. Found x.0 x.1.now) result (queries.keys_at tokens.now) }
@@ -196,7 +206,7 @@ fn order_by(alloc: Global, tokens: &[Token]) -> Result<(Parts<KeyPart>, &[Token]
     Ok((Parts::of(keys), rest))
 }
 
-/// A query.
+/// A query, with each clause in its place.
 #[tactic(auto, unfolding(crate::specs::Queries::query_at))]
 pub fn query(alloc: Global, tokens: &[Token]) -> Result<(Query, &[Token]), Halt>
     ensures { Gives (λ x. Found x.0 x.1.now) result (queries.query_at tokens.now) }

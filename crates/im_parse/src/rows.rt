@@ -13,6 +13,7 @@ use im_syntax::{Keyword, Lit, Parts, Stmt, Token};
 use im_values::Name;
 use std::alloc::Global;
 
+/// Tuples in a list.
 struct Tuples;
 
 impl Part<Token> for Tuples {
@@ -35,6 +36,7 @@ impl Part<Token> for Tuples {
     }
 }
 
+/// Settings of columns in a list.
 struct Sets;
 
 impl Part<Token> for Sets {
@@ -57,6 +59,7 @@ impl Part<Token> for Sets {
     }
 }
 
+/// A column and its new value.
 #[tactic(auto, unfolding(crate::specs::Statements::set_at))]
 fn set(alloc: Global, tokens: &[Token]) -> Result<((Name, Lit), &[Token]), Halt>
     ensures { Gives (λ x. Found x.0 x.1.now) result (statements.set_at tokens.now) }
@@ -67,6 +70,7 @@ fn set(alloc: Global, tokens: &[Token]) -> Result<((Name, Lit), &[Token]), Halt>
     Ok(((column, value), rest))
 }
 
+/// Whether the columns of an INSERT are written.
 fn begins_list(tokens: &[Token]) -> bool
     ensures { result ≡ statements.begins_list tokens.now }
 {
@@ -76,6 +80,7 @@ fn begins_list(tokens: &[Token]) -> bool
     }
 }
 
+/// The columns of an INSERT in parentheses, where they are written.
 #[tactic(auto, unfolding(crate::specs::Statements::insert_columns_at))]
 fn insert_columns(alloc: Global, tokens: &[Token]) -> Result<(Parts<Name>, &[Token]), Halt>
     ensures { Gives (λ x. Found x.0 x.1.now) result (statements.insert_columns_at tokens.now) }

@@ -5,6 +5,7 @@ use crate::kinds::StmtKind;
 use crate::marks::keyword;
 use im_syntax::{Keyword, Side, Token};
 
+/// What a statement is, by its first keyword.
 fn kind_of_keyword(keyword: Keyword) -> StmtKind
     ensures { result ≡ statements.kind_of_keyword keyword }
 {
@@ -43,6 +44,7 @@ pub fn kind_of_statement(token: &Token) -> StmtKind
     }
 }
 
+/// Whose statements are of this kind.
 fn side_of_kind(kind: StmtKind) -> Option<Side>
     ensures { result ≡ statements.side_of_kind kind }
 {

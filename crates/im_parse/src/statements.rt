@@ -15,6 +15,7 @@ use im_readers::Halt;
 use im_syntax::{Keyword, Stmt, Token};
 use std::alloc::Global;
 
+/// The cursor behind a keyword.
 #[tactic(auto, unfolding(crate::specs::Statements::cursor_at))]
 fn cursor(tokens: &[Token], keyword: Keyword) -> Result<(u32, &[Token]), Halt>
     ensures { Gives (λ x. Found x.0 x.1.now) result (statements.cursor_at keyword tokens.now) }
@@ -69,6 +70,7 @@ fn select(alloc: Global, tokens: &[Token]) -> Result<(Stmt, &[Token]), Halt>
     Ok((Stmt::Select(query), rest))
 }
 
+/// A statement of one keyword.
 fn single(tokens: &[Token], keyword: Keyword, stmt: Stmt) -> Result<(Stmt, &[Token]), Halt>
     ensures { Gives (λ x. Found x.0 x.1.now) result (statements.single_at keyword stmt tokens.now) }
 {

@@ -11,6 +11,7 @@ use im_readers::{Halt, Part, list_up_to};
 use im_syntax::{ColumnPart, Keyword, KindWord, Level, MemoryPart, Parts, Stmt, Token};
 use std::alloc::Global;
 
+/// The length of a VARCHAR2, in bytes.
 #[tactic(auto, unfolding(crate::specs::Tables::varchar2_at))]
 fn varchar2(tokens: &[Token]) -> Result<(u16, &[Token]), Halt>
     ensures { Gives (λ x. Found x.0 x.1.now) result (tables.varchar2_at tokens.now) }
@@ -22,6 +23,7 @@ fn varchar2(tokens: &[Token]) -> Result<(u16, &[Token]), Halt>
     Ok((length as u16, rest))
 }
 
+/// The kind of a column.
 #[tactic(auto, unfolding(crate::specs::Tables::kind_at))]
 fn kind(tokens: &[Token]) -> Result<(KindWord, &[Token]), Halt>
     ensures { Gives (λ x. Found x.0 x.1.now) result (tables.kind_at tokens.now) }
@@ -43,6 +45,7 @@ fn kind(tokens: &[Token]) -> Result<(KindWord, &[Token]), Halt>
     }
 }
 
+/// Columns in a list.
 struct Columns;
 
 impl Part<Token> for Columns {
@@ -65,6 +68,7 @@ impl Part<Token> for Columns {
     }
 }
 
+/// A name and a kind.
 #[tactic(auto, unfolding(crate::specs::Tables::column_at))]
 fn column(alloc: Global, tokens: &[Token]) -> Result<(ColumnPart, &[Token]), Halt>
     ensures { Gives (λ x. Found x.0 x.1.now) result (tables.column_at tokens.now) }
@@ -85,6 +89,7 @@ fn column_list(alloc: Global, tokens: &[Token]) -> Result<(Parts<ColumnPart>, &[
     Ok((Parts::of(columns), rest))
 }
 
+/// MEMCOMPRESS FOR QUERY LOW, where it is written.
 #[tactic(auto, unfolding(crate::specs::Tables::compress_at))]
 fn compress(tokens: &[Token]) -> Result<(bool, &[Token]), Halt>
     ensures { Gives (λ x. Found x.0 x.1.now) result (tables.compress_at tokens.now) }
@@ -99,6 +104,7 @@ fn compress(tokens: &[Token]) -> Result<(bool, &[Token]), Halt>
     Ok((true, rest))
 }
 
+/// PRIORITY and its level, where it is written.
 #[tactic(auto, unfolding(crate::specs::Tables::priority_at))]
 fn priority(tokens: &[Token]) -> Result<(Option<Level>, &[Token]), Halt>
     ensures { Gives (λ x. Found x.0 x.1.now) result (tables.priority_at tokens.now) }
@@ -111,6 +117,7 @@ fn priority(tokens: &[Token]) -> Result<(Option<Level>, &[Token]), Halt>
     Ok((Some(level), rest))
 }
 
+/// An INMEMORY clause.
 #[tactic(auto, unfolding(crate::specs::Tables::memory_at))]
 fn memory(tokens: &[Token]) -> Result<(MemoryPart, &[Token]), Halt>
     ensures { Gives (λ x. Found x.0 x.1.now) result (tables.memory_at tokens.now) }
@@ -121,6 +128,7 @@ fn memory(tokens: &[Token]) -> Result<(MemoryPart, &[Token]), Halt>
     Ok((MemoryPart { compress, level }, rest))
 }
 
+/// BLOCK or EXTENT and its number, where it is written.
 #[tactic(auto, unfolding(crate::specs::Tables::option_at))]
 fn option(tokens: &[Token], keyword: Keyword) -> Result<(Option<u32>, &[Token]), Halt>
     ensures { Gives (λ x. Found x.0 x.1.now) result (tables.option_at keyword tokens.now) }
@@ -133,6 +141,7 @@ fn option(tokens: &[Token], keyword: Keyword) -> Result<(Option<u32>, &[Token]),
     Ok((Some(number), rest))
 }
 
+/// An INMEMORY clause, where it is written.
 #[tactic(auto, unfolding(crate::specs::Tables::memory_option_at))]
 fn memory_option(tokens: &[Token]) -> Result<(Option<MemoryPart>, &[Token]), Halt>
     ensures { Gives (λ x. Found x.0 x.1.now) result (tables.memory_option_at tokens.now) }
@@ -168,6 +177,7 @@ pub fn create(alloc: Global, tokens: &[Token]) -> Result<(Stmt, &[Token]), Halt>
     ))
 }
 
+/// What stands behind the name in ALTER TABLE: an INMEMORY clause, or NO INMEMORY and so none.
 #[tactic(auto, unfolding(crate::specs::Tables::altered_at))]
 fn altered(tokens: &[Token]) -> Result<(Option<MemoryPart>, &[Token]), Halt>
     ensures { Gives (λ x. Found x.0 x.1.now) result (tables.altered_at tokens.now) }

@@ -65,13 +65,13 @@ fn token_of(alloc: Global, text: &[u8]) -> Result<Token, Fail> {
         return Ok(Token::Sign(sign));
     }
     match text {
-        [39, text @ ..] => Ok(Token::Text(Name::of(alloc, text)?)),
+        [b'\'', text @ ..] => Ok(Token::Text(Name::of(alloc, text)?)),
         [b'0'..=b'9', ..] => {
             let mut number: i64 = 0;
             for digit in text {
                 number = number
                     .saturating_mul(10)
-                    .saturating_add(i64::from(*digit) - 48);
+                    .saturating_add(i64::from(digit.saturating_sub(b'0')));
             }
             Ok(Token::Int(number))
         }

@@ -8,6 +8,7 @@ use crate::marks::{is_key, peek, word};
 use im_readers::Halt;
 use im_syntax::{Keyword, Stmt, Token};
 
+/// What stands behind ISOLATION LEVEL, by its first token.
 fn kind_of_level(token: &Token) -> LevelKind
     ensures { result ≡ statements.kind_of_level token.now }
 {
@@ -20,6 +21,7 @@ fn kind_of_level(token: &Token) -> LevelKind
     }
 }
 
+/// What stands behind SET TRANSACTION, by its first token.
 fn kind_of_mode(token: &Token) -> ModeKind
     ensures { result ≡ statements.kind_of_mode token.now }
 {
@@ -32,6 +34,7 @@ fn kind_of_mode(token: &Token) -> ModeKind
     }
 }
 
+/// ISOLATION LEVEL and what it is.
 #[tactic(auto, unfolding(crate::specs::Statements::isolation_at))]
 fn isolation(tokens: &[Token]) -> Result<(Stmt, &[Token]), Halt>
     ensures { Gives (λ x. Found x.0 x.1.now) result (statements.isolation_at tokens.now) }
@@ -52,6 +55,7 @@ fn isolation(tokens: &[Token]) -> Result<(Stmt, &[Token]), Halt>
     }
 }
 
+/// The mode behind SET TRANSACTION.
 #[tactic(auto, unfolding(crate::specs::Statements::mode_at))]
 fn mode(tokens: &[Token]) -> Result<(Stmt, &[Token]), Halt>
     ensures { Gives (λ x. Found x.0 x.1.now) result (statements.mode_at tokens.now) }

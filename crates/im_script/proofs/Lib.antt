@@ -1,3 +1,4 @@
 pub mod Told
 pub mod Cuts
 pub mod Once
+pub mod Sessions

@@ -1,5 +1,5 @@
 -- What the lines of a script are.
-use Rattle.std.specs.Prelude.{◌≡◌, ℕ, ◌+◌, ◌^◌, ◌<◌, nat_lt, List, [], ◌∷◌, length, drop, map, slice_index, if◌then◌else◌, Result, Ok, Err}
+use Rattle.std.specs.Prelude.{◌≡◌, ℕ, ◌+◌, ◌^◌, ◌<◌, ◌≤◌, nat_lt, List, [], ◌∷◌, length, drop, map, slice_index, if◌then◌else◌, Option, Some, IfSome, Result, Ok, Err}
 use Rattle.im_syntax.specs.declared.token.Token.{Token}
 use Rattle.im_syntax.specs.declared.statement.Side.{Side}
 use Rattle.im_syntax.specs.declared.statement.Side.TheVariants as side
@@ -89,6 +89,17 @@ pub record IsLine (n : ℕ) (bytes : List ℕ) (l : Line) : Type 0 where
   pub first : l.first ≡ first_of bytes
   pub who : l.who ≡ who_of (form_of bytes)
   pub kind : HasKind (form_of bytes) bytes l.kind
+
+-- The one that speaks in a line of this kind: the session of its statement, one of 1 to 16, or the background, which has the number 0.
+abbrev pub SpeaksAs : Option ℕ → LineKind → Type 0
+SpeaksAs who (kind.Session n s) = (who ≡ Some n) × (1 ≤ n) × (n ≤ 16)
+SpeaksAs who (kind.Background s) = who ≡ Some 0
+SpeaksAs who k = Unit {0}
+
+-- A line names a session from 1 to 16, or the background by 0, or nobody; and its statement is that one's.
+pub record NamesOneOf16 (l : Line) : Type 0 where
+  pub who : IfSome l.who (λ n. n ≤ 16)
+  pub speaks : SpeaksAs l.who l.kind
 
 -- each line is that of its bytes, numbered from n
 abbrev pub AreLines : ℕ → List (List ℕ) → List Line → Type 0

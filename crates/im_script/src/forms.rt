@@ -5,7 +5,7 @@ ghost use Rattle.im_script.specs.Forms as forms;
 ghost use Rattle.im_script.specs.Lines.{AreLines};
 
 use crate::form::Form;
-use im_lex::is_blank;
+use im_lex::{begins_comment, is_blank};
 
 /// The most bytes of a line that is read.
 pub const LONGEST_LINE: usize = 1_048_576;
@@ -23,6 +23,7 @@ pub fn blanks(line: &[u8]) -> usize
     line.len()
 }
 
+/// Whether all the bytes are blanks.
 fn all_blank(bytes: &[u8]) -> bool
     ensures { result ≡ list_all bytes_of.is_blank bytes.now }
 {
@@ -34,12 +35,14 @@ fn all_blank(bytes: &[u8]) -> bool
     true
 }
 
+/// The byte at a place, or 0 past the end.
 fn byte_at(bytes: &[u8], i: usize) -> u8
     ensures { result ≡ slice_index bytes.now i }
 {
     if i < bytes.len() { bytes[i] } else { 0 }
 }
 
+/// Whether it is `race>` and blanks.
 fn is_race(bytes: &[u8]) -> bool
     ensures { result ≡ forms.is_race bytes.now }
 {
@@ -50,35 +53,30 @@ fn is_race(bytes: &[u8]) -> bool
     front == b"race>".as_slice() && all_blank(rest)
 }
 
-fn begins_comment(bytes: &[u8]) -> bool
-    ensures { result ≡ bytes_of.begins_comment bytes.now }
-{
-    match bytes {
-        [b'-', b'-', ..] => true,
-        _ => false,
-    }
-}
-
+/// Whether `1>` to `9>` stands at the front.
 fn is_low(bytes: &[u8]) -> bool
     ensures { result ≡ forms.is_low bytes.now }
 {
     let digit = byte_at(bytes, 0);
-    49 <= digit && digit <= 57 && byte_at(bytes, 1) == b'>'
+    b'1' <= digit && digit <= b'9' && byte_at(bytes, 1) == b'>'
 }
 
+/// Whether `10>` to `16>` stands at the front.
 fn is_high(bytes: &[u8]) -> bool
     ensures { result ≡ forms.is_high bytes.now }
 {
     let digit = byte_at(bytes, 1);
-    byte_at(bytes, 0) == b'1' && 48 <= digit && digit <= 54 && byte_at(bytes, 2) == b'>'
+    byte_at(bytes, 0) == b'1' && b'0' <= digit && digit <= b'6' && byte_at(bytes, 2) == b'>'
 }
 
+/// Whether `bg>` stands at the front.
 fn is_background(bytes: &[u8]) -> bool
     ensures { result ≡ forms.is_background bytes.now }
 {
     byte_at(bytes, 0) == b'b' && byte_at(bytes, 1) == b'g' && byte_at(bytes, 2) == b'>'
 }
 
+/// The form of a line by what stands behind its blanks, of which there are so many.
 fn form_behind(blanks: usize, bytes: &[u8]) -> Form
     requires { blanks ≤ 1048576 }
     ensures { result ≡ forms.form_behind blanks bytes.now }
@@ -93,10 +91,16 @@ fn form_behind(blanks: usize, bytes: &[u8]) -> Form
         return Form::Race;
     }
     if is_low(bytes) {
-        return Form::Session(u32::from(byte_at(bytes, 0).saturating_sub(48)), blanks + 2);
+        return Form::Session(
+            u32::from(byte_at(bytes, 0).saturating_sub(b'0')),
+            blanks + 2,
+        );
     }
     if is_high(bytes) {
-        return Form::Session(u32::from(byte_at(bytes, 1).saturating_sub(38)), blanks + 3);
+        return Form::Session(
+            u32::from(byte_at(bytes, 1).saturating_sub(b'0' - 10)),
+            blanks + 3,
+        );
     }
     if is_background(bytes) {
         return Form::Background(blanks + 3);
@@ -127,7 +131,7 @@ pub fn first(line: &[u8]) -> u64
     }
 }
 
-/// Whom a line names.
+/// Whom a line names: a session, the background by 0, or nobody.
 pub fn who(form: Form) -> Option<u32>
     ensures { result ≡ forms.who_of form }
 {

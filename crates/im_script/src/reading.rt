@@ -20,6 +20,7 @@ struct Parted {
     places: Vec<u64>,
 }
 
+/// The tokens and their places, each in a list of its own. No token is copied.
 fn part(alloc: Global, lexed: Vec<(Token, u64)>) -> Result<Parted, NoMemory>
     ensures tokens { IfOk result (λ p. p.tokens.items ≡ lines_are.tokens_of lexed.items) }
     ensures places { IfOk result (λ p. p.places.items ≡ lines_are.places_of lexed.items) }
@@ -33,6 +34,7 @@ fn part(alloc: Global, lexed: Vec<(Token, u64)>) -> Result<Parted, NoMemory>
     Ok(Parted { tokens, places })
 }
 
+/// The byte of the n-th token, from 1, or the one past the line.
 fn byte_of(before: usize, long: usize, places: &[u64], n: u64) -> u64
     requires fits { lines_are.byte_of before long places.now n < 2 ^ 64 }
     ensures { result ≡ lines_are.byte_of before long places.now n }
@@ -71,6 +73,7 @@ fn trouble_of_place(before: usize, long: usize, places: &[u64], fault: ParseFaul
     }
 }
 
+/// The statement that the tokens spell.
 fn parsed(
     alloc: Global,
     side: Side,
@@ -148,8 +151,13 @@ fn kind_of_form(alloc: Global, form: Form, line: &[u8]) -> LineKind
 }
 
 /// The line of these bytes, with its number.
+///
+/// A line that lacks memory has the kind NoMemory.
 pub fn line_of(alloc: Global, number: u64, line: &[u8]) -> Line
-    ensures { lines_are.IsLine number line.now result }
+    // It is the line of its bytes.
+    ensures is { lines_are.IsLine number line.now result }
+    // It names a session from 1 to 16, the background by 0, or nobody.
+    ensures names { lines_are.NamesOneOf16 result }
 {
     let form = form(line);
     Line {

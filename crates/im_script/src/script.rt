@@ -1,4 +1,5 @@
 ghost use Rattle.std.specs.Prelude.{◌≡◌, ◌≢◌, ◌≤◌, ℕ, List, length, take, IfOk};
+ghost use Rattle.std.specs.List.{All};
 ghost use Rattle.im_lex.specs.Bytes.{run};
 ghost use Rattle.im_script.specs.declared.line.LineKind.{LineKind as AnyKind};
 ghost use Rattle.im_script.specs.declared.line.LineKind.TheVariants as kind;
@@ -36,7 +37,10 @@ fn front(bytes: &[u8], count: usize) -> &[u8]
 ///
 /// A line that lacks memory has the kind NoMemory; an error is want of memory for the list itself.
 pub fn lines(alloc: Global, script: &[u8]) -> Result<Vec<Line>, NoMemory>
-    ensures { IfOk result (λ ls. lines_are.AreLines 1 (forms.lines_of script.now) ls.items) }
+    // They are the lines of the script.
+    ensures are { IfOk result (λ ls. lines_are.AreLines 1 (forms.lines_of script.now) ls.items) }
+    // Each names a session from 1 to 16, the background by 0, or nobody.
+    ensures names { IfOk result (λ ls. All lines_are.NamesOneOf16 ls.items) }
 {
     let mut lines = Vec::new(alloc);
     let mut at = 0;

@@ -14,18 +14,22 @@ use Rattle.im_history.specs.declared.change.Change.{Change}
 use Rattle.im_history.specs.declared.entry.Entry.{Entry}
 use Rattle.im_history.specs.declared.entry.Mode.TheVariants.{Committed}
 use Rattle.im_history.specs.declared.entry.What.TheVariants.{Create, Open, Shut, Write, Commit}
+use Rattle.im_history.specs.declared.look.TableInfo.{TableInfo}
 use Rattle.im_history.specs.History.{History, replay}
-use Rattle.im_history.specs.Legal.{MayCreate, MayOpen, IsInsert, put_from}
+use Rattle.im_history.specs.Legal.{put_from}
 use Rattle.im_history.specs.Stored.{Stored}
-use Rattle.im_history.specs.Tables.{Table, tables, is_named, name_is_taken, given}
-use Rattle.im_history.specs.Cursors.{Opened, opened, is_cursor_open}
+use Rattle.im_history.specs.Tables.{tables, is_named, name_is_taken, given}
+use Rattle.im_history.specs.Cursors.{Opened, opened, is_cursor, is_cursor_open}
 use Rattle.im_history.specs.Grid.{Grid, default_grid}
 use Rattle.im_history.specs.Transactions.{is_open, or_here, begun, mode}
-use Rattle.im_history.proofs.Laws.{tables-push, given-push, begun-push, mode-push, opened-push, IsLegal-push}
+use Rattle.im_history.specs.Views.{view_at}
+use Rattle.im_history.proofs.Laws.{tables-push, given-push, begun-push, mode-push, opened-push}
 use Rattle.im_shell.specs.declared.table.Kept.{Kept}
 use Rattle.im_shell.specs.Engine.{given_at, TakesNumbers, Agrees}
+use Rattle.im_shell.specs.Legal.{MayCreate, MayOpen, IsInsert}
 use Rattle.im_shell.specs.Machine.{number_column}
 use Rattle.im_shell.specs.Names.{is_kept_as}
+use Rattle.im_shell.proofs.LegalLemmas.{IsLegal-push}
 
 -- ---- names
 
@@ -37,26 +41,23 @@ prefix_len-map : {X Y : Type 0} (p : Y → Bool) (f : X → Y) (xs : List X) →
 prefix_len-map p f [] = refl
 prefix_len-map p f (x ∷ xs) = ap (λ n. if p (f x) then 1 + n else 0) (prefix_len-map p f xs)
 
-name_of : Table → List ℕ
-name_of table = table.name
-
-pub list_any-names : (name : List ℕ) (kept : List Kept) (ts : List Table) → map (λ table. table.name) kept ≡ map (λ table. table.name) ts → list_any (is_kept_as name) kept ≡ list_any (is_named name) ts
+pub list_any-names : (name : List ℕ) (kept : List Kept) (ts : List TableInfo) → map (λ table. table.name) kept ≡ map (λ table. table.name) ts → list_any (is_kept_as name) kept ≡ list_any (is_named name) ts
 list_any-names name kept ts same =
     list_any-map (pointwise nat_eq name) (λ (table : Kept). table.name) kept
     ∙ (ap (list_any (pointwise nat_eq name)) same
-    ∙ sym (list_any-map (pointwise nat_eq name) (λ (table : Table). table.name) ts))
+    ∙ sym (list_any-map (pointwise nat_eq name) (λ (table : TableInfo). table.name) ts))
 
-pub position-names : (name : List ℕ) (kept : List Kept) (ts : List Table) → map (λ table. table.name) kept ≡ map (λ table. table.name) ts → position (is_kept_as name) kept ≡ position (is_named name) ts
+pub position-names : (name : List ℕ) (kept : List Kept) (ts : List TableInfo) → map (λ table. table.name) kept ≡ map (λ table. table.name) ts → position (is_kept_as name) kept ≡ position (is_named name) ts
 position-names name kept ts same = cc (place, long)
   where
     place : prefix_len (λ table. not (is_kept_as name table)) kept ≡ prefix_len (λ table. not (is_named name table)) ts
     place =
         prefix_len-map (λ other. not (pointwise nat_eq name other)) (λ (table : Kept). table.name) kept
         ∙ (ap (prefix_len (λ other. not (pointwise nat_eq name other))) same
-        ∙ sym (prefix_len-map (λ other. not (pointwise nat_eq name other)) (λ (table : Table). table.name) ts))
+        ∙ sym (prefix_len-map (λ other. not (pointwise nat_eq name other)) (λ (table : TableInfo). table.name) ts))
 
     long : length kept ≡ length ts
-    long = sym (length-map kept (λ (table : Kept). table.name)) ∙ (ap length same ∙ length-map ts (λ (table : Table). table.name))
+    long = sym (length-map kept (λ (table : Kept). table.name)) ∙ (ap length same ∙ length-map ts (λ (table : TableInfo). table.name))
 
 -- ---- lists
 
@@ -150,7 +151,7 @@ module _ (h : History) (kept : List Kept) (transactions : List Bool) (agrees : A
   given_is = ap (λ (k : Kept). k.given) table_is ∙ (sym (get_or-map (λ (k : Kept). k.given) kept place table 0 there) ∙ agrees.gives place)
 
   tables_there : place < length (tables h)
-  tables_there = omega (arith, ap length agrees.names, length-map kept (λ (k : Kept). k.name), length-map (tables h) (λ (t : Table). t.name))
+  tables_there = omega (arith, ap length agrees.names, length-map kept (λ (k : Kept). k.name), length-map (tables h) (λ (t : TableInfo). t.name))
 
   insert : IsInsert h who changes
   unfolding changes
@@ -228,8 +229,8 @@ module _ (h : History) (kept : List Kept) (transactions : List Bool) (agrees : A
   create : Entry
   create = record { who = who; what = Create name (number_column column) default_grid }
 
-  made : Table
-  made = record { name = name; schema = number_column column; grid = default_grid }
+  made : TableInfo
+  made = record { name = name; schema = number_column column; shape = default_grid; memory = None }
 
   after_create : List Kept
   after_create = kept ++ record { name = name; given = 0 } ∷ []
@@ -268,8 +269,8 @@ module _ (h : History) (kept : List Kept) (transactions : List Bool) (agrees : A
     names =
         map-append (λ (k : Kept). k.name) kept (record { name = name; given = 0 } ∷ [])
         ∙ (ap (λ (names : List (List ℕ)). names ++ name ∷ []) agrees.names
-        ∙ (sym (map-append (λ (t : Table). t.name) (tables h) (made ∷ [])) ∙ ap (map (λ table. table.name)) (sym tables_are)));
-    few = omega (arith, room, ap length agrees.names, length-map kept (λ (k : Kept). k.name), length-map (tables h) (λ (t : Table). t.name), length-append kept (record { name = name; given = 0 } ∷ []));
+        ∙ (sym (map-append (λ (t : TableInfo). t.name) (tables h) (made ∷ [])) ∙ ap (map (λ table. table.name)) (sym tables_are)));
+    few = omega (arith, room, ap length agrees.names, length-map kept (λ (k : Kept). k.name), length-map (tables h) (λ (t : TableInfo). t.name), length-append kept (record { name = name; given = 0 } ∷ []));
     numbers = subst (All TakesNumbers) (sym tables_are) (All-push TakesNumbers (tables h) made agrees.numbers (record { fit = λ number. refl }));
     gives = gives_after_create;
     small = small_after_create;
@@ -292,22 +293,26 @@ module _ (h : History) (kept : List Kept) (transactions : List Bool) (agrees : A
   during = h ++ opening ∷ []
 
   tables_at_scan : place < length (tables h)
-  tables_at_scan = omega (arith, ap length agrees.names, length-map kept (λ (k : Kept). k.name), length-map (tables h) (λ (t : Table). t.name))
+  tables_at_scan = omega (arith, ap length agrees.names, length-map kept (λ (k : Kept). k.name), length-map (tables h) (λ (t : TableInfo). t.name))
 
   may_open : MayOpen h who 0 (place + 1)
   may_open = let table = found-at (tables h) place tables_at_scan in record {
     made = table.item;
     exists = rw add-one table.found;
-    shut = ap (list_any (λ (other : Opened). other.cursor == 0)) (agrees.shut who);
+    shut = ap (list_any (is_cursor 0)) (agrees.shut who);
     few = inl refl;
   }
 
-  opened_during : (s : ℕ) → opened during s ≡ (if who == s then record { cursor = 0; table = place + 1; place = length h } ∷ [] else [])
+  -- the cursor that the scan opens
+  abbrev scanning : ℕ → Opened
+  scanning session = record { cursor = 0; view = view_at h session (place + 1) }
+
+  opened_during : (s : ℕ) → opened during s ≡ (if who == s then scanning s ∷ [] else [])
   unfolding during opening
   opened_during s =
       opened-push h opening s
-      ∙ elim (who == s) as (λ b. (if b then opened h s ++ record { cursor = 0; table = place + 1; place = length h } ∷ [] else opened h s) ≡ (if b then record { cursor = 0; table = place + 1; place = length h } ∷ [] else [])) [
-        | true ↦ ap (λ (cs : List Opened). cs ++ record { cursor = 0; table = place + 1; place = length h } ∷ []) (agrees.shut s)
+      ∙ elim (who == s) as (λ b. (if b then opened h s ++ scanning s ∷ [] else opened h s) ≡ (if b then scanning s ∷ [] else [])) [
+        | true ↦ ap (λ (cs : List Opened). cs ++ scanning s ∷ []) (agrees.shut s)
         | false ↦ agrees.shut s
       ]
 
@@ -315,14 +320,14 @@ module _ (h : History) (kept : List Kept) (transactions : List Bool) (agrees : A
   itself = grind (arith, nat_tests)
 
   may_shut : IsTrue (is_cursor_open during who 0)
-  may_shut = ap (list_any (λ (other : Opened). other.cursor == 0)) (opened_during who ∙ ap (λ b. if b then record { cursor = 0; table = place + 1; place = length h } ∷ [] else []) itself)
+  may_shut = ap (list_any (is_cursor 0)) (opened_during who ∙ ap (λ b. if b then scanning who ∷ [] else []) itself)
 
   shut_after : (s : ℕ) → opened (during ++ shutting ∷ []) s ≡ []
   unfolding shutting
   shut_after s =
       opened-push during shutting s
-      ∙ elim (who == s) as (λ b. (opened during s ≡ (if b then record { cursor = 0; table = place + 1; place = length h } ∷ [] else [])) → (if b then filter (λ other. not (other.cursor == 0)) (opened during s) else opened during s) ≡ []) [
-        | true ↦ λ e. ap (filter (λ (other : Opened). not (other.cursor == 0))) e
+      ∙ elim (who == s) as (λ b. (opened during s ≡ (if b then scanning s ∷ [] else [])) → (if b then filter (λ other. not (is_cursor 0 other)) (opened during s) else opened during s) ≡ []) [
+        | true ↦ λ e. ap (filter (λ (other : Opened). not (is_cursor 0 other))) e
         | false ↦ λ e. e
       ] (opened_during s)
 
@@ -351,7 +356,7 @@ entries_of a b e = ap (λ (s : Stored). s.entries) e
 -- a table that exists is kept
 pub kept-there : (h : History) (kept : List Kept) (transactions : List Bool) (now : History) (table : ℕ) → Agrees h kept transactions → h ≡ now → (1 ≤ table) × (table ≤ length (tables now)) → table - 1 < length kept
 kept-there h kept transactions now table agrees same exists =
-    omega (arith, exists.0, exists.1, ap length agrees.names, length-map kept (λ (k : Kept). k.name), length-map (tables h) (λ (t : Table). t.name), ap (λ (log : History). length (tables log)) same)
+    omega (arith, exists.0, exists.1, ap length agrees.names, length-map kept (λ (k : Kept). k.name), length-map (tables h) (λ (t : TableInfo). t.name), ap (λ (log : History). length (tables log)) same)
 
 -- a table's number is one more than its place
 pub place-number : (table : ℕ) → 1 ≤ table → (table - 1) + 1 ≡ table

@@ -1,7 +1,7 @@
 pub mod CountingLemmas
 pub mod EngineLemmas
+pub mod LegalLemmas
 pub mod LineLemmas
 pub mod PlanLemmas
 pub mod PlayLemmas
-pub mod SessionLemmas
 pub mod TouchLemmas

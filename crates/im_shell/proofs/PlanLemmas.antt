@@ -4,13 +4,13 @@ use Rattle.std.proofs.lemmas.Bool.Decides.{nat_tests}
 use Rattle.im_history.specs.declared.entry.Entry.{Entry}
 use Rattle.im_history.specs.declared.entry.What.{What}
 use Rattle.im_history.specs.declared.entry.What.TheVariants as what
-use Rattle.im_history.specs.Cursors.{Opened, opened, is_cursor_open}
+use Rattle.im_history.specs.Cursors.{opened, is_cursor, is_cursor_open}
 use Rattle.im_history.specs.Commits.{scn}
 use Rattle.im_history.specs.Grid.{default_grid}
 use Rattle.im_history.specs.History.{History}
 use Rattle.im_history.specs.Legal.{put_from}
 use Rattle.im_history.specs.Rows.{Row, snapshot}
-use Rattle.im_history.specs.Tables.{tables, name_is_taken, given}
+use Rattle.im_history.specs.Tables.{tables, table_named, name_is_taken, given}
 use Rattle.im_history.specs.Transactions.{is_open, begun}
 use Rattle.im_history.proofs.Laws.{scn-push, begun-push}
 use Rattle.im_plan.specs.Goes.{After, Nobody, Ends, Goes}
@@ -18,7 +18,7 @@ use Rattle.im_plan.specs.Plan.{Plan, End, Turn, made, counted}
 use Rattle.im_shell.specs.declared.reply.Reply.{Reply}
 use Rattle.im_shell.specs.declared.reply.Body.TheVariants.{Created, Inserted, Committed, Counted}
 use Rattle.im_shell.specs.declared.reply.Fault.{Fault}
-use Rattle.im_shell.specs.Machine.{look, answer_at, amends, memory_reply, number_column, table_named, rows_seen, with_table, insert_row, count_rows, create_refusal, unless_refused, or_refused, create_last, commit_plan, insert_plan, count_plan, create_plan, Request, IsRest, IsAnswer}
+use Rattle.im_shell.specs.Machine.{look, answer_at, amends, memory_reply, number_column, rows_seen, with_table, insert_row, count_rows, create_refusal, unless_refused, or_refused, create_last, commit_plan, insert_plan, count_plan, create_plan, Request, IsRest, IsAnswer}
 use Rattle.std.specs.List.{list_any}
 
 -- nobody came between
@@ -30,7 +30,7 @@ here h = record { between = []; lawful = record { none = refl }; log = sym (appe
 
 -- no cursor of the session is open
 pub closed : (h : History) (who : ℕ) → opened h who ≡ [] → is_cursor_open h who 0 ≡ false
-closed h who none = ap (list_any (λ (other : Opened). other.cursor == 0)) none
+closed h who none = ap (list_any (is_cursor 0)) none
 
 module _ (who k : ℕ) (h : History) where
   -- the plan is at its end

@@ -3,19 +3,20 @@ use Rattle.std.specs.Prelude.{◌≡◌, ℕ, ◌+◌, ◌<◌, ◌≤◌, ℤ, 
 use Rattle.im_values.specs.declared.value.Value.TheVariants.{Int}
 use Rattle.im_values.specs.Fits.{fits}
 use Rattle.im_history.specs.declared.entry.Mode.TheVariants.{Committed}
+use Rattle.im_history.specs.declared.look.TableInfo.{TableInfo}
 use Rattle.im_history.specs.Cursors.{opened}
 use Rattle.im_history.specs.History.{History}
-use Rattle.im_history.specs.Legal.{IsLegal}
-use Rattle.im_history.specs.Tables.{Table, tables, given}
+use Rattle.im_history.specs.Tables.{tables, given}
 use Rattle.im_history.specs.Transactions.{is_open, mode}
 use Rattle.im_shell.specs.declared.table.Kept.{Kept}
+use Rattle.im_shell.specs.Legal.{IsLegal}
 
 -- the row numbers given of the table at a place, by what is kept: none past the last table
 abbrev pub given_at : List Kept → ℕ → ℕ
 given_at kept place = slice_index_or (map (λ table. table.given) kept) place 0
 
 -- a row of one number fits the table
-pub record TakesNumbers (table : Table) : Type 0 where
+pub record TakesNumbers (table : TableInfo) : Type 0 where
   pub fit : (number : ℤ) → fits (Int number ∷ []) table.schema ≡ true
 
 -- what is kept is read from the history, which is legal: the names and given row numbers of the tables, and who has an open

@@ -1,6 +1,7 @@
 pub mod Built
 pub mod Counting
 pub mod Engine
+pub mod Legal
 pub mod Machine
 pub mod Names
 pub mod Play

@@ -1,7 +1,5 @@
 -- The plan of each statement: what it reads, adds and answers, turn by turn.
-use Rattle.std.specs.Prelude.{ℕ, ℤ, suc, ◌+◌, true, false, nat_lt, List, [], ◌∷◌, length, ◌++◌, Option, Some, None, if◌then◌else◌, ◌≡◌}
-use Rattle.std.specs.List.{position}
-use Rattle.std.specs.Option.{option_map}
+use Rattle.std.specs.Prelude.{ℕ, ℤ, ◌+◌, true, false, nat_lt, List, [], ◌∷◌, length, ◌++◌, Option, Some, None, if◌then◌else◌, ◌≡◌}
 use Rattle.im_values.specs.declared.schema.Column.{Column}
 use Rattle.im_values.specs.declared.schema.Kind.TheVariants as kind
 use Rattle.im_values.specs.declared.value.Value.TheVariants as value
@@ -13,7 +11,7 @@ use Rattle.im_history.specs.Grid.{default_grid}
 use Rattle.im_history.specs.History.{History}
 use Rattle.im_history.specs.Legal.{put_from}
 use Rattle.im_history.specs.Rows.{Row, seen, present, snapshot, own_changes}
-use Rattle.im_history.specs.Tables.{tables, is_named, name_is_taken, given}
+use Rattle.im_history.specs.Tables.{tables, table_named, name_is_taken, given}
 use Rattle.im_history.specs.Transactions.{is_open}
 use Rattle.im_plan.specs.Goes.{Line as Whole, Nobody, Rest}
 use Rattle.im_plan.specs.Plan.{Plan, End, Turn}
@@ -45,10 +43,6 @@ row_of number = value.Int number ∷ []
 abbrev pub AddsScan : History → ℕ → ℕ → History → Type 0
 AddsScan old who table new =
     new ≡ (old ++ record { who = who; what = what.Open 0 table } ∷ []) ++ record { who = who; what = what.Shut 0 } ∷ []
-
--- the table of this name, by its number from 1
-abbrev pub table_named : History → List ℕ → Option ℕ
-table_named history name = option_map suc (position (is_named name) (tables history))
 
 -- the columns of a table that has one column of numbers
 abbrev pub number_column : List ℕ → List Column

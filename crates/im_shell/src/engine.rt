@@ -6,9 +6,9 @@ ghost use Rattle.im_history.specs.Grid.{default_grid};
 ghost use Rattle.im_history.specs.History.{Adds};
 ghost use Rattle.im_history.specs.Legal.{put_from};
 ghost use Rattle.im_history.specs.Rows.{snapshot};
-ghost use Rattle.im_history.specs.Tables.{tables, name_is_taken, given};
+ghost use Rattle.im_history.specs.Tables.{tables, table_named, name_is_taken, given};
 ghost use Rattle.im_history.specs.Transactions.{is_open};
-ghost use Rattle.im_shell.specs.Machine.{AddsScan, row_of, table_named, number_column, rows_seen};
+ghost use Rattle.im_shell.specs.Machine.{AddsScan, row_of, number_column, rows_seen};
 
 use crate::counting::{NUMBERS, count_rows};
 use crate::table::{Kept, is_any_named, place_named};

@@ -5,6 +5,10 @@ pub mod ConditionFalls
 pub mod Written
 pub mod WrittenCode
 pub mod WrittenFalls
+pub mod Bound
+pub mod BoundCode
+pub mod BoundFalls
+pub mod BoundFits
 pub mod Words
 pub mod Spelling
 pub mod Rules

@@ -1,16 +1,16 @@
--- What a test holds is smaller than its term.
+-- What a form holds is smaller than its term.
 use Rattle.std.specs.Prelude.{◌≤◌, max}
 use Rattle.std.proofs.Common.{arith}
-use Rattle.im_syntax.specs.declared.condition.Test.{Test}
-use Rattle.im_syntax.specs.declared.condition.Test.TheVariants as test
-use Rattle.im_syntax.specs.declared.condition.Cond.TheDeep.{deep-Test}
+use Rattle.im_syntax.specs.declared.condition.TermForm.{TermForm}
+use Rattle.im_syntax.specs.declared.condition.TermForm.TheVariants as form
+use Rattle.im_syntax.specs.declared.condition.Cond.TheDeep.{deep-TermForm}
 use Rattle.im_syntax.specs.Condition.{term_size}
-use Rattle.im_syntax.specs.Written.{term_of_test}
+use Rattle.im_syntax.specs.Written.{term_of_form}
 
-pub test_falls : (t : Test) → max (deep-Test t) 0 ≤ term_size (term_of_test t)
-test_falls (test.Not t) = omega arith
-test_falls (test.Nest c) = omega arith
-test_falls (test.Compare column cmp value) = omega arith
-test_falls (test.IsNull column negated) = omega arith
-test_falls (test.Between column negated low high) = omega arith
-test_falls (test.Within column negated values) = omega arith
+pub form_falls : (t : TermForm) → max (deep-TermForm t) 0 ≤ term_size (term_of_form t)
+form_falls (form.Not t) = omega arith
+form_falls (form.Nest c) = omega arith
+form_falls (form.Compare column cmp value) = omega arith
+form_falls (form.IsNull column negated) = omega arith
+form_falls (form.Between column negated low high) = omega arith
+form_falls (form.Within column negated values) = omega arith

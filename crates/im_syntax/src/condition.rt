@@ -7,13 +7,13 @@ use std::marker::Model;
 #[cycle(condition)]
 #[derive(Debug, Drop)]
 pub struct Term {
-    test: Test,
+    form: TermForm,
 }
 
 /// What a term tests.
 #[cycle(condition)]
 #[derive(Debug, Drop)]
-pub enum Test {
+pub enum TermForm {
     Not(Box<Term>),
     /// A condition in parentheses.
     Nest(Box<Cond>),
@@ -64,15 +64,15 @@ impl Model for Term {
 
     ghost coded = { written_term };
 
-    ghost use Rattle.im_syntax.specs.Written.{term_of_test};
+    ghost use Rattle.im_syntax.specs.Written.{term_of_form};
 
-    ghost view = { λ t. term_of_test t.test };
+    ghost view = { λ t. term_of_form t.form };
 
     ghost size = { term_size };
 
-    ghost use Rattle.im_syntax.specs.WrittenFalls.{test_falls};
+    ghost use Rattle.im_syntax.specs.WrittenFalls.{form_falls};
 
-    ghost size_decreases = { λ t h. test_falls t.test };
+    ghost size_decreases = { λ t h. form_falls t.form };
 }
 
 impl Model for Conj {
@@ -115,20 +115,20 @@ impl Model for Cond {
 
 impl Term {
     ghost use Rattle.std.specs.Prelude.{◌≡◌};
-    ghost use Rattle.im_syntax.specs.Written.{term_of_test};
+    ghost use Rattle.im_syntax.specs.Written.{term_of_form};
 
-    /// The term of this test.
-    pub fn of(test: Test) -> Term
-        ensures { result ≡ term_of_test test }
+    /// The term of this form.
+    pub fn of(form: TermForm) -> Term
+        ensures { result ≡ term_of_form form }
     {
-        Term { test }
+        Term { form }
     }
 
     /// What the term tests.
-    pub fn test(&self) -> &Test
-        ensures { term_of_test result.now ≡ self.now }
+    pub fn form(&self) -> &TermForm
+        ensures { term_of_form result.now ≡ self.now }
     {
-        &self.test
+        &self.form
     }
 }
 

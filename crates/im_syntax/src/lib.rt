@@ -9,6 +9,8 @@
 //! Start with `statement.rt`, then `specs/Rules.antt` and `specs/Spelling.antt`.
 #![tactic(auto)]
 
+mod bound;
+mod bound_filter;
 mod condition;
 mod keyword;
 mod literal;
@@ -25,7 +27,9 @@ mod table;
 mod token;
 mod word;
 
-pub use condition::{Cond, Conj, Term, Test};
+pub use bound::{Bound, Item, Key};
+pub use bound_filter::{Filter, Test, TestForm, Tests};
+pub use condition::{Cond, Conj, Term, TermForm};
 pub use keyword::Keyword;
 pub use literal::Lit;
 pub use parts::Parts;

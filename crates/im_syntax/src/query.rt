@@ -6,6 +6,7 @@ use im_values::Name;
 #[derive(Debug, Drop)]
 pub enum ItemPart {
     Column(Name),
+    /// `COUNT(*)`, which counts rows. The other aggregates pass over NULL.
     CountAll,
     Count(Name),
     Sum(Name),
@@ -13,7 +14,7 @@ pub enum ItemPart {
     Max(Name),
 }
 
-/// The direction of a key of ORDER BY as it is written.
+/// The direction of a key of ORDER BY as it is written. Unsaid means ascending.
 #[derive(Clone, Copy, Debug, PartialEq, Eq)]
 pub enum Way {
     Unsaid,
@@ -40,7 +41,10 @@ pub enum ListPart {
 pub struct Query {
     pub list: ListPart,
     pub table: Name,
+    /// The condition behind WHERE.
     pub cond: Option<Cond>,
+    /// The columns of GROUP BY.
     pub groups: Parts<Name>,
+    /// The keys of ORDER BY, the first one first.
     pub keys: Parts<KeyPart>,
 }

@@ -1,7 +1,7 @@
 ghost use Rattle.std.specs.Prelude.{◌≡◌, ◌++◌, ◌∷◌, [], ◌==◌, if◌then◌else◌, OnOk};
 ghost use Rattle.im_syntax.specs.Spelling as spelled;
 
-use crate::condition::{Cond, Conj, Term, Test};
+use crate::condition::{Cond, Conj, Term, TermForm};
 use crate::keyword::Keyword;
 use crate::spelled::{put_in_parens, put_lit, put_name, put_sign, put_word};
 use crate::token::{Sign, Token};
@@ -52,28 +52,28 @@ fn put_between(
 fn put_term(alloc: Global, out: &mut Vec<Token>, term: &Term) -> Result<(), NoMemory>
     ensures { OnOk result (out.new.items ≡ out.old.items ++ spelled.spell_term term.now) }
 {
-    match term.test() {
-        Test::Not(term) => {
+    match term.form() {
+        TermForm::Not(term) => {
             put_word(alloc, out, Keyword::Not)?;
             put_term(alloc, out, term)
         }
-        Test::Nest(cond) => {
+        TermForm::Nest(cond) => {
             put_sign(out, Sign::LeftParen)?;
             put_cond(alloc, out, cond)?;
             put_sign(out, Sign::RightParen)
         }
-        Test::Compare { column, cmp, value } => {
+        TermForm::Compare { column, cmp, value } => {
             put_name(alloc, out, column)?;
             put_sign(out, sign_of(*cmp))?;
             put_lit(alloc, out, value)
         }
-        Test::IsNull { column, negated } => {
+        TermForm::IsNull { column, negated } => {
             put_name(alloc, out, column)?;
             put_word(alloc, out, Keyword::Is)?;
             put_not(alloc, out, *negated)?;
             put_word(alloc, out, Keyword::Null)
         }
-        Test::Between {
+        TermForm::Between {
             column,
             negated,
             low,
@@ -86,7 +86,7 @@ fn put_term(alloc: Global, out: &mut Vec<Token>, term: &Term) -> Result<(), NoMe
             put_word(alloc, out, Keyword::And)?;
             put_lit(alloc, out, high)
         }
-        Test::Within {
+        TermForm::Within {
             column,
             negated,
             values,

@@ -130,7 +130,7 @@ fn put_stmt(alloc: Global, out: &mut Vec<Token>, stmt: &Stmt) -> Result<(), NoMe
     }
 }
 
-/// The one list of tokens of a statement.
+/// The one list of tokens of a statement. An error is want of memory.
 pub fn spell(alloc: Global, stmt: &Stmt) -> Result<Vec<Token>, NoMemory>
     requires { IsStmt stmt.now }
     ensures { IfOk result (λ tokens. tokens.items ≡ spelled.spelling stmt.now) }

@@ -15,10 +15,12 @@ use std::alloc::Global;
 pub trait Spelled {
     ghost tokens: { Self → List Token };
 
+    /// Writes the part's tokens.
     fn put(&self, alloc: Global, out: &mut Vec<Token>) -> Result<(), NoMemory>
         ensures { OnOk result (out.new.items ≡ out.old.items ++ tokens self.now) };
 }
 
+/// A keyword.
 pub fn put_word(alloc: Global, out: &mut Vec<Token>, keyword: Keyword) -> Result<(), NoMemory>
     ensures { OnOk result (out.new.items ≡ out.old.items ++ spell.word keyword ∷ []) }
 {
@@ -26,6 +28,7 @@ pub fn put_word(alloc: Global, out: &mut Vec<Token>, keyword: Keyword) -> Result
     Ok(())
 }
 
+/// The name of a table or of a column.
 pub fn put_name(alloc: Global, out: &mut Vec<Token>, name: &Name) -> Result<(), NoMemory>
     ensures { OnOk result (out.new.items ≡ out.old.items ++ token.Word name.now ∷ []) }
 {
@@ -33,6 +36,7 @@ pub fn put_name(alloc: Global, out: &mut Vec<Token>, name: &Name) -> Result<(), 
     Ok(())
 }
 
+/// A sign.
 pub fn put_sign(out: &mut Vec<Token>, sign: Sign) -> Result<(), NoMemory>
     ensures { OnOk result (out.new.items ≡ out.old.items ++ token.Sign sign ∷ []) }
 {
@@ -40,6 +44,7 @@ pub fn put_sign(out: &mut Vec<Token>, sign: Sign) -> Result<(), NoMemory>
     Ok(())
 }
 
+/// A number without a sign.
 pub fn put_number(out: &mut Vec<Token>, number: u32) -> Result<(), NoMemory>
     ensures { OnOk result (out.new.items ≡ out.old.items ++ spell.number number ∷ []) }
 {
@@ -47,6 +52,7 @@ pub fn put_number(out: &mut Vec<Token>, number: u32) -> Result<(), NoMemory>
     Ok(())
 }
 
+/// A value.
 pub fn put_lit(alloc: Global, out: &mut Vec<Token>, lit: &Lit) -> Result<(), NoMemory>
     ensures { OnOk result (out.new.items ≡ out.old.items ++ spell.lit_token lit.now ∷ []) }
 {
@@ -63,6 +69,7 @@ pub fn put_lit(alloc: Global, out: &mut Vec<Token>, lit: &Lit) -> Result<(), NoM
     }
 }
 
+/// The parts, a comma before each.
 fn put_others<T: Spelled>(alloc: Global, out: &mut Vec<Token>, parts: &[T]) -> Result<(), NoMemory>
     ensures { OnOk result (out.new.items ≡ out.old.items ++ spell_others spell.comma T.tokens parts.now) }
 {

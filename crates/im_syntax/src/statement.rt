@@ -9,18 +9,24 @@ use im_values::Name;
 #[derive(Debug, Drop)]
 pub enum Stmt {
     Select(Query),
+    /// How a query would be served, extent by extent.
     Explain(Query),
     Create {
         name: Name,
+        /// 1 to 16 columns.
         columns: Parts<ColumnPart>,
+        /// Rows in a block, 1 to 64.
         block: Option<u32>,
+        /// Blocks in an extent, 1 to 64.
         extent: Option<u32>,
         memory: Option<MemoryPart>,
     },
+    /// ALTER TABLE with an INMEMORY clause.
     AlterMemory {
         name: Name,
         memory: MemoryPart,
     },
+    /// ALTER TABLE with NO INMEMORY.
     AlterNoMemory {
         name: Name,
     },
@@ -44,6 +50,7 @@ pub enum Stmt {
     SetCommitted,
     Commit,
     Rollback,
+    /// Cursors are numbered from 1 to 999.
     OpenFor {
         cursor: u32,
         query: Query,
@@ -55,7 +62,9 @@ pub enum Stmt {
     Begin,
     Switch,
     Cancel,
+    /// Credits for repopulation, 1 to 1,000,000.
     Trickle(u32),
+    /// The extent is from 0 to 4,294,967,295.
     Evict {
         name: Name,
         extent: u64,

@@ -31,7 +31,7 @@ fn are_word_bytes(bytes: &[u8]) -> bool
     true
 }
 
-/// Whether the bytes are a word in capitals.
+/// Whether the bytes are a word in capitals: a letter, then what goes on in a word, [`LONGEST_WORD`] at most.
 pub fn is_word(bytes: &[u8]) -> bool
     ensures { result ≡ words.is_word bytes.now }
 {
@@ -43,7 +43,7 @@ pub fn is_word(bytes: &[u8]) -> bool
     }
 }
 
-/// Whether the bytes are a word in capitals that is no keyword.
+/// Whether the bytes are a word in capitals that is no keyword, so that a table or a column may have it as its name.
 pub fn is_name(bytes: &[u8]) -> bool
     ensures { IsTrue result ↔ words.IsName bytes.now }
 {

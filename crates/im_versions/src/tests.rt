@@ -50,6 +50,27 @@ fn has_rows<L: Ledger>(blank: Blank, chain: &Chain, rows: &[(u64, Option<i64>)])
     true
 }
 
+/// Makes room for one version, at the second try where memory lacks at the first.
+///
+/// It answers whether the chain has these rows, and the same newest version, after the first try.
+fn reserve_twice<L: Ledger>(
+    blank: Blank,
+    chain: &mut Chain,
+    rows: &[(u64, Option<i64>)],
+) -> Result<bool, Fail>
+    requires name { blank.name ≡ L.name }
+    requires parts { blank.parts ≡ L.parts }
+    requires some { 0 < blank.parts }
+{
+    let latest = chain.latest();
+    let lacks = chain.reserve().is_err();
+    let is_as_before = chain.latest() == latest && has_rows::<L>(blank, chain, rows);
+    if lacks {
+        chain.reserve()?;
+    }
+    Ok(is_as_before)
+}
+
 #[test]
 fn each_scn_has_the_row_of_the_last_version_at_or_below_it(rt: HostRuntime) -> Result<(), Fail> {
     let alloc = rt.alloc();
@@ -72,6 +93,25 @@ fn each_scn_has_the_row_of_the_last_version_at_or_below_it(rt: HostRuntime) -> R
         assert!(rt; put(alloc, &mut chain, 2 * i, Some(i as i64))?);
         rows.push((2 * i, Some(i as i64)))?;
         rows.push((2 * i + 1, Some(i as i64)))?;
+    }
+    assert!(rt; has_rows::<Brand>(Blank::new(1), &chain, rows.as_slice()));
+    Ok(())
+}
+
+#[test]
+fn a_chain_that_lacks_memory_for_a_version_has_the_rows_that_it_had(
+    rt: HostRuntime,
+) -> Result<(), Fail> {
+    let alloc = rt.alloc();
+    let mut chain = Chain::new(alloc);
+    let mut rows = Vec::new(alloc);
+    rows.push((0, None))?;
+    for i in 1..20 {
+        let row = if i % 3 == 0 { None } else { Some(i as i64) };
+        assert!(rt; reserve_twice::<Brand>(Blank::new(1), &mut chain, rows.as_slice())?);
+        assert!(rt; put(alloc, &mut chain, 2 * i, row)?);
+        rows.push((2 * i, row))?;
+        rows.push((2 * i + 1, row))?;
     }
     assert!(rt; has_rows::<Brand>(Blank::new(1), &chain, rows.as_slice()));
     Ok(())

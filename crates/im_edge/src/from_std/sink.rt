@@ -1,8 +1,13 @@
-ghost use Rattle.std.specs.Prelude.{◌≡◌, ◌≤◌, None, length, IfOk};
+ghost use Rattle.std.specs.Prelude.{◌≡◌, ◌<◌, ◌≤◌, None, length, take, IfOk, OnErr};
+ghost use Rattle.std.specs.Io.KnownBytes.{Appends, Keeps};
+ghost use Rattle.im_edge.specs.Faults.{Rose};
+ghost use Rattle.im_edge.specs.FromStd.{HandsOn};
+ghost use Rattle.im_edge.specs.Sink.{IsInPiece, Writes, IfWriteFailed};
 
 use crate::sink::{Put, Sink};
 use std::io;
 use std::io::{ErrorKind, Write};
+use std::marker::Model;
 
 /// A sink over a writer of std, as standard output: `StdSink::new(rt.stdout())`.
 ///
@@ -15,10 +20,18 @@ pub struct StdSink<W> {
     faults: u64,
 }
 
+impl<W> Model for StdSink<W> {
+    ghost use Rattle.im_edge.specs.FromStd.{Adapter};
+
+    ghost Value = { Adapter W };
+
+    ghost view = { λ s. record { adapted = s.writer; faults = s.faults } };
+}
+
 impl<W: Write> StdSink<W> {
     /// A sink that has met no fault yet.
     pub fn new(writer: W) -> StdSink<W>
-        ensures { ⟦<StdSink<W> as Sink>⟧.faults result ≡ 0 }
+        ensures { result ≡ record { adapted = writer; faults = 0 } }
     {
         StdSink { writer, faults: 0 }
     }
@@ -29,7 +42,15 @@ impl<W: Write> Sink for StdSink<W> {
 
     ghost faults = { λ s. s.faults };
 
-    fn write(&mut self, piece: &[u8]) -> Put {
+    #[tactic(auto, using(crate::proofs::AdapterLemmas::appends_none))]
+    fn write(&mut self, piece: &[u8]) -> Put
+        requires some { 0 < length piece.now }
+        ensures handed_on { HandsOn result piece.now (W.contents self.old.adapted) (W.contents self.new.adapted) }
+        ensures count { IsInPiece result (length piece.now) }
+        ensures content { Writes result piece.now None None }
+        ensures cause { IfWriteFailed result (Rose self.old.faults self.new.faults) }
+        ensures later { self.old.faults ≤ self.new.faults }
+    {
         match write_once(&mut self.writer, piece) {
             Ok(count) if count > 0 => Put::Bytes(count),
             _ => {
@@ -42,12 +63,18 @@ impl<W: Write> Sink for StdSink<W> {
 
 /// One write, which is tried again where a signal broke it off.
 fn write_once<W: Write>(writer: &mut W, piece: &[u8]) -> io::Result<usize>
-    ensures { IfOk result (λ count. count ≤ length piece.now) }
+    ensures count { IfOk result (λ count. count ≤ length piece.now) }
+    ensures took { IfOk result (λ count. Appends (W.contents writer.old) (W.contents writer.new) (take count piece.now)) }
+    ensures err { OnErr result (Keeps (W.contents writer.old) (W.contents writer.new)) }
 {
     for _ in 0..u64::MAX {
         match writer.write(piece) {
-            Err(error) if error.kind() == ErrorKind::Interrupted => {}
-            answer => return answer,
+            Ok(count) => return Ok(count),
+            Err(error) => {
+                if error.kind() != ErrorKind::Interrupted {
+                    return Err(error);
+                }
+            }
         }
     }
     Err(ErrorKind::Interrupted.into())

@@ -1,0 +1,5 @@
+mod ExtentLemmas
+pub mod ForCallers
+mod HandingLemmas
+mod RoomLemmas
+mod VersionLemmas

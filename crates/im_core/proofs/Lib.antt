@@ -1,0 +1,9 @@
+mod BeginLemmas
+mod CountLemmas
+mod FetchLemmas
+mod HoldsLemmas
+mod RefusalLemmas
+mod RewriteLemmas
+mod ViewLemmas
+mod WeightLemmas
+mod WriteLemmas

@@ -1,0 +1,65 @@
+-- What a write to rows that a cursor saw may rely on.
+use Rattle.std.proofs.Common.{◌≡◌, ℕ, zero, suc, ◌*◌, ◌≤◌, inr, List, length, Option, Some, None, sym, ap, ◌∙◌, subst, arith}
+use Rattle.std.specs.Option.{option_map}
+use Rattle.std.proofs.lemmas.Option.{slice_get_within}
+use Rattle.im_versions.specs.Versions.{Versions}
+use Rattle.im_history.specs.declared.change.Change.{Change}
+use Rattle.im_history.specs.declared.entry.What.TheVariants.{Write}
+use Rattle.im_history.specs.declared.limits.Limits.{Limits}
+use Rattle.im_history.specs.declared.look.TableInfo.{TableInfo}
+use Rattle.im_history.specs.Cursors.{Opened, opened, cursor_at, is_cursor}
+use Rattle.im_history.specs.History.{History}
+use Rattle.im_history.specs.Legal.{Exists, MayWrite, IsAllowed}
+use Rattle.im_history.specs.Refusals.{write_refusal}
+use Rattle.im_history.specs.Stored.{Stored}
+use Rattle.im_history.specs.Tables.{tables, given}
+use Rattle.im_history.specs.Weights.{weight}
+use Rattle.im_txn.specs.declared.cursor.Cursor.{Cursor}
+use Rattle.im_txn.specs.Activity.{cursor_in}
+use Rattle.im_txn.specs.Agrees.{Agrees, kept}
+use Rattle.im_txn.specs.Standing.{Standing, activity_at}
+use Rattle.im_txn.proofs.ForCallers.{cursor-by}
+use Rattle.im_core.specs.Answers.{cursor_view, view_of}
+use Rattle.im_core.specs.Holds.{Holds}
+use Rattle.im_core.specs.Kept.{IsView, Gives}
+use Rattle.im_core.proofs.CountLemmas.{Gives-rewrite}
+use Rattle.im_core.proofs.FetchLemmas.{found_has}
+
+-- a table that exists has a number
+pub exists_range : (h : History) (table : ℕ) → Exists h table → (1 ≤ table) × (table ≤ length (tables h))
+exists_range h zero exists = absurd (no exists.is)
+  where
+    no : None ≡ Some exists.made → ⊥
+    no e = cc
+exists_range h (suc before) exists = let inside = slice_get_within (tables h) before exists.made exists.is in (omega arith, omega (arith, inside))
+
+-- the cursor with its view, and what a write may rely on
+pub record Rewrites (limits : Limits) (h : History) (who cursor : ℕ) (changes : List Change) (view : Cursor) : Type 0 where
+  pub exists : Exists h view.table
+  pub range : (1 ≤ view.table) × (view.table ≤ length (tables h))
+  pub scn : view.scn ≡ (cursor_view h who cursor).scn
+  pub gives : Gives h view.table changes (given h view.table)
+  pub allowed : write_refusal limits h who view.scn changes ≡ None → IsAllowed limits h who (Write changes)
+
+kept_of : (limits : Limits) (h : History) (who cursor : ℕ) (changes : List Change) (may : MayWrite h who cursor changes) → IsView h may.opened.view → given h may.opened.view.table * 64 ≤ weight h → Rewrites limits h who cursor changes (kept may.opened)
+kept_of limits h who cursor changes may view light = record {
+  exists = may.exists;
+  range = exists_range h may.opened.view.table may.exists;
+  scn = ap (λ (o : Option Opened). (view_of o).scn) (sym may.is);
+  gives = Gives-rewrite h may.opened.view.table changes may.same
+      (λ i within. let inside = may.inside i within in let given_then = view.within in omega (arith, inside, given_then)) light;
+  allowed = λ none. inr (record { cursor = cursor; may = may; allowed = none });
+}
+
+-- the cursor that a session has open is the one that it keeps
+pub kept_is : (h : History) (standing : Standing) (who cursor : ℕ) (opened_one : Opened) → Agrees h standing → cursor_at h who cursor ≡ Some opened_one → cursor_in (activity_at standing who) cursor ≡ Some (kept opened_one)
+kept_is h standing who cursor opened_one agrees is = cursor-by h standing who cursor agrees ∙ ap (option_map kept) is
+
+pub rewrites : (limits : Limits) (history : Stored) (catalog : List TableInfo) (counts : List ℕ) (weighed : ℕ) (beginnings : List ℕ) (blocks : List (List Versions)) (standing : Standing) (who cursor : ℕ) (changes : List Change) (view : Cursor) → Holds limits history catalog counts weighed beginnings blocks standing → MayWrite history.entries who cursor changes → cursor_in (activity_at standing who) cursor ≡ Some view → Rewrites limits history.entries who cursor changes view
+rewrites limits history catalog counts weighed beginnings blocks standing who cursor changes view holds may found =
+    let is = kept_is history.entries standing who cursor may.opened holds.sessions may.is in
+    let seen : IsView history.entries may.opened.view = found_has (λ (o : Opened). IsView history.entries o.view) (is_cursor cursor) (opened history.entries who) may.opened (holds.views.each who) may.is in
+    subst (Rewrites limits history.entries who cursor changes) (some-inj (sym is ∙ found)) (kept_of limits history.entries who cursor changes may seen (holds.tables.light may.opened.view.table))
+  where
+    some-inj : {a b : Cursor} → Some a ≡ Some b → a ≡ b
+    some-inj e = cc

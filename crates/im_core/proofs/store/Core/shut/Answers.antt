@@ -1,0 +1,18 @@
+use Rattle.std.proofs.Common.{◌≡◌, true, sym, subst, arith}
+use Rattle.im_history.specs.Cursors.{is_cursor_open}
+use Rattle.im_txn.proofs.ForCallers.{owed-cursor}
+use Rattle.im_core.specs.Seen.{Seen}
+use Rattle.im_core.proofs.HoldsLemmas.{Holds-shut}
+use Rattle.im_core.proofs.store.Core.shut.Goals as goal
+
+pub append-requires : goal.append-requires
+append-requires g c =
+    let opened = subst (λ (s : Seen). is_cursor_open s.log c.args.who c.args.cursor ≡ true) (sym c.self.view_is) c.requires.cursor in
+    let owes = owed-cursor c.self.inside.history.entries c.self.inside.sessions c.args.who c.args.cursor c.self.invariant.sessions c.requires.session opened in
+    let room = c.self.invariant.room in
+    omega (arith, owes, room)
+
+pub invariant_of-self : goal.invariant_of-self
+invariant_of-self g c =
+    let opened = subst (λ (s : Seen). is_cursor_open s.log c.args.who c.args.cursor ≡ true) (sym c.self.view_is) c.requires.cursor in
+    Holds-shut _ c.self.inside.history _ _ _ _ _ _ _ c.args.who c.args.cursor _ c.self.invariant c.requires.session opened c.append.ensures.added c.shut.ensures

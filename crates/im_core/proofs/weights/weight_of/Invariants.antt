@@ -1,0 +1,7 @@
+use Rattle.std.proofs.Common.{◌≡◌, take}
+use Rattle.im_history.specs.Weights.{changes_weight}
+use Rattle.im_core.proofs.weights.weight_of.Given as goal
+
+-- the changes so far are weighed
+abbrev pub invariant-loop-change : goal.invariant-loop-change
+invariant-loop-change l = l.sum ≡ changes_weight (take l.change-index l.changes)

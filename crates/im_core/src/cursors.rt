@@ -1,0 +1,183 @@
+ghost use Rattle.std.specs.Prelude.{◌≡◌, ◌+◌, ◌<◌, ◌≤◌, length, true, None, IfOk, IfErr, OnOk, OnErr};
+ghost use Rattle.im_history.specs.declared.entry.What.TheVariants as what;
+ghost use Rattle.im_history.specs.Cursors.{is_cursor_open};
+ghost use Rattle.im_history.specs.Legal.{Exists};
+ghost use Rattle.im_history.specs.Refusals.{open_refusal};
+ghost use Rattle.im_history.specs.Rows.{snapshot};
+ghost use Rattle.im_history.specs.Views.{view_at};
+ghost use Rattle.im_core.specs.Answers.{IsRefusal, cursor_view, committed_in, rows_in};
+ghost use Rattle.im_core.specs.Kept.{beginning_at};
+ghost use Rattle.im_core.specs.Seen.{Adds};
+
+use crate::answers::Pin;
+use crate::fetched::Fetched;
+use crate::store::{Core, NUMBERS};
+use im_history::{Entry, Mode, Refused, UnitLike, View, What, Why};
+use im_txn::Cursor;
+use im_values::{NoMemory, Steps};
+use std::sync::ledger::Ledger;
+
+impl<U: UnitLike> Core<U> {
+    /// Opens a cursor on a table: what it sees is fixed here. It is refused where this cursor is open, and then where as
+    /// many are open beside cursor 0 as may be.
+    pub fn open_cursor(&mut self, who: u32, cursor: u32, table: u32) -> Result<View, Refused>
+        requires session { who < NUMBERS }
+        requires exists { Exists self.old.log table }
+        ensures ok { OnOk result (Adds self.old who (what.Open cursor table) self.new) }
+        ensures allowed { OnOk result (open_refusal self.old.log who cursor ≡ None) }
+        ensures view { IfOk result (λ view. view ≡ view_at self.old.log who table) }
+        ensures few { IfOk result (λ view. view.rows ≤ 8388608) }
+        ensures some { IfOk result (λ view. 1 ≤ view.per) }
+        ensures err { OnErr result (self.new ≡ self.old) }
+        ensures refused { IfErr result (λ why. IsRefusal self.old.log (open_refusal self.old.log who cursor) why) }
+    {
+        if let Some(why) = self.open_refusal(who, cursor) {
+            return Err(self.refused(why));
+        }
+        match self.record_open(who, cursor, table) {
+            Ok(view) => Ok(view),
+            Err(NoMemory) => Err(self.refused(Why::NoMemory)),
+        }
+    }
+
+    fn record_open(&mut self, who: u32, cursor: u32, table: u32) -> Result<View, NoMemory>
+        requires session { who < NUMBERS }
+        requires exists { Exists self.old.log table }
+        requires allowed { open_refusal self.old.log who cursor ≡ None }
+        ensures ok { OnOk result (Adds self.old who (what.Open cursor table) self.new) }
+        ensures view { IfOk result (λ view. view ≡ view_at self.old.log who table) }
+        ensures few { IfOk result (λ view. view.rows ≤ 8388608) }
+        ensures some { IfOk result (λ view. 1 ≤ view.per) }
+        ensures err { OnErr result (self.new ≡ self.old) }
+    {
+        let view = self.view(who, table)?;
+        self.sessions.reserve_cursor(who)?;
+        self.history.reserve(self.sessions.owed() + 2)?;
+        self.sessions.open_cursor(
+            who,
+            Cursor {
+                cursor,
+                table,
+                scn: view.scn,
+                rows: view.rows,
+                per: view.per,
+            },
+        );
+        self.history.append(Entry {
+            who,
+            what: What::Open { cursor, table },
+        });
+        Ok(view)
+    }
+
+    /// The view that an opening has now.
+    fn view(&self, who: u32, table: u32) -> Result<View, NoMemory>
+        requires session { who < NUMBERS }
+        requires exists { Exists self.now.log table }
+        ensures view { IfOk result (λ view. view ≡ view_at self.now.log who table) }
+        ensures few { IfOk result (λ view. view.rows ≤ 8388608) }
+        ensures some { IfOk result (λ view. 1 ≤ view.per) }
+    {
+        let rows = self.given_of(table);
+        let per = self.catalog.tables()[table as usize - 1].shape.per_extent();
+        Ok(View {
+            place: self.history.len(),
+            table,
+            scn: self.snapshot(who),
+            rows,
+            per,
+            extents: (rows + per - 1) / per,
+            own: self.sessions.own(self.alloc, who, table)?,
+        })
+    }
+
+    /// The SCN that a statement of the session reads at.
+    fn snapshot(&self, who: u32) -> u64
+        requires session { who < NUMBERS }
+        ensures { result ≡ snapshot self.now.log who }
+    {
+        match self.sessions.mode(who) {
+            Mode::Committed => self.history.scn(),
+            Mode::Serializable | Mode::ReadOnly => self.beginning(who),
+        }
+    }
+
+    /// The SCN that the session's transaction began at, or that it would begin at now.
+    pub(crate) fn beginning(&self, who: u32) -> u64
+        requires session { who < NUMBERS }
+        ensures { result ≡ beginning_at self.now.log who }
+    {
+        match self.sessions.begun(who) {
+            Some(_) => self.beginnings[who as usize],
+            None => self.history.scn(),
+        }
+    }
+
+    /// Reads the rows of an extent that a cursor sees committed: a copy of each. It adds no entry.
+    ///
+    /// Each row number of the extent below the view's `rows` is one step at most.
+    pub fn pin<L: Ledger>(
+        &mut self,
+        who: u32,
+        cursor: u32,
+        extent: u64,
+        steps: &mut Steps<L>,
+    ) -> Result<Pin<U>, Refused>
+        requires session { who < NUMBERS }
+        requires within { extent < (cursor_view self.old.log who cursor).extents }
+        ensures same { self.new ≡ self.old }
+        ensures place { IfOk result (λ pin. pin.place ≡ length self.old.log) }
+        ensures unit { IfOk result (λ pin. pin.unit ≡ None) }
+        ensures fetched { IfOk result (λ pin.
+            pin.fetched ≡ committed_in self.old.log (cursor_view self.old.log who cursor) extent) }
+        ensures steps { steps.new ≤ steps.old + rows_in (cursor_view self.old.log who cursor) extent }
+        ensures err { IfErr result (λ why. IsRefusal self.old.log None why) }
+    {
+        match self.fetch(who, cursor, extent, steps) {
+            Ok(fetched) => Ok(Pin {
+                place: self.len(),
+                unit: None,
+                fetched,
+            }),
+            Err(NoMemory) => Err(self.refused(Why::NoMemory)),
+        }
+    }
+
+    fn fetch<L: Ledger>(
+        &self,
+        who: u32,
+        cursor: u32,
+        extent: u64,
+        steps: &mut Steps<L>,
+    ) -> Result<Fetched, NoMemory>
+        requires session { who < NUMBERS }
+        requires within { extent < (cursor_view self.now.log who cursor).extents }
+        ensures fetched { IfOk result (λ fetched.
+            fetched ≡ committed_in self.now.log (cursor_view self.now.log who cursor) extent) }
+        ensures steps { steps.new ≤ steps.old + rows_in (cursor_view self.now.log who cursor) extent }
+    {
+        let view = self.sessions.cursor(who, cursor).unwrap();
+        let first = extent * view.per;
+        let count = view.per.min(view.rows - first);
+        let rows = self
+            .blocks
+            .extent_rows(self.alloc, view.table, first, count, view.scn, steps)?;
+        Ok(Fetched::of(rows))
+    }
+
+    /// Shuts a cursor, and answers the place of the entry. It takes no memory.
+    pub fn shut(&mut self, who: u32, cursor: u32) -> u64
+        requires session { who < NUMBERS }
+        requires cursor { is_cursor_open self.old.log who cursor ≡ true }
+        ensures added { Adds self.old who (what.Shut cursor) self.new }
+        ensures place { result ≡ length self.old.log }
+    {
+        let place = self.history.len();
+        self.sessions.shut(who, cursor);
+        self.history.append(Entry {
+            who,
+            what: What::Shut { cursor },
+        });
+        place
+    }
+}

@@ -1,0 +1,27 @@
+//! The store: tables of versioned rows, sessions with their transactions, locks and cursors, and one recorded history.
+//!
+//! Contracts see a [`Core`] as its limits and its history, and nothing else (`specs/Seen.antt`). Each call adds exactly the
+//! entry that it names, or none, and what it answers is told from the history: the definitions are those of `im_history`.
+//! A refusal has exactly its cause (`specs/Refusals.antt` there), and leaves the store as it was; for want of memory any call
+//! may be refused whose answer can say so. [`Core::shut`] and [`Core::rollback`] are never refused: what they need was
+//! reserved when the cursor was opened and the transaction began.
+//!
+//! The main promise is that the history is legal: no write is lost, since a row that another session has changed, or that
+//! was committed after the writer's snapshot, is refused at once.
+//!
+//! Start with `specs/Seen.antt` and `store.rt`; `specs/Holds.antt` says how what is kept agrees with the history.
+#![tactic(auto)]
+
+mod answers;
+mod cursors;
+mod fetched;
+mod refusals;
+mod store;
+mod tables;
+mod transactions;
+mod weights;
+mod writes;
+
+pub use answers::{Begun, Committed, Made, Pin, Wrote};
+pub use fetched::Fetched;
+pub use store::Core;

@@ -1,0 +1,180 @@
+ghost use Rattle.std.specs.Prelude.{◌≡◌, ◌<◌, IfOk};
+ghost use Rattle.im_history.specs.Refusals as refusal;
+
+use crate::store::{Core, NUMBERS};
+use crate::weights::weight_of;
+use im_history::{Change, Mode, UnitLike, Why};
+use im_values::NoMemory;
+
+/// As many tables may stand.
+const MOST_TABLES: usize = 64;
+
+/// As many cursors of a session may be open beside cursor 0.
+const MOST_CURSORS: u64 = 8;
+
+impl<U: UnitLike> Core<U> {
+    pub(crate) fn create_refusal(&self, name: &[u8]) -> Option<Why>
+        ensures { result ≡ refusal.create_refusal self.now.log name.now }
+    {
+        if let Some(table) = self.catalog.number_of(name) {
+            return Some(Why::TableExists { table });
+        }
+        if self.catalog.tables().len() < MOST_TABLES {
+            None
+        } else {
+            Some(Why::TooManyTables)
+        }
+    }
+
+    pub(crate) fn open_refusal(&self, who: u32, cursor: u32) -> Option<Why>
+        requires { who < NUMBERS }
+        ensures { result ≡ refusal.open_refusal self.now.log who cursor }
+    {
+        if self.sessions.cursor(who, cursor).is_some() {
+            Some(Why::CursorOpen)
+        } else if cursor != 0 && self.sessions.cursors_open(who) >= MOST_CURSORS {
+            Some(Why::TooManyCursors)
+        } else {
+            None
+        }
+    }
+
+    fn read_only(&self, who: u32) -> Option<Why>
+        requires { who < NUMBERS }
+        ensures { result ≡ refusal.read_only self.now.log who }
+    {
+        match self.sessions.mode(who) {
+            Mode::ReadOnly => Some(Why::ReadOnly),
+            Mode::Committed | Mode::Serializable => None,
+        }
+    }
+
+    /// Whether another session holds the row of a change.
+    fn lock_on(&self, who: u32, change: &Change) -> Option<Why>
+        requires { who < NUMBERS }
+        ensures { result ≡ refusal.lock_on self.now.log who change.now }
+    {
+        let holder = self.sessions.holder(who, change.table, change.rid)?;
+        Some(Why::RowLocked {
+            row: change.rid,
+            holder,
+        })
+    }
+
+    /// The first row that another session holds.
+    fn row_locked(&self, who: u32, changes: &[Change]) -> Option<Why>
+        requires { who < NUMBERS }
+        ensures { result ≡ refusal.row_locked self.now.log who changes.now }
+    {
+        for change in changes {
+            let cause = self.lock_on(who, change);
+            if cause.is_some() {
+                return cause;
+            }
+        }
+        None
+    }
+
+    /// Whether a commit after this SCN touched the row of a change.
+    fn touch_after(&self, scn: u64, change: &Change) -> Option<Why>
+        ensures { result ≡ refusal.touch_after self.now.log scn change.now }
+    {
+        let last = self.blocks.latest(change.table, change.rid);
+        if last > scn {
+            Some(Why::Serialize {
+                row: change.rid,
+                scn: last,
+            })
+        } else {
+            None
+        }
+    }
+
+    /// The first row that a commit after this SCN touched.
+    fn serialize(&self, scn: u64, changes: &[Change]) -> Option<Why>
+        ensures { result ≡ refusal.serialize self.now.log scn changes.now }
+    {
+        for change in changes {
+            let cause = self.touch_after(scn, change);
+            if cause.is_some() {
+                return cause;
+            }
+        }
+        None
+    }
+
+    fn too_many_changes(&self, who: u32, changes: &[Change]) -> Option<Why>
+        requires { who < NUMBERS }
+        ensures { result ≡ refusal.too_many_changes self.now.limits self.now.log who changes.now }
+    {
+        let pending = self.sessions.pending(who).len() as u64;
+        let (need, left) = (
+            changes.len() as u64,
+            self.limits.changes.saturating_sub(pending),
+        );
+        if need > left {
+            Some(Why::TooManyChanges { need, left })
+        } else {
+            None
+        }
+    }
+
+    fn store_full(&self, changes: &[Change]) -> Result<Option<Why>, NoMemory>
+        ensures { IfOk result (λ cause. cause ≡ refusal.store_full self.now.limits self.now.log changes.now) }
+    {
+        let (need, left) = (
+            weight_of(changes)?,
+            self.limits.store.saturating_sub(self.weight),
+        );
+        if need > left {
+            Ok(Some(Why::StoreFull { need, left }))
+        } else {
+            Ok(None)
+        }
+    }
+
+    fn no_room(&self, who: u32, changes: &[Change]) -> Result<Option<Why>, NoMemory>
+        requires { who < NUMBERS }
+        ensures { IfOk result (λ cause. cause ≡ refusal.no_room self.now.limits self.now.log who changes.now) }
+    {
+        match self.too_many_changes(who, changes) {
+            Some(why) => Ok(Some(why)),
+            None => self.store_full(changes),
+        }
+    }
+
+    pub(crate) fn insert_refusal(
+        &self,
+        who: u32,
+        changes: &[Change],
+    ) -> Result<Option<Why>, NoMemory>
+        requires { who < NUMBERS }
+        ensures { IfOk result (λ cause. cause ≡ refusal.insert_refusal self.now.limits self.now.log who changes.now) }
+    {
+        match self.read_only(who) {
+            Some(why) => Ok(Some(why)),
+            None => self.no_room(who, changes),
+        }
+    }
+
+    pub(crate) fn write_refusal(
+        &self,
+        who: u32,
+        scn: u64,
+        changes: &[Change],
+    ) -> Result<Option<Why>, NoMemory>
+        requires { who < NUMBERS }
+        ensures { IfOk result (λ cause. cause ≡ refusal.write_refusal self.now.limits self.now.log who scn changes.now) }
+    {
+        if let Some(why) = self.read_only(who) {
+            return Ok(Some(why));
+        }
+        if let Some(why) = self.row_locked(who, changes) {
+            return Ok(Some(why));
+        }
+        if let Some(why) = self.serialize(scn, changes) {
+            return Ok(Some(why));
+        }
+        self.no_room(who, changes)
+    }
+}

@@ -1,0 +1,133 @@
+ghost use Rattle.std.specs.Prelude.{◌≡◌, ◌<◌, ◌≤◌, [], length, IfOk, IfErr, OnErr, None};
+ghost use Rattle.im_history.specs.Views.{look_at};
+ghost use Rattle.im_core.specs.Answers.{IsRefusal};
+
+use im_blocks::Blocks;
+use im_history::{Catalog, History, Limits, Look, Refused, UnitLike, Why};
+use im_txn::Sessions;
+use im_values::NoMemory;
+use std::alloc::Global;
+use std::marker::{Model, PhantomData};
+
+/// Sessions and workers have numbers below this.
+pub const NUMBERS: u32 = 25;
+
+/// The greatest limit of the weight of all changes.
+pub const MOST_WEIGHT: u64 = 536_870_912;
+
+/// The greatest limit of the changes of one transaction.
+pub const MOST_CHANGES: u64 = 65_536;
+
+/// A store of tables, over column units of the type `U`.
+///
+/// Contracts see its limits and its history. Everything else is kept beside the history, so that no call reads it again.
+#[derive(Drop)]
+pub struct Core<U> {
+    pub(crate) alloc: Global,
+    pub(crate) limits: Limits,
+    pub(crate) history: History,
+    pub(crate) catalog: Catalog,
+    /// How many row numbers of each table were given.
+    pub(crate) given: Vec<u64>,
+    /// What all changes weigh that were ever written.
+    pub(crate) weight: u64,
+    /// The SCN at which each session's open transaction began.
+    pub(crate) beginnings: [u64; NUMBERS as usize],
+    pub(crate) blocks: Blocks,
+    pub(crate) sessions: Sessions,
+    units: PhantomData<U>,
+}
+
+impl<U> Model for Core<U> {
+    ghost use Rattle.im_core.specs.Seen.{Seen};
+
+    ghost Value = { Seen };
+
+    ghost use Rattle.im_core.specs.Holds.{Holds};
+
+    ghost view = { λ c. record { limits = c.limits; log = c.history.entries } };
+
+    ghost invariant = { λ c. Holds c.limits c.history c.catalog c.given.items c.weight c.beginnings c.blocks c.sessions };
+}
+
+impl<U: UnitLike> Core<U> {
+    /// A store in which nothing has happened.
+    pub fn new(alloc: Global, limits: Limits) -> Result<Core<U>, Refused>
+        requires store { limits.store ≤ MOST_WEIGHT }
+        requires changes { limits.changes ≤ MOST_CHANGES }
+        ensures ok { IfOk result (λ made. made ≡ record { limits = limits; log = [] }) }
+        ensures err { IfErr result (λ why. IsRefusal [] None why) }
+    {
+        match Core::empty(alloc, limits) {
+            Ok(made) => Ok(made),
+            Err(NoMemory) => Err(Refused {
+                place: 0,
+                why: Why::NoMemory,
+            }),
+        }
+    }
+
+    fn empty(alloc: Global, limits: Limits) -> Result<Core<U>, NoMemory>
+        requires store { limits.store ≤ MOST_WEIGHT }
+        requires changes { limits.changes ≤ MOST_CHANGES }
+        ensures { IfOk result (λ made. made ≡ record { limits = limits; log = [] }) }
+    {
+        Ok(Core {
+            alloc,
+            limits,
+            history: History::new(alloc),
+            catalog: Catalog::new(alloc)?,
+            given: Vec::new(alloc),
+            weight: 0,
+            beginnings: [0; NUMBERS as usize],
+            blocks: Blocks::new(alloc),
+            sessions: Sessions::new(alloc)?,
+            units: PhantomData,
+        })
+    }
+
+    /// How many entries the history has. It takes no memory.
+    pub fn len(&self) -> u64
+        ensures { result ≡ length self.now.log }
+    {
+        self.history.len()
+    }
+
+    /// The history, handed out. It takes no memory.
+    pub fn into_history(self) -> History
+        ensures { result.entries ≡ self.log }
+    {
+        let Core { history, .. } = self;
+        history
+    }
+
+    /// What a session finds: the place, the SCN, its transaction, and the tables. It adds no entry.
+    pub fn look(&mut self, who: u32) -> Result<Look, Refused>
+        requires session { who < NUMBERS }
+        ensures same { self.new ≡ self.old }
+        ensures ok { IfOk result (λ look. look ≡ look_at self.old.log who) }
+        ensures err { IfErr result (λ why. IsRefusal self.old.log None why) }
+    {
+        match self.catalog.share() {
+            Ok(tables) => Ok(Look {
+                place: self.len(),
+                scn: self.history.scn(),
+                begun: self.sessions.begun(who),
+                mode: self.sessions.mode(who),
+                tables,
+            }),
+            Err(NoMemory) => Err(self.refused(Why::NoMemory)),
+        }
+    }
+
+    /// A refusal of a call at this moment.
+    pub(crate) fn refused(&self, why: Why) -> Refused
+        ensures place { result.place ≡ length self.now.log }
+        ensures why { result.why ≡ why }
+    {
+        Refused {
+            place: self.len(),
+            why,
+        }
+    }
+}

@@ -1,0 +1,104 @@
+ghost use Rattle.std.specs.Prelude.{◌≡◌, ◌+◌, ◌<◌, length, true, None, IfOk, IfErr, OnOk, OnErr};
+ghost use Rattle.im_history.specs.declared.entry.What.TheVariants as what;
+ghost use Rattle.im_history.specs.Commits.{scn};
+ghost use Rattle.im_history.specs.Refusals.{begin_refusal};
+ghost use Rattle.im_history.specs.Transactions.{is_open};
+ghost use Rattle.im_core.specs.Answers.{IsRefusal};
+ghost use Rattle.im_core.specs.Seen.{Adds};
+
+use crate::answers::{Begun, Committed};
+use crate::store::{Core, NUMBERS};
+use im_history::{Entry, Mode, Refused, UnitLike, What, Why};
+use im_values::NoMemory;
+
+impl<U: UnitLike> Core<U> {
+    /// Begins a transaction of a mode. It is refused where one is open.
+    pub fn begin(&mut self, who: u32, mode: Mode) -> Result<Begun, Refused>
+        requires session { who < NUMBERS }
+        ensures ok { OnOk result (Adds self.old who (what.Begin mode) self.new) }
+        ensures allowed { OnOk result (begin_refusal self.old.log who ≡ None) }
+        ensures begun { IfOk result (λ begun. begun ≡ record { place = length self.old.log; scn = scn self.old.log }) }
+        ensures err { OnErr result (self.new ≡ self.old) }
+        ensures refused { IfErr result (λ why. IsRefusal self.old.log (begin_refusal self.old.log who) why) }
+    {
+        if let Some(place) = self.sessions.begun(who) {
+            return Err(self.refused(Why::TransactionOpen { place }));
+        }
+        match self.record_begin(who, mode) {
+            Ok(begun) => Ok(begun),
+            Err(NoMemory) => Err(self.refused(Why::NoMemory)),
+        }
+    }
+
+    fn record_begin(&mut self, who: u32, mode: Mode) -> Result<Begun, NoMemory>
+        requires session { who < NUMBERS }
+        requires allowed { begin_refusal self.old.log who ≡ None }
+        ensures ok { OnOk result (Adds self.old who (what.Begin mode) self.new) }
+        ensures begun { IfOk result (λ begun. begun ≡ record { place = length self.old.log; scn = scn self.old.log }) }
+        ensures err { OnErr result (self.new ≡ self.old) }
+    {
+        self.history.reserve(self.sessions.owed() + 2)?;
+        let begun = Begun {
+            place: self.history.len(),
+            scn: self.history.scn(),
+        };
+        self.beginnings[who as usize] = begun.scn;
+        self.sessions.begin(who, begun.place, mode);
+        self.history.append(Entry {
+            who,
+            what: What::Begin { mode },
+        });
+        Ok(begun)
+    }
+
+    /// Commits what a session has pending. All growth is made first.
+    pub fn commit(&mut self, who: u32) -> Result<Committed, Refused>
+        requires session { who < NUMBERS }
+        ensures ok { OnOk result (Adds self.old who what.Commit self.new) }
+        ensures committed { IfOk result (λ done. done ≡ record { place = length self.old.log; scn = scn self.old.log + 1 }) }
+        ensures err { OnErr result (self.new ≡ self.old) }
+        ensures refused { IfErr result (λ why. IsRefusal self.old.log None why) }
+    {
+        match self.record_commit(who) {
+            Ok(committed) => Ok(committed),
+            Err(NoMemory) => Err(self.refused(Why::NoMemory)),
+        }
+    }
+
+    fn record_commit(&mut self, who: u32) -> Result<Committed, NoMemory>
+        requires session { who < NUMBERS }
+        ensures ok { OnOk result (Adds self.old who what.Commit self.new) }
+        ensures committed { IfOk result (λ done. done ≡ record { place = length self.old.log; scn = scn self.old.log + 1 }) }
+        ensures err { OnErr result (self.new ≡ self.old) }
+    {
+        self.blocks.reserve(self.sessions.pending(who))?;
+        self.history.reserve(self.sessions.owed() + 1)?;
+        let committed = Committed {
+            place: self.history.len(),
+            scn: self.history.scn() + 1,
+        };
+        let changes = self.sessions.clear(who);
+        self.blocks.apply(committed.scn, changes.into_list());
+        self.history.append(Entry {
+            who,
+            what: What::Commit,
+        });
+        Ok(committed)
+    }
+
+    /// Rolls back what a session has pending, and answers the place of the entry. It takes no memory.
+    pub fn rollback(&mut self, who: u32) -> u64
+        requires session { who < NUMBERS }
+        requires transaction { is_open self.old.log who ≡ true }
+        ensures added { Adds self.old who what.Rollback self.new }
+        ensures place { result ≡ length self.old.log }
+    {
+        let place = self.history.len();
+        drop(self.sessions.clear(who));
+        self.history.append(Entry {
+            who,
+            what: What::Rollback,
+        });
+        place
+    }
+}

@@ -1,0 +1,60 @@
+ghost use Rattle.std.specs.Prelude.{◌≡◌, ◌+◌, IfOk};
+ghost use Rattle.im_history.specs.Weights as weight;
+
+use im_history::Change;
+use im_values::{NoMemory, Row, Value};
+
+/// What a change weighs beside its row.
+const CHANGE_WEIGHT: u64 = 64;
+
+/// What a value weighs beside the bytes of a text.
+const VALUE_WEIGHT: u64 = 32;
+
+/// The sum of two weights. What weighs more than 64 bits can say has no room in memory.
+fn add(a: u64, b: u64) -> Result<u64, NoMemory>
+    ensures { IfOk result (λ sum. sum ≡ a + b) }
+{
+    match a.checked_add(b) {
+        Some(sum) => Ok(sum),
+        None => Err(NoMemory),
+    }
+}
+
+fn value_weight(value: &Value) -> Result<u64, NoMemory>
+    ensures { IfOk result (λ weighed. weighed ≡ weight.value_weight value.now) }
+{
+    match value {
+        Value::Text(text) => add(VALUE_WEIGHT, text.bytes().len() as u64),
+        Value::Int(_) | Value::Null => Ok(VALUE_WEIGHT),
+    }
+}
+
+fn row_weight(row: &Row) -> Result<u64, NoMemory>
+    ensures { IfOk result (λ weighed. weighed ≡ weight.row_weight row.now) }
+{
+    let mut sum = 0;
+    for value in row.values() {
+        sum = add(sum, value_weight(value)?)?;
+    }
+    Ok(sum)
+}
+
+fn change_weight(change: &Change) -> Result<u64, NoMemory>
+    ensures { IfOk result (λ weighed. weighed ≡ 64 + weight.put_weight change.now.row) }
+{
+    match &change.row {
+        Some(row) => add(CHANGE_WEIGHT, row_weight(row)?),
+        None => Ok(CHANGE_WEIGHT),
+    }
+}
+
+/// What changes weigh.
+pub fn weight_of(changes: &[Change]) -> Result<u64, NoMemory>
+    ensures { IfOk result (λ weighed. weighed ≡ weight.changes_weight changes.now) }
+{
+    let mut sum = 0;
+    for change in changes {
+        sum = add(sum, change_weight(change)?)?;
+    }
+    Ok(sum)
+}

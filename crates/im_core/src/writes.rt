@@ -1,0 +1,148 @@
+ghost use Rattle.std.specs.Prelude.{◌≡◌, ◌+◌, ◌^◌, ◌<◌, ◌≤◌, length, None, IfOk, IfErr, OnOk, OnErr};
+ghost use Rattle.im_history.specs.declared.entry.What.TheVariants as what;
+ghost use Rattle.im_history.specs.Legal.{Exists, MayInsert, MayWrite, IsAllowed, put_from};
+ghost use Rattle.im_history.specs.Refusals.{insert_refusal, write_refusal};
+ghost use Rattle.im_history.specs.Tables.{tables, given};
+ghost use Rattle.im_core.specs.Answers.{IsRefusal, cursor_view};
+ghost use Rattle.im_core.specs.Kept.{Gives};
+ghost use Rattle.im_core.specs.Seen.{Adds};
+
+use crate::answers::Wrote;
+use crate::store::{Core, NUMBERS};
+use crate::weights::weight_of;
+use im_history::{Change, Changes, Entry, Refused, UnitLike, What, Why};
+use im_values::{NoMemory, Row};
+use std::alloc::Global;
+
+impl<U: UnitLike> Core<U> {
+    /// Inserts rows into a table, at its next row numbers. It is refused where the transaction is READ ONLY, then where it
+    /// would have too many changes, and then where the store would be too full.
+    pub fn insert(&mut self, who: u32, table: u32, rows: Vec<Row>) -> Result<Wrote, Refused>
+        requires session { who < NUMBERS }
+        requires may { MayInsert self.old.log table rows.items }
+        ensures ok { OnOk result (Adds self.old who
+            (what.Write (put_from table (given self.old.log table) rows.items)) self.new) }
+        ensures allowed { OnOk result (insert_refusal self.old.limits self.old.log who
+            (put_from table (given self.old.log table) rows.items) ≡ None) }
+        ensures wrote { IfOk result (λ wrote. wrote ≡ record {
+          place = length self.old.log;
+          first = given self.old.log table;
+        }) }
+        ensures err { OnErr result (self.new ≡ self.old) }
+        ensures refused { IfErr result (λ why. IsRefusal self.old.log (insert_refusal self.old.limits self.old.log who
+            (put_from table (given self.old.log table) rows.items)) why) }
+    {
+        let first = self.given_of(table);
+        let count = first + rows.len() as u64;
+        let Ok(changes) = put_from(self.alloc, table, first, rows) else {
+            return Err(self.refused(Why::NoMemory));
+        };
+        match self.insert_refusal(who, changes.as_slice()) {
+            Err(NoMemory) => return Err(self.refused(Why::NoMemory)),
+            Ok(Some(why)) => return Err(self.refused(why)),
+            Ok(None) => {}
+        }
+        match self.record_write(who, table, count, changes) {
+            Ok(place) => Ok(Wrote { place, first }),
+            Err(NoMemory) => Err(self.refused(Why::NoMemory)),
+        }
+    }
+
+    /// Writes changes to rows that an open cursor saw, and answers the place of the entry. It is refused where the
+    /// transaction is READ ONLY; then where another session has a change to such a row pending; then where a commit after
+    /// the cursor's SCN touched such a row; and then as an insert is.
+    pub fn write(&mut self, who: u32, cursor: u32, changes: Vec<Change>) -> Result<u64, Refused>
+        requires session { who < NUMBERS }
+        requires may { MayWrite self.old.log who cursor changes.items }
+        ensures ok { OnOk result (Adds self.old who (what.Write changes.items) self.new) }
+        ensures allowed { OnOk result (write_refusal self.old.limits self.old.log who
+            (cursor_view self.old.log who cursor).scn changes.items ≡ None) }
+        ensures place { IfOk result (λ place. place ≡ length self.old.log) }
+        ensures err { OnErr result (self.new ≡ self.old) }
+        ensures refused { IfErr result (λ why. IsRefusal self.old.log (write_refusal self.old.limits self.old.log who
+            (cursor_view self.old.log who cursor).scn changes.items) why) }
+    {
+        let view = self.sessions.cursor(who, cursor).unwrap();
+        match self.write_refusal(who, view.scn, changes.as_slice()) {
+            Err(NoMemory) => return Err(self.refused(Why::NoMemory)),
+            Ok(Some(cause)) => return Err(self.refused(cause)),
+            Ok(None) => {}
+        }
+        let count = self.given_of(view.table);
+        match self.record_write(who, view.table, count, changes) {
+            Ok(place) => Ok(place),
+            Err(NoMemory) => Err(self.refused(Why::NoMemory)),
+        }
+    }
+
+    /// How many row numbers of a table were given.
+    pub(crate) fn given_of(&self, table: u32) -> u64
+        requires { Exists self.now.log table }
+        ensures given { result ≡ given self.now.log table }
+        ensures few { result ≤ 8388608 }
+    {
+        self.given[table as usize - 1]
+    }
+
+    /// Records changes to one table, of which so many row numbers are given then.
+    fn record_write(
+        &mut self,
+        who: u32,
+        table: u32,
+        count: u64,
+        changes: Vec<Change>,
+    ) -> Result<u64, NoMemory>
+        requires session { who < NUMBERS }
+        requires table { (1 ≤ table) × (table ≤ length (tables self.old.log)) }
+        requires allowed { IsAllowed self.old.limits self.old.log who (what.Write changes.items) }
+        requires gives { Gives self.old.log table changes.items count }
+        ensures ok { OnOk result (Adds self.old who (what.Write changes.items) self.new) }
+        ensures place { IfOk result (λ place. place ≡ length self.old.log) }
+        ensures err { OnErr result (self.new ≡ self.old) }
+    {
+        let weight = weight_of(changes.as_slice())?;
+        let beginning = self.beginning(who);
+        let kept = copies(self.alloc, changes.as_slice())?;
+        self.sessions.reserve_write(who, changes.as_slice())?;
+        self.history.reserve(self.sessions.owed() + 2)?;
+        let place = self.history.len();
+        self.weight += weight;
+        self.given[table as usize - 1] = count;
+        self.beginnings[who as usize] = beginning;
+        self.sessions.write(who, place, changes);
+        self.history.append(Entry {
+            who,
+            what: What::Write { changes: kept },
+        });
+        Ok(place)
+    }
+}
+
+/// Rows put at row numbers of a table, from the first on.
+fn put_from(alloc: Global, table: u32, first: u64, rows: Vec<Row>) -> Result<Vec<Change>, NoMemory>
+    requires { first + length rows.items ≤ 2 ^ 63 }
+    ensures { IfOk result (λ changes. changes.items ≡ put_from table first rows.items) }
+{
+    let mut changes = Vec::with_capacity(alloc, rows.len())?;
+    let mut rid = first;
+    for row in rows {
+        changes.push(Change {
+            table,
+            rid,
+            row: Some(row),
+        })?;
+        rid += 1;
+    }
+    Ok(changes)
+}
+
+/// The same changes once more.
+fn copies(alloc: Global, changes: &[Change]) -> Result<Changes, NoMemory>
+    ensures { IfOk result (λ copies. copies ≡ changes.now) }
+{
+    let mut copies = Vec::with_capacity(alloc, changes.len())?;
+    for change in changes {
+        copies.push(change.copy(alloc)?)?;
+    }
+    Ok(Changes::of(copies))
+}

@@ -1,0 +1,118 @@
+ghost use Rattle.std.specs.Prelude.{◌≡◌, ◌<◌, length};
+ghost use Rattle.im_syntax.specs.BoundFits.{FilterFits, TestsFit, TestFits, value_at};
+ghost use Rattle.im_eval.specs.Holds as spec;
+
+use im_syntax::{Filter, Test, TestForm, Tests};
+use im_values::{Cmp, Row, Truth, Value, compare};
+
+/// The truth of a condition on a row, by SQL's three-valued logic.
+///
+/// It takes no memory, stops at the first Yes of an OR and the first No of an AND, and recurses as deep as NOT and
+/// parentheses nest in the condition.
+pub fn holds(filter: &Filter, row: &Row) -> Truth
+    requires { FilterFits row.now filter.now }
+    ensures { result ≡ spec.truth_of filter.now row.now }
+{
+    some_hold(filter, row.values())
+}
+
+/// The value of a row in a column.
+fn value_in(row: &[Value], column: u32) -> &Value
+    requires { column < length row.now }
+    ensures { result.now ≡ value_at row.now column }
+{
+    &row[column as usize]
+}
+
+/// A truth, behind NOT where that is written.
+fn with_not(negated: bool, truth: Truth) -> Truth
+    ensures { result ≡ spec.with_not negated truth }
+{
+    if negated { truth.negated() } else { truth }
+}
+
+fn null_test(value: &Value) -> Truth
+    ensures { result ≡ spec.null_truth value.now }
+{
+    match value {
+        Value::Null => Truth::Yes,
+        _ => Truth::No,
+    }
+}
+
+fn between(value: &Value, low: &Value, high: &Value) -> Truth
+    ensures { result ≡ spec.between_truth value.now low.now high.now }
+{
+    compare(value, Cmp::Ge, low).and(compare(value, Cmp::Le, high))
+}
+
+fn within(value: &Value, choices: &[Value]) -> Truth
+    ensures { result ≡ spec.within_truth value.now choices.now }
+{
+    let mut truth = Truth::No;
+    for choice in choices {
+        truth = truth.or(compare(value, Cmp::Eq, choice));
+        if truth == Truth::Yes {
+            return truth;
+        }
+    }
+    truth
+}
+
+#[cycle(condition)]
+fn test_holds(test: &Test, row: &[Value]) -> Truth
+    requires { TestFits row.now test.now }
+    ensures { result ≡ spec.truth_of_test test.now row.now }
+{
+    match test.form() {
+        TestForm::Compare { column, cmp, value } => compare(value_in(row, *column), *cmp, value),
+        TestForm::IsNull { column, negated } => {
+            with_not(*negated, null_test(value_in(row, *column)))
+        }
+        TestForm::Between {
+            column,
+            negated,
+            low,
+            high,
+        } => with_not(*negated, between(value_in(row, *column), low, high)),
+        TestForm::Within {
+            column,
+            negated,
+            values,
+        } => with_not(*negated, within(value_in(row, *column), values.items())),
+        TestForm::Not(test) => test_holds(test, row).negated(),
+        TestForm::Nest(filter) => some_hold(filter, row),
+    }
+}
+
+/// The AND of the tests.
+#[cycle(condition)]
+fn all_hold(tests: &Tests, row: &[Value]) -> Truth
+    requires { TestsFit row.now tests.now }
+    ensures { result ≡ spec.truth_of_tests tests.now row.now }
+{
+    let mut truth = Truth::Yes;
+    for test in tests.tests() {
+        truth = truth.and(test_holds(test, row));
+        if truth == Truth::No {
+            return truth;
+        }
+    }
+    truth
+}
+
+/// The OR of the conjunctions.
+#[cycle(condition)]
+fn some_hold(filter: &Filter, row: &[Value]) -> Truth
+    requires { FilterFits row.now filter.now }
+    ensures { result ≡ spec.truth_of filter.now row.now }
+{
+    let mut truth = Truth::No;
+    for tests in filter.lists() {
+        truth = truth.or(all_hold(tests, row));
+        if truth == Truth::Yes {
+            return truth;
+        }
+    }
+    truth
+}

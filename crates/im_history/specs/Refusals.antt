@@ -1,0 +1,103 @@
+-- Why a call of the store is refused: each cause by itself, and the first that applies.
+use Rattle.std.specs.Prelude.{ℕ, ◌-◌, ◌&&◌, Bool, true, false, not, ◌==◌, nat_lt, List, [], ◌∷◌, length, Option, Some, None}
+use Rattle.std.specs.Option.{option_map, option_or}
+use Rattle.im_history.specs.declared.change.Change.{Change}
+use Rattle.im_history.specs.declared.entry.Mode.{Mode}
+use Rattle.im_history.specs.declared.entry.Mode.TheVariants as mode
+use Rattle.im_history.specs.declared.limits.Limits.{Limits}
+use Rattle.im_history.specs.declared.refused.Why.{Why}
+use Rattle.im_history.specs.declared.refused.Why.TheVariants.{TableExists, TooManyTables, TransactionOpen, ReadOnly, CursorOpen, TooManyCursors, RowLocked, Serialize, TooManyChanges, StoreFull}
+use Rattle.im_history.specs.Cursors.{is_cursor_open, cursors_open}
+use Rattle.im_history.specs.History.{History}
+use Rattle.im_history.specs.Tables.{tables, table_named}
+use Rattle.im_history.specs.Touched.{holder, last_touch}
+use Rattle.im_history.specs.Transactions.{mode as mode_of, begun, pending}
+use Rattle.im_history.specs.Weights.{weight, changes_weight}
+
+-- the first cause that an element of a list has
+abbrev pub first_cause : {X : Type 0} → (X → Option Why) → List X → Option Why
+first_cause cause [] = None
+first_cause cause (x ∷ xs) = option_or (cause x) (first_cause cause xs)
+
+-- the cause, where this holds
+abbrev pub when : Bool → Why → Option Why
+when true why = Some why
+when false why = None
+
+-- the mode allows no writing
+abbrev pub forbids_writing : Mode → Bool
+forbids_writing mode.Committed = false
+forbids_writing mode.Serializable = false
+forbids_writing mode.ReadOnly = true
+
+-- the session's transaction is READ ONLY
+abbrev pub read_only : History → ℕ → Option Why
+read_only history who = when (forbids_writing (mode_of history who)) ReadOnly
+
+-- another session has a change to the row pending
+abbrev pub lock_on : History → ℕ → Change → Option Why
+lock_on history who change = option_map (λ other. RowLocked change.rid other) (holder history who change.table change.rid)
+
+-- the first row that is locked so
+abbrev pub row_locked : History → ℕ → List Change → Option Why
+row_locked history who changes = first_cause (lock_on history who) changes
+
+-- a commit after this SCN touched the row: the last such commit
+abbrev pub touch_after : History → ℕ → Change → Option Why
+touch_after history scn change =
+    when (nat_lt scn (last_touch history change.table change.rid)) (Serialize change.rid (last_touch history change.table change.rid))
+
+-- the first row that was touched so
+abbrev pub serialize : History → ℕ → List Change → Option Why
+serialize history scn changes = first_cause (touch_after history scn) changes
+
+-- the transaction would have more changes than the limit allows
+abbrev pub too_many_changes : Limits → History → ℕ → List Change → Option Why
+too_many_changes limits history who changes =
+    when (nat_lt (limits.changes - length (pending history who)) (length changes))
+    (TooManyChanges (length changes) (limits.changes - length (pending history who)))
+
+-- the store has no room for what the changes weigh
+abbrev pub store_full : Limits → History → List Change → Option Why
+store_full limits history changes =
+    when (nat_lt (limits.store - weight history) (changes_weight changes))
+    (StoreFull (changes_weight changes) (limits.store - weight history))
+
+-- what refuses any write
+abbrev pub no_room : Limits → History → ℕ → List Change → Option Why
+no_room limits history who changes = option_or (too_many_changes limits history who changes) (store_full limits history changes)
+
+-- what refuses an insert. Its row numbers are new, so nobody else can have touched them
+abbrev pub insert_refusal : Limits → History → ℕ → List Change → Option Why
+insert_refusal limits history who changes = option_or (read_only history who) (no_room limits history who changes)
+
+-- what refuses a write of changes to rows that were seen at an SCN
+abbrev pub write_refusal : Limits → History → ℕ → ℕ → List Change → Option Why
+write_refusal limits history who scn changes =
+    option_or (read_only history who)
+    (option_or (row_locked history who changes)
+    (option_or (serialize history scn changes) (no_room limits history who changes)))
+
+-- as many tables may stand
+abbrev pub most_tables : ℕ
+most_tables = 64
+
+-- what refuses the creation of a table: one has the name, or there is no room for one more
+abbrev pub create_refusal : History → List ℕ → Option Why
+create_refusal history name =
+    option_or (option_map (λ table. TableExists table) (table_named history name))
+    (when (not (nat_lt (length (tables history)) most_tables)) TooManyTables)
+
+-- what refuses the beginning of a transaction: one is open, and began there
+abbrev pub begin_refusal : History → ℕ → Option Why
+begin_refusal history who = option_map (λ place. TransactionOpen place) (begun history who)
+
+-- so many cursors beside cursor 0 may be open
+abbrev pub most_cursors : ℕ
+most_cursors = 8
+
+-- what refuses the opening of a cursor
+abbrev pub open_refusal : History → ℕ → ℕ → Option Why
+open_refusal history who cursor =
+    option_or (when (is_cursor_open history who cursor) CursorOpen)
+    (when (not (cursor == 0) && not (nat_lt (cursors_open history who) most_cursors)) TooManyCursors)

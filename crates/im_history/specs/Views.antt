@@ -1,0 +1,47 @@
+-- What an opening of a cursor sees, from then on.
+use Rattle.std.specs.Prelude.{ℕ, length, Option, Some, None}
+use Rattle.im_history.specs.declared.look.Look.{Look}
+use Rattle.im_history.specs.declared.look.TableInfo.{TableInfo}
+use Rattle.im_history.specs.declared.view.View.{View}
+use Rattle.im_history.specs.Commits.{scn}
+use Rattle.im_history.specs.Grid.{Grid, default_grid, per_extent, extents_for}
+use Rattle.im_history.specs.History.{History}
+use Rattle.im_history.specs.Rows.{Row, seen, snapshot, own_changes}
+use Rattle.im_history.specs.Tables.{tables, table_at, given}
+use Rattle.im_history.specs.Transactions.{begun, mode}
+
+-- how the row numbers of a table are cut
+abbrev pub grid_of : Option TableInfo → Grid
+grid_of None = default_grid
+grid_of (Some table) = table.shape
+
+-- row numbers in an extent of a table
+abbrev pub per_at : History → ℕ → ℕ
+per_at history table = per_extent (grid_of (table_at history table))
+
+-- the view of a table that an opening by this session has after this history: it reads at the session's snapshot, changed by
+-- the changes that the session has pending, and knows the row numbers given so far
+abbrev pub view_at : History → ℕ → ℕ → View
+view_at history who table = record {
+  place = length history;
+  table = table;
+  scn = snapshot history who;
+  rows = given history table;
+  per = per_at history table;
+  extents = extents_for (given history table) (per_at history table);
+  own = own_changes history who table;
+}
+
+-- what this session finds when it looks after this history
+abbrev pub look_at : History → ℕ → Look
+look_at history who = record {
+  place = length history;
+  scn = scn history;
+  begun = begun history who;
+  mode = mode history who;
+  tables = tables history;
+}
+
+-- the row that a view sees at a row number
+abbrev pub seen_by : History → View → ℕ → Option Row
+seen_by history view rid = seen history view.table view.scn view.own rid

@@ -1,0 +1,128 @@
+ghost use Rattle.std.specs.Prelude.{◌≡◌, ◌<◌, ◌≤◌, [], ◌∷◌, ◌++◌, length, IfOk, IfSome};
+ghost use Rattle.std.specs.List.{position};
+ghost use Rattle.im_history.specs.Tables.{is_named, number_among};
+
+use crate::entry::{Mode, Priority};
+use crate::shape::Shape;
+use im_values::{Name, NoMemory, Schema};
+use std::alloc::Global;
+use std::marker::Model;
+use std::sync::Arc;
+
+/// A table as it stands.
+#[derive(Debug, Drop)]
+pub struct TableInfo {
+    pub name: Name,
+    pub schema: Schema,
+    pub shape: Shape,
+    /// How soon its extents are populated in memory, or None where the table is not in the column store.
+    pub memory: Option<Priority>,
+}
+
+impl TableInfo {
+    /// The same once more.
+    pub fn copy(&self, alloc: Global) -> Result<TableInfo, NoMemory>
+        ensures { IfOk result (λ table. table ≡ self.now) }
+    {
+        Ok(TableInfo {
+            name: self.name.copy(alloc)?,
+            schema: self.schema.copy(alloc)?,
+            shape: self.shape,
+            memory: self.memory,
+        })
+    }
+}
+
+/// The tables in the order of their creation: the first of them is table 1.
+///
+/// Contracts see the list, which has at most 64. A catalog never changes, so one list serves all who look at it.
+#[derive(Debug, Drop)]
+pub struct Catalog {
+    tables: Arc<Vec<TableInfo>>,
+}
+
+impl Model for Catalog {
+    ghost use Rattle.std.specs.Prelude.{List};
+    ghost use Rattle.im_history.specs.declared.look.TableInfo.{TableInfo};
+
+    ghost Value = { List TableInfo };
+
+    ghost use Rattle.std.specs.Prelude.{◌≤◌, length};
+
+    ghost view = { λ c. c.tables.value.items };
+
+    ghost invariant = { λ c. length c.tables.value.items ≤ 64 };
+}
+
+impl Catalog {
+    /// No tables.
+    pub fn new(alloc: Global) -> Result<Catalog, NoMemory>
+        ensures { IfOk result (λ catalog. catalog ≡ []) }
+    {
+        Ok(Catalog {
+            tables: Arc::new(alloc, Vec::new(alloc))?,
+        })
+    }
+
+    /// The tables, in order.
+    pub fn tables(&self) -> &[TableInfo]
+        ensures tables { result.now ≡ self.now }
+        ensures few { length self.now ≤ 64 }
+    {
+        self.tables.as_slice()
+    }
+
+    /// The same list, shared. It is refused where as many share it as can.
+    pub fn share(&self) -> Result<Catalog, NoMemory>
+        ensures { IfOk result (λ catalog. catalog ≡ self.now) }
+    {
+        Ok(Catalog {
+            tables: Arc::try_clone(&self.tables)?,
+        })
+    }
+
+    /// The number of the table of this name, from 1.
+    pub fn number_of(&self, name: &[u8]) -> Option<u32>
+        ensures { result ≡ number_among self.now name.now }
+    {
+        let place = place_named(self.tables(), name)?;
+        Some(place as u32 + 1)
+    }
+
+    /// A list of these tables and one more. It copies them all.
+    pub fn with(&self, alloc: Global, table: TableInfo) -> Result<Catalog, NoMemory>
+        requires { length self.now < 64 }
+        ensures { IfOk result (λ catalog. catalog ≡ self.now ++ table ∷ []) }
+    {
+        let mut tables = Vec::with_capacity(alloc, self.tables().len() + 1)?;
+        for table in self.tables() {
+            tables.push(table.copy(alloc)?)?;
+        }
+        tables.push(table)?;
+        Ok(Catalog {
+            tables: Arc::new(alloc, tables)?,
+        })
+    }
+}
+
+/// The place of the first table of this name.
+fn place_named(tables: &[TableInfo], name: &[u8]) -> Option<usize>
+    ensures place { result ≡ position (is_named name.now) tables.now }
+    ensures within { IfSome result (λ place. place < length tables.now) }
+{
+    tables.iter().position(|table| name == table.name.bytes())
+}
+
+/// What a session finds when it looks at the store.
+#[derive(Debug, Drop)]
+pub struct Look {
+    /// The place of the look: how many entries there were.
+    pub place: u64,
+    /// The SCN.
+    pub scn: u64,
+    /// Where the session's open transaction began.
+    pub begun: Option<u64>,
+    /// Its mode.
+    pub mode: Mode,
+    pub tables: Catalog,
+}

@@ -1,0 +1,35 @@
+/// Why a call of the store was refused. The store is then as it was before the call.
+#[derive(Clone, Copy, Debug, PartialEq, Eq)]
+pub enum Why {
+    /// A table has the name already.
+    TableExists { table: u32 },
+    /// As many tables stand as may stand.
+    TooManyTables,
+    /// The session has an open transaction, which began at this place.
+    TransactionOpen { place: u64 },
+    /// The session's transaction is READ ONLY.
+    ReadOnly,
+    /// The session has opened this cursor already.
+    CursorOpen,
+    /// The session has as many cursors open as it may have.
+    TooManyCursors,
+    /// Another session has a change to the row pending.
+    RowLocked { row: u64, holder: u32 },
+    /// A commit after the snapshot touched the row; the last such commit had this SCN.
+    Serialize { row: u64, scn: u64 },
+    /// The transaction would have more changes than it may have: so many come, and so many are left.
+    TooManyChanges { need: u64, left: u64 },
+    /// The store would hold more than it may hold: so much comes by weight, and so much is left.
+    StoreFull { need: u64, left: u64 },
+    /// The extent has no current unit.
+    NoUnit,
+    NoMemory,
+}
+
+/// A call that was refused.
+#[derive(Clone, Copy, Debug, PartialEq, Eq)]
+pub struct Refused {
+    /// How many entries the history had when the call was refused.
+    pub place: u64,
+    pub why: Why,
+}

@@ -1,0 +1,6 @@
+use Rattle.std.proofs.Common.{◌≡◌, map, take}
+use Rattle.im_names.specs.Lookups.{number_of}
+use Rattle.im_names.proofs.queries.bind_groups.Given as goal
+
+abbrev pub invariant-loop-name : goal.invariant-loop-name
+invariant-loop-name l = l.bound.items ≡ map (number_of l.schema) (take l.name-index l.groups)

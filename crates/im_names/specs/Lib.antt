@@ -1,0 +1,9 @@
+pub mod Faults
+pub mod Lookups
+pub mod Literals
+pub mod Conditions
+pub mod Rows
+pub mod Queries
+pub mod Definitions
+pub mod Statements
+pub mod Fitting

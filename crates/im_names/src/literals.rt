@@ -1,0 +1,84 @@
+ghost use Rattle.std.specs.Prelude.{◌≡◌, IfOk, OnOk, IfErr, None};
+ghost use Rattle.im_names.specs.Faults.{IsCause};
+ghost use Rattle.im_names.specs.Literals as spec;
+
+use crate::fault::NameFault;
+use im_syntax::Lit;
+use im_values::{Column, Kind, NoMemory, Value};
+use std::alloc::Global;
+
+/// The value of a literal: `''` is NULL.
+pub fn value_of(alloc: Global, lit: &Lit) -> Result<Value, NoMemory>
+    ensures { IfOk result (λ value. value ≡ spec.value_of lit.now) }
+{
+    match lit {
+        Lit::Null => Ok(Value::Null),
+        Lit::Int(number) => Ok(Value::Int(*number)),
+        Lit::Text(text) if text.bytes().is_empty() => Ok(Value::Null),
+        Lit::Text(text) => Ok(Value::Text(text.copy(alloc)?)),
+    }
+}
+
+/// Whether a literal is of the other kind than a column.
+fn is_other(kind: Kind, lit: &Lit) -> bool
+    ensures { result ≡ spec.is_other kind (spec.value_of lit.now) }
+{
+    match (kind, lit) {
+        (Kind::Int, Lit::Text(text)) => !text.bytes().is_empty(),
+        (Kind::Text(_), Lit::Int(_)) => true,
+        _ => false,
+    }
+}
+
+/// A literal that may be compared with a column.
+pub fn check_compared(alloc: Global, column: &Column, lit: &Lit) -> Result<(), NameFault>
+    ensures ok { OnOk result (spec.compared (spec.value_of lit.now) column.now ≡ None) }
+    ensures err { IfErr result (IsCause (spec.compared (spec.value_of lit.now) column.now)) }
+{
+    if is_other(column.kind, lit) {
+        Err(NameFault::WrongKind {
+            column: column.name.copy(alloc)?,
+        })
+    } else {
+        Ok(())
+    }
+}
+
+/// A literal that is not too long for a column.
+fn check_length(alloc: Global, column: &Column, lit: &Lit) -> Result<(), NameFault>
+    ensures ok { OnOk result (spec.too_long column.now.name column.now.kind (spec.value_of lit.now) ≡ None) }
+    ensures err { IfErr result (IsCause (spec.too_long column.now.name column.now.kind (spec.value_of lit.now))) }
+{
+    match (column.kind, lit) {
+        (Kind::Text(limit), Lit::Text(text)) if text.bytes().len() > usize::from(limit) => {
+            Err(NameFault::TooLong {
+                column: column.name.copy(alloc)?,
+                length: text.bytes().len() as u64,
+                limit: u64::from(limit),
+            })
+        }
+        _ => Ok(()),
+    }
+}
+
+/// A literal that a column may hold.
+pub fn check_stored(alloc: Global, column: &Column, lit: &Lit) -> Result<(), NameFault>
+    ensures ok { OnOk result (spec.stored (spec.value_of lit.now) column.now ≡ None) }
+    ensures err { IfErr result (IsCause (spec.stored (spec.value_of lit.now) column.now)) }
+{
+    check_compared(alloc, column, lit)?;
+    check_length(alloc, column, lit)
+}
+
+/// A column that may be added up.
+pub fn check_summed(alloc: Global, column: &Column) -> Result<(), NameFault>
+    ensures ok { OnOk result (spec.summed column.now ≡ None) }
+    ensures err { IfErr result (IsCause (spec.summed column.now)) }
+{
+    match column.kind {
+        Kind::Int => Ok(()),
+        Kind::Text(_) => Err(NameFault::WrongKind {
+            column: column.name.copy(alloc)?,
+        }),
+    }
+}

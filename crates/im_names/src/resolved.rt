@@ -1,0 +1,55 @@
+use im_history::{Mode, Priority, Shape};
+use im_syntax::{Bound, Filter, Parts};
+use im_values::{Name, Row, Schema, Value};
+
+/// A statement whose names are numbers: of a table from 1 on in the order of creation, and of a column from 0 on.
+#[derive(Debug, Drop)]
+pub enum Resolved {
+    Select(Bound),
+    Explain(Bound),
+    Create {
+        name: Name,
+        schema: Schema,
+        shape: Shape,
+        /// None where the table does not join the column store.
+        memory: Option<Priority>,
+    },
+    /// ALTER TABLE: None is NO INMEMORY.
+    Memory {
+        table: u32,
+        priority: Option<Priority>,
+    },
+    /// Each row has a value for each column of the table.
+    Insert {
+        table: u32,
+        rows: Parts<Row>,
+    },
+    Update {
+        table: u32,
+        filter: Option<Filter>,
+        sets: Parts<(u32, Value)>,
+    },
+    Delete {
+        table: u32,
+        filter: Option<Filter>,
+    },
+    SetMode(Mode),
+    Commit,
+    Rollback,
+    OpenFor {
+        cursor: u32,
+        bound: Bound,
+    },
+    Step(u32),
+    Fetch(u32),
+    Close(u32),
+    Run,
+    Begin,
+    Switch,
+    Cancel,
+    Trickle(u32),
+    Evict {
+        table: u32,
+        extent: u64,
+    },
+}

@@ -1,0 +1,238 @@
+ghost use Rattle.std.specs.Prelude.{◌≡◌, ◌⊎◌, List, ℕ, map, Some, Ok, Err, IfOk, IfErr};
+ghost use Rattle.im_syntax.specs.Rules.{IsStmt, IsCreate};
+ghost use Rattle.im_syntax.specs.declared.statement.Stmt.TheVariants as form;
+ghost use Rattle.im_names.specs.declared.resolved.Resolved.TheVariants as resolved;
+ghost use Rattle.im_names.specs.declared.fault.NameFault.TheVariants.{NoMemory as Lacks};
+ghost use Rattle.im_names.specs.Fitting.{Serves};
+ghost use Rattle.im_names.specs.Faults.{Passes, IsCause, IsErr};
+ghost use Rattle.im_names.specs.Conditions.{filter_of};
+ghost use Rattle.im_names.specs.Rows.{insert_fault, rows_of as all_rows, update_fault, set_of, delete_fault};
+ghost use Rattle.im_names.specs.Statements.{answer, query_answer, create_answer, memory_answer};
+
+use crate::columns::{check_distinct, check_listed, width_of};
+use crate::conditions::{bind_where, check_where};
+use crate::definitions::{memory_of, priority_of, schema_of, shape_of};
+use crate::fault::NameFault;
+use crate::queries::bind_query;
+use crate::resolved::Resolved;
+use crate::rows::{bind_sets, check_counts, rows_of, sources, targets};
+use crate::tables::table_called;
+use im_history::{Look, Mode, Priority, TableInfo};
+use im_syntax::{Bound, ColumnPart, Cond, Lit, MemoryPart, Parts, Query, Stmt};
+use im_values::{Name, Schema};
+use std::alloc::Global;
+
+fn resolve_query(alloc: Global, tables: &[TableInfo], query: &Query) -> Result<Bound, NameFault>
+    ensures ok { IfOk result (λ bound. query_answer tables.now query.now ≡ Ok bound) }
+    ensures err { IfErr result (IsErr (query_answer tables.now query.now)) }
+{
+    let (number, schema) = table_called(alloc, tables, &query.table)?;
+    bind_query(alloc, number, schema, query)
+}
+
+fn resolve_create(
+    alloc: Global,
+    name: &Name,
+    columns: &[ColumnPart],
+    block: Option<u32>,
+    extent: Option<u32>,
+    memory: Option<MemoryPart>,
+) -> Result<Resolved, NameFault>
+    requires { IsCreate name.now columns.now block extent }
+    ensures ok { IfOk result (λ r. create_answer name.now columns.now block extent memory ≡ Ok r) }
+    ensures err { IfErr result (IsErr (create_answer name.now columns.now block extent memory)) }
+{
+    check_distinct(alloc, columns)?;
+    Ok(Resolved::Create {
+        name: name.copy(alloc)?,
+        schema: schema_of(alloc, columns)?,
+        shape: shape_of(block, extent),
+        memory: memory_of(memory),
+    })
+}
+
+fn resolve_memory(
+    alloc: Global,
+    tables: &[TableInfo],
+    name: &Name,
+    priority: Option<Priority>,
+) -> Result<Resolved, NameFault>
+    ensures ok { IfOk result (λ r. memory_answer tables.now name.now priority ≡ Ok r) }
+    ensures err { IfErr result (IsErr (memory_answer tables.now name.now priority)) }
+{
+    let (table, _) = table_called(alloc, tables, name)?;
+    Ok(Resolved::Memory { table, priority })
+}
+
+fn bind_insert(
+    alloc: Global,
+    table: u32,
+    schema: &Schema,
+    names: &[Name],
+    tuples: &[Parts<Lit>],
+) -> Result<Resolved, NameFault>
+    ensures ok { IfOk result (λ r. Passes
+        (insert_fault schema.now names.now tuples.now)
+        (r ≡ resolved.Insert table (all_rows schema.now names.now tuples.now))) }
+    ensures err { IfErr result (IsCause (insert_fault schema.now names.now tuples.now)) }
+{
+    check_listed(alloc, schema, names)?;
+    let numbers = targets(alloc, schema, names)?;
+    check_counts(tuples, numbers.len())?;
+    let sources = sources(alloc, width_of(schema), &numbers)?;
+    let rows = rows_of(alloc, schema, &numbers, &sources, tuples)?;
+    Ok(Resolved::Insert { table, rows })
+}
+
+fn resolve_insert(
+    alloc: Global,
+    tables: &[TableInfo],
+    name: &Name,
+    names: &[Name],
+    tuples: &[Parts<Lit>],
+) -> Result<Resolved, NameFault>
+    ensures ok { IfOk result (λ r. answer tables.now (form.Insert name.now names.now tuples.now) ≡ Ok r) }
+    ensures err { IfErr result (IsErr (answer tables.now (form.Insert name.now names.now tuples.now))) }
+{
+    let (number, schema) = table_called(alloc, tables, name)?;
+    bind_insert(alloc, number, schema, names, tuples)
+}
+
+fn bind_update(
+    alloc: Global,
+    table: u32,
+    schema: &Schema,
+    sets: &[(Name, Lit)],
+    cond: &Option<Cond>,
+) -> Result<Resolved, NameFault>
+    ensures ok { IfOk result (λ r. Passes
+        (update_fault schema.now sets.now cond.now)
+        (r ≡ resolved.Update table (filter_of schema.now cond.now) (map (set_of schema.now) sets.now))) }
+    ensures err { IfErr result (IsCause (update_fault schema.now sets.now cond.now)) }
+{
+    check_listed(alloc, schema, sets)?;
+    check_where(alloc, schema, cond)?;
+    let sets = bind_sets(alloc, schema, sets)?;
+    let filter = bind_where(alloc, schema, cond)?;
+    Ok(Resolved::Update {
+        table,
+        filter,
+        sets,
+    })
+}
+
+fn resolve_update(
+    alloc: Global,
+    tables: &[TableInfo],
+    name: &Name,
+    sets: &[(Name, Lit)],
+    cond: &Option<Cond>,
+) -> Result<Resolved, NameFault>
+    ensures ok { IfOk result (λ r. answer tables.now (form.Update name.now sets.now cond.now) ≡ Ok r) }
+    ensures err { IfErr result (IsErr (answer tables.now (form.Update name.now sets.now cond.now))) }
+{
+    let (number, schema) = table_called(alloc, tables, name)?;
+    bind_update(alloc, number, schema, sets, cond)
+}
+
+fn bind_delete(
+    alloc: Global,
+    table: u32,
+    schema: &Schema,
+    cond: &Option<Cond>,
+) -> Result<Resolved, NameFault>
+    ensures ok { IfOk result (λ r. Passes
+        (delete_fault schema.now cond.now)
+        (r ≡ resolved.Delete table (filter_of schema.now cond.now))) }
+    ensures err { IfErr result (IsCause (delete_fault schema.now cond.now)) }
+{
+    check_where(alloc, schema, cond)?;
+    let filter = bind_where(alloc, schema, cond)?;
+    Ok(Resolved::Delete { table, filter })
+}
+
+fn resolve_delete(
+    alloc: Global,
+    tables: &[TableInfo],
+    name: &Name,
+    cond: &Option<Cond>,
+) -> Result<Resolved, NameFault>
+    ensures ok { IfOk result (λ r. answer tables.now (form.Delete name.now cond.now) ≡ Ok r) }
+    ensures err { IfErr result (IsErr (answer tables.now (form.Delete name.now cond.now))) }
+{
+    let (number, schema) = table_called(alloc, tables, name)?;
+    bind_delete(alloc, number, schema, cond)
+}
+
+fn resolve_evict(
+    alloc: Global,
+    tables: &[TableInfo],
+    name: &Name,
+    extent: u64,
+) -> Result<Resolved, NameFault>
+    ensures ok { IfOk result (λ r. answer tables.now (form.Evict name.now extent) ≡ Ok r) }
+    ensures err { IfErr result (IsErr (answer tables.now (form.Evict name.now extent))) }
+{
+    let (table, _) = table_called(alloc, tables, name)?;
+    Ok(Resolved::Evict { table, extent })
+}
+
+fn resolve_among(alloc: Global, stmt: &Stmt, tables: &[TableInfo]) -> Result<Resolved, NameFault>
+    requires { IsStmt stmt.now }
+    ensures ok { IfOk result (λ resolved. answer tables.now stmt.now ≡ Ok resolved) }
+    ensures err { IfErr result (IsErr (answer tables.now stmt.now)) }
+{
+    match stmt {
+        Stmt::Select(query) => Ok(Resolved::Select(resolve_query(alloc, tables, query)?)),
+        Stmt::Explain(query) => Ok(Resolved::Explain(resolve_query(alloc, tables, query)?)),
+        Stmt::OpenFor { cursor, query } => Ok(Resolved::OpenFor {
+            cursor: *cursor,
+            bound: resolve_query(alloc, tables, query)?,
+        }),
+        Stmt::Create {
+            name,
+            columns,
+            block,
+            extent,
+            memory,
+        } => resolve_create(alloc, name, columns.items(), *block, *extent, *memory),
+        Stmt::AlterMemory { name, memory } => {
+            resolve_memory(alloc, tables, name, Some(priority_of(*memory)))
+        }
+        Stmt::AlterNoMemory { name } => resolve_memory(alloc, tables, name, None),
+        Stmt::Insert {
+            name,
+            columns,
+            tuples,
+        } => resolve_insert(alloc, tables, name, columns.items(), tuples.items()),
+        Stmt::Update { name, sets, cond } => {
+            resolve_update(alloc, tables, name, sets.items(), cond)
+        }
+        Stmt::Delete { name, cond } => resolve_delete(alloc, tables, name, cond),
+        Stmt::Evict { name, extent } => resolve_evict(alloc, tables, name, *extent),
+        Stmt::SetReadOnly => Ok(Resolved::SetMode(Mode::ReadOnly)),
+        Stmt::SetSerializable => Ok(Resolved::SetMode(Mode::Serializable)),
+        Stmt::SetCommitted => Ok(Resolved::SetMode(Mode::Committed)),
+        Stmt::Commit => Ok(Resolved::Commit),
+        Stmt::Rollback => Ok(Resolved::Rollback),
+        Stmt::Step(cursor) => Ok(Resolved::Step(*cursor)),
+        Stmt::Fetch(cursor) => Ok(Resolved::Fetch(*cursor)),
+        Stmt::Close(cursor) => Ok(Resolved::Close(*cursor)),
+        Stmt::Run => Ok(Resolved::Run),
+        Stmt::Begin => Ok(Resolved::Begin),
+        Stmt::Switch => Ok(Resolved::Switch),
+        Stmt::Cancel => Ok(Resolved::Cancel),
+        Stmt::Trickle(n) => Ok(Resolved::Trickle(*n)),
+    }
+}
+
+/// A statement with numbers for its names, as the tables of a look have them, or its first fault.
+pub fn resolve(alloc: Global, stmt: &Stmt, look: &Look) -> Result<Resolved, NameFault>
+    requires { IsStmt stmt.now }
+    ensures ok { IfOk result (λ resolved. answer look.now.tables stmt.now ≡ Ok resolved) }
+    ensures err { IfErr result
+        (λ why. (why ≡ Lacks) ⊎ (answer look.now.tables stmt.now ≡ Err why)) }
+    ensures serves { IfOk result (Serves look.now.tables) }
+{
+    resolve_among(alloc, stmt, look.tables.tables())
+}

@@ -1,0 +1,34 @@
+use crate::bound_filter::Filter;
+use crate::parts::Parts;
+
+/// One column of an answer, on columns of the table by their numbers.
+#[derive(Clone, Copy, Debug, PartialEq, Eq)]
+pub enum Item {
+    Column(u32),
+    CountAll,
+    Count(u32),
+    Sum(u32),
+    Min(u32),
+    Max(u32),
+}
+
+/// A key of ORDER BY.
+#[derive(Clone, Copy, Debug, PartialEq, Eq)]
+pub struct Key {
+    pub item: Item,
+    pub descending: bool,
+}
+
+/// A query whose names are numbers: of its table, and of the table's columns.
+///
+/// `groups` and `keys` are empty where the query has no GROUP BY or ORDER BY. `grouped` says that it has a GROUP BY, or
+/// an aggregate among its items or keys.
+#[derive(Debug, Drop)]
+pub struct Bound {
+    pub table: u32,
+    pub filter: Option<Filter>,
+    pub items: Parts<Item>,
+    pub groups: Parts<u32>,
+    pub keys: Parts<Key>,
+    pub grouped: bool,
+}

@@ -1,0 +1,7 @@
+mod CellLemmas
+mod StandingLemmas
+mod ListLemmas
+mod AgreesLemmas
+mod LockLemmas
+mod GivenLemmas
+pub mod ForCallers

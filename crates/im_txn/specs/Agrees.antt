@@ -1,0 +1,52 @@
+-- What is going on by a history.
+use Rattle.std.specs.Prelude.{◌≡◌, ℕ, suc, ◌+◌, ◌==◌, ◌≤◌, ◌<◌, Bool, true, false, length, map, count_by, if◌then◌else◌}
+use Rattle.std.specs.List.{range_with_len, sum_by}
+use Rattle.im_history.specs.declared.entry.What.{What}
+use Rattle.im_history.specs.declared.entry.What.TheVariants.{Begin, Open, Shut, Write, Commit, Rollback}
+use Rattle.im_history.specs.Cursors.{Opened, opened}
+use Rattle.im_history.specs.History.{History}
+use Rattle.im_history.specs.Rows.{snapshot}
+use Rattle.im_history.specs.Tables.{given}
+use Rattle.im_history.specs.Touched.{touches, most_numbers}
+use Rattle.im_history.specs.Views.{per_at}
+use Rattle.im_history.specs.Transactions.{pending, begun, mode, is_open}
+use Rattle.im_txn.specs.declared.cursor.Cursor.{Cursor}
+use Rattle.im_txn.specs.Activity.{is_number}
+use Rattle.im_txn.specs.Standing.{Standing, activity_at, lock_at}
+
+-- what is kept of an opened cursor
+abbrev pub kept : Opened → Cursor
+kept opened = record { cursor = opened.cursor; table = opened.view.table; scn = opened.view.scn; rows = opened.view.rows; per = opened.view.per }
+
+-- the cursor that a session's opening of this number on this table keeps
+abbrev pub cursor_of : History → ℕ → ℕ → ℕ → Cursor
+cursor_of history who cursor table = record { cursor = cursor; table = table; scn = snapshot history who; rows = given history table; per = per_at history table }
+
+-- a Rollback where a session has an open transaction, and a Shut for each cursor that it has open
+abbrev pub owes : History → ℕ → ℕ
+owes history who = (if is_open history who then 1 else 0) + length (opened history who)
+
+-- the entries that all numbers together will need without fail
+unfoldable pub owed : History → ℕ
+owed history = sum_by (owes history) (range_with_len 0 most_numbers)
+
+-- what is going on is what this history says: a row's cell names the number that has a change to it pending
+pub record Agrees (history : History) (standing : Standing) : Type 0 where
+  pub changes : (who : ℕ) → (activity_at standing who).pending ≡ pending history who
+  pub began : (who : ℕ) → (activity_at standing who).begun ≡ begun history who
+  pub modes : (who : ℕ) → (activity_at standing who).mode ≡ mode history who
+  pub cursors : (who : ℕ) → (activity_at standing who).cursors ≡ map kept (opened history who)
+  pub once : (who cursor : ℕ) → count_by (is_number cursor) (activity_at standing who).cursors ≤ 1
+  pub locks : (table rid who : ℕ) → who < most_numbers → (lock_at standing table rid == suc who) ≡ touches (pending history who) table rid
+  pub holders : (table rid : ℕ) → lock_at standing table rid ≤ most_numbers
+  pub owing : standing.owed ≡ owed history
+
+-- an entry of this kind changes nothing of what sessions have going on
+abbrev pub is_apart : What → Bool
+is_apart (Begin mode) = false
+is_apart (Open cursor table) = false
+is_apart (Shut cursor) = false
+is_apart (Write changes) = false
+is_apart Commit = false
+is_apart Rollback = false
+is_apart _ = true

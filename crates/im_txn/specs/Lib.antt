@@ -1,0 +1,6 @@
+pub mod Activity
+pub mod Agreement
+pub mod Agrees
+pub mod Effects
+pub mod LockCells
+pub mod Standing

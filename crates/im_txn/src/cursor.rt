@@ -1,0 +1,44 @@
+ghost use Rattle.std.specs.Prelude.{◌≡◌, not, count_by, ◌≤◌, filter, vec_capacity, vec_len};
+ghost use Rattle.std.specs.List.{find};
+ghost use Rattle.im_txn.specs.Activity.{is_number};
+
+/// An open cursor: what a scan or a write needs to know of its view.
+#[derive(Clone, Copy, Debug, PartialEq, Eq)]
+pub struct Cursor {
+    /// Its number in its session. A statement's own scan uses 0.
+    pub cursor: u32,
+    /// The table's number.
+    pub table: u32,
+    /// The SCN that is read at.
+    pub scn: u64,
+    /// How many row numbers of the table were given at the opening.
+    pub rows: u64,
+    /// How many row numbers are in an extent of the table.
+    pub per: u64,
+}
+
+/// The first cursor of this number.
+pub fn with_number(cursors: &[Cursor], number: u32) -> Option<Cursor>
+    ensures { result ≡ find (is_number number) cursors.now }
+{
+    cursors
+        .iter()
+        .find(|cursor| cursor.cursor == number)
+        .copied()
+}
+
+/// How many cursors have another number than 0.
+pub fn count_beside_0(cursors: &[Cursor]) -> u64
+    ensures { result ≡ count_by (λ cursor. not (is_number 0 cursor)) cursors.now }
+{
+    cursors.iter().filter(|cursor| cursor.cursor != 0).count() as u64
+}
+
+/// Removes the cursors of this number; the others stay in order.
+pub fn remove_number(cursors: &mut Vec<Cursor>, number: u32)
+    ensures items { cursors.new.items ≡ filter (λ cursor. not (is_number number cursor)) cursors.old.items }
+    ensures capacity { vec_capacity cursors.new ≡ vec_capacity cursors.old }
+    ensures fewer { vec_len cursors.new ≤ vec_len cursors.old }
+{
+    cursors.retain(|cursor| cursor.cursor != number);
+}

@@ -1,0 +1,212 @@
+ghost use Rattle.std.specs.Prelude.{◌≡◌, ◌+◌, ◌<◌, ◌≤◌, length, OnOk, IfOk};
+ghost use Rattle.im_history.specs.Transactions.{or_here};
+ghost use Rattle.im_txn.specs.Activity.{idle, cursor_in, cursors_in, ended, own_in, transactions, with_changes, with_cursor, with_mode, without_cursor};
+ghost use Rattle.im_txn.specs.Effects.{IsRoomier};
+ghost use Rattle.im_txn.specs.Standing.{IsFew};
+
+use crate::cursor::{Cursor, count_beside_0, remove_number, with_number};
+use im_history::{Change, Changes, Mode};
+use im_values::NoMemory;
+use std::alloc::Global;
+use std::marker::Model;
+
+/// No session has more cursors open.
+const MOST_OPEN: u64 = 1 << 32;
+
+/// What one session has going on.
+#[derive(Debug, Drop)]
+pub struct Session {
+    alloc: Global,
+    pending: Vec<Change>,
+    room: u64,
+    begun: Option<u64>,
+    mode: Mode,
+    cursors: Vec<Cursor>,
+    cursor_room: u64,
+}
+
+impl Model for Session {
+    ghost use Rattle.std.specs.Prelude.{◌+◌, ◌≤◌, vec_len, vec_capacity};
+    ghost use Rattle.im_txn.specs.Activity.{Activity};
+
+    ghost Value = { Activity };
+
+    ghost view = { λ s. record {
+      pending = s.pending.items;
+      begun = s.begun;
+      mode = s.mode;
+      cursors = s.cursors.items;
+      room = s.room;
+      cursor_room = s.cursor_room;
+    } };
+
+    ghost invariant = { λ s. (vec_len s.pending + s.room ≤ vec_capacity s.pending)
+        × (vec_len s.cursors + s.cursor_room ≤ vec_capacity s.cursors) };
+}
+
+impl Session {
+    /// Nothing is going on. It takes no memory.
+    pub fn new(alloc: Global) -> Session
+        ensures { result ≡ idle }
+    {
+        Session {
+            alloc,
+            pending: Vec::new(alloc),
+            room: 0,
+            begun: None,
+            mode: Mode::Committed,
+            cursors: Vec::new(alloc),
+            cursor_room: 0,
+        }
+    }
+
+    /// The pending changes, in the order in which they were written.
+    pub fn pending(&self) -> &[Change]
+        ensures { result.now ≡ self.now.pending }
+    {
+        self.pending.as_slice()
+    }
+
+    /// The place where the open transaction began, or none where none is open.
+    pub fn begun(&self) -> Option<u64>
+        ensures { result ≡ self.now.begun }
+    {
+        self.begun
+    }
+
+    /// The mode of the open transaction, READ COMMITTED where none is open.
+    pub fn mode(&self) -> Mode
+        ensures { result ≡ self.now.mode }
+    {
+        self.mode
+    }
+
+    /// The open cursor of this number.
+    pub fn cursor(&self, number: u32) -> Option<Cursor>
+        ensures { result ≡ cursor_in self.now number }
+    {
+        with_number(self.cursors.as_slice(), number)
+    }
+
+    /// How many cursors are open beside cursor 0.
+    pub fn cursors_open(&self) -> u64
+        ensures { result ≡ cursors_in self.now }
+    {
+        count_beside_0(self.cursors.as_slice())
+    }
+
+    /// A copy of the pending changes to a table.
+    pub fn own(&self, alloc: Global, table: u32) -> Result<Changes, NoMemory>
+        ensures { IfOk result (λ own. own ≡ own_in self.now table) }
+    {
+        let mut own = Vec::new(alloc);
+        for change in &self.pending {
+            if change.table == table {
+                own.push(change.copy(alloc)?)?;
+            }
+        }
+        Ok(Changes::of(own))
+    }
+
+    /// A statement set the mode: a transaction begins at this place where none is open. It answers how many
+    /// transactions more are open.
+    pub fn begin(&mut self, place: u64, mode: Mode) -> u64
+        ensures after { self.new ≡ with_mode place mode self.old }
+        ensures more { transactions self.old + result ≡ transactions self.new }
+    {
+        self.mode = mode;
+        self.begin_here(place)
+    }
+
+    /// A transaction begins at this place where none is open. It answers how many more are open.
+    fn begin_here(&mut self, place: u64) -> u64
+        ensures after { self.new ≡ record self.old { begun = or_here place self.old.begun } }
+        ensures more { transactions self.old + result ≡ transactions self.new }
+    {
+        if self.begun.is_some() {
+            return 0;
+        }
+        self.begun = Some(place);
+        1
+    }
+
+    /// One where a transaction is open.
+    pub fn transactions(&self) -> u64
+        ensures { result ≡ transactions self.now }
+    {
+        u64::from(self.begun.is_some())
+    }
+
+    /// Makes room for one more cursor. A session that has 2^32 cursors open gets no more.
+    pub fn reserve_cursor(&mut self) -> Result<(), NoMemory>
+        ensures same { IsRoomier self.old self.new }
+        ensures few { IsFew self.old → IsFew self.new }
+        ensures ok { OnOk result (0 < self.new.cursor_room) }
+    {
+        if self.cursor_room > 0 {
+            return Ok(());
+        }
+        if self.cursors.len() as u64 >= MOST_OPEN {
+            return Err(NoMemory);
+        }
+        self.cursors.reserve(1)?;
+        self.cursor_room = 1;
+        Ok(())
+    }
+
+    /// Opens a cursor. It takes no memory.
+    pub fn open_cursor(&mut self, cursor: Cursor)
+        requires { 0 < self.old.cursor_room }
+        ensures { self.new ≡ with_cursor cursor self.old }
+    {
+        self.cursor_room -= 1;
+        self.cursors.push(cursor).unwrap();
+    }
+
+    /// Shuts a cursor, and keeps the order of the others. It answers how many fewer are open.
+    pub fn shut(&mut self, number: u32) -> u64
+        ensures after { self.new ≡ without_cursor number self.old }
+        ensures fewer { length self.new.cursors + result ≡ length self.old.cursors }
+    {
+        let before = self.cursors.len();
+        remove_number(&mut self.cursors, number);
+        (before - self.cursors.len()) as u64
+    }
+
+    /// Makes room for so many changes, unless there is as much.
+    pub fn reserve_changes(&mut self, count: u64) -> Result<(), NoMemory>
+        ensures same { IsRoomier self.old self.new }
+        ensures few { IsFew self.old → IsFew self.new }
+        ensures ok { OnOk result (count ≤ self.new.room) }
+    {
+        if count <= self.room {
+            return Ok(());
+        }
+        self.pending.reserve(count as usize)?;
+        self.room = count;
+        Ok(())
+    }
+
+    /// Adds changes to the pending ones; a transaction begins at this place where none is open. It answers how many
+    /// transactions more are open, and takes no memory.
+    pub fn write(&mut self, place: u64, mut changes: Vec<Change>) -> u64
+        requires { length changes.items ≤ self.old.room }
+        ensures after { self.new ≡ with_changes place changes.items self.old }
+        ensures more { transactions self.old + result ≡ transactions self.new }
+    {
+        self.room -= changes.len() as u64;
+        self.pending.append(&mut changes).unwrap();
+        self.begin_here(place)
+    }
+
+    /// Ends the open transaction, and hands its pending changes out. It takes no memory.
+    pub fn end(&mut self) -> Changes
+        ensures after { self.new ≡ ended self.old }
+        ensures handed { result ≡ self.old.pending }
+    {
+        self.begun = None;
+        self.mode = Mode::Committed;
+        self.room = 0;
+        Changes::of(std::mem::replace(&mut self.pending, Vec::new(self.alloc)))
+    }
+}
