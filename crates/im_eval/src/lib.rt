@@ -11,6 +11,3 @@
 mod truth;
 
 pub use truth::holds;
-
-#[cfg(test)]
-mod tests;
