@@ -1,6 +1,6 @@
 mod BeginLemmas
 mod CountLemmas
-mod FetchLemmas
+pub mod FetchLemmas
 mod HoldsLemmas
 mod RefusalLemmas
 mod RewriteLemmas

@@ -17,7 +17,7 @@ fn capitals(alloc: Global, letters: &[u8]) -> Result<Name, NoMemory>
     for letter in letters {
         capitals.push(letter.to_ascii_uppercase())?;
     }
-    Name::of(alloc, capitals.as_slice())
+    Ok(Name::from_vec(capitals))
 }
 
 /// A word, by its whole run of bytes.
@@ -159,7 +159,7 @@ fn text(alloc: Global, bytes: &[u8]) -> Result<Front, NoMemory>
         match piece(behind(bytes, taken)) {
             Piece::Over => return Ok(Front::Bad),
             Piece::End => {
-                let name = Name::of(alloc, content.as_slice())?;
+                let name = Name::from_vec(content);
                 return Ok(Front::Lexed(Token::Text(name), taken + 1));
             }
             Piece::Byte(byte, length) => {

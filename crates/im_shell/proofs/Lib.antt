@@ -1,7 +1,9 @@
-pub mod CountingLemmas
-pub mod EngineLemmas
-pub mod LegalLemmas
+pub mod KeepLemmas
+pub mod KnownLemmas
 pub mod LineLemmas
+pub mod OpeningLemmas
 pub mod PlanLemmas
 pub mod PlayLemmas
-pub mod TouchLemmas
+pub mod ScanLemmas
+pub mod StatementLemmas
+pub mod WriteLemmas

@@ -1,12 +1,8 @@
--- The lines of a text are its first line and then the lines of what stands behind it; the session of a line is known.
-use Rattle.std.proofs.Common.{◌≡◌, ◌==◌, ℕ, zero, suc, ◌+◌, ◌≤◌, not, Bool, true, false, if◌then◌else◌, List, [], ◌∷◌, length, take, drop, Option, refl, sym, ap, ◌∙◌, ◌-◌, ◌<◌, one-add, length-drop, arith}
+-- The lines of a text are its first line and then the lines of what stands behind it.
+use Rattle.std.proofs.Common.{◌≡◌, ◌==◌, ℕ, zero, suc, ◌+◌, ◌≤◌, not, Bool, true, false, if◌then◌else◌, List, [], ◌∷◌, length, take, drop, refl, sym, ap, ◌∙◌, ◌-◌, ◌<◌, one-add, length-drop, arith}
 use Rattle.std.proofs.lemmas.List.{take_all}
 use Rattle.std.specs.List.{prefix_len}
-use Rattle.im_script.specs.declared.line.LineKind.{LineKind}
-use Rattle.im_script.specs.declared.line.LineKind.TheVariants as kind
 use Rattle.im_script.specs.Forms.{lines_of, before_first}
-use Rattle.im_script.specs.Lines.{SpeaksAs}
-use Rattle.im_shell.specs.Machine.{who_of}
 
 -- the length of the first line
 abbrev pub line_len : List ℕ → ℕ
@@ -48,8 +44,3 @@ pub lines_of-next : (text : List ℕ) (end : ℕ) (line behind : List ℕ) → 1
 lines_of-next text end line behind some end_is line_is behind_is =
     let rest : take (length behind - 1) (drop 1 behind) ≡ drop (suc end) text = take_all (length behind - 1) (drop 1 behind) (omega (arith, length-drop 1 behind)) ∙ (ap (drop 1) behind_is ∙ drop-one end text) in
     rw (line_is, rest, end_is) (lines_of-first text some)
-
--- the session that a line names is known
-pub known_session : (who : Option ℕ) (k : LineKind) → SpeaksAs who k → who_of k < 25
-known_session who (kind.Session n statement) speaks = omega (arith, speaks.2)
-known_session who _ speaks = omega arith

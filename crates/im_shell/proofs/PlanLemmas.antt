@@ -1,25 +1,27 @@
--- How a line that is played alone goes by its plan, exit by exit.
-use Rattle.std.proofs.Common.{◌≡◌, ◌==◌, ◌&&◌, ℕ, ◌+◌, nat_lt, length, Bool, true, false, if◌then◌else◌, List, [], ◌∷◌, ◌++◌, Option, Some, None, is_some, refl, sym, ap, ◌∙◌, subst, inl, inr, arith, append-nil}
-use Rattle.std.proofs.lemmas.Bool.Decides.{nat_tests}
-use Rattle.im_history.specs.declared.entry.Entry.{Entry}
+-- How a line that a store plays alone goes by its plan, exit by exit.
+use Rattle.std.proofs.Common.{◌≡◌, ◌&&◌, ℕ, suc, ◌+◌, arith, ◌≤◌, length, Bool, true, false, if◌then◌else◌, List, [], ◌∷◌, ◌++◌, Option, Some, None, is_some, refl, sym, ap, ◌∙◌, subst, inl, inr, append-nil}
+use Rattle.std.specs.List.{list_any}
+use Rattle.im_core.specs.Answers.{IsRefusal}
+use Rattle.im_core.specs.Seen.{Seen, Adds}
+use Rattle.im_history.specs.declared.change.Change.{Change}
 use Rattle.im_history.specs.declared.entry.What.{What}
 use Rattle.im_history.specs.declared.entry.What.TheVariants as what
+use Rattle.im_history.specs.declared.refused.Refused.{Refused}
+use Rattle.im_history.specs.declared.refused.Why.{Why}
+use Rattle.im_history.specs.declared.refused.Why.TheVariants as why
 use Rattle.im_history.specs.Cursors.{opened, is_cursor, is_cursor_open}
-use Rattle.im_history.specs.Commits.{scn}
-use Rattle.im_history.specs.Grid.{default_grid}
 use Rattle.im_history.specs.History.{History}
-use Rattle.im_history.specs.Legal.{put_from}
-use Rattle.im_history.specs.Rows.{Row, snapshot}
-use Rattle.im_history.specs.Tables.{tables, table_named, name_is_taken, given}
-use Rattle.im_history.specs.Transactions.{is_open, begun}
-use Rattle.im_history.proofs.Laws.{scn-push, begun-push}
-use Rattle.im_plan.specs.Goes.{After, Nobody, Ends, Goes}
+use Rattle.im_history.specs.Refusals.{write_refusal}
+use Rattle.im_plan.specs.Goes.{After, Nobody, Ends, Goes, Rest}
 use Rattle.im_plan.specs.Plan.{Plan, End, Turn, made, counted}
-use Rattle.im_shell.specs.declared.reply.Reply.{Reply}
-use Rattle.im_shell.specs.declared.reply.Body.TheVariants.{Created, Inserted, Committed, Counted}
+use Rattle.im_shell.specs.declared.reply.Body.{Body}
+use Rattle.im_shell.specs.declared.reply.Body.TheVariants.{Error}
 use Rattle.im_shell.specs.declared.reply.Fault.{Fault}
-use Rattle.im_shell.specs.Machine.{look, answer_at, amends, memory_reply, number_column, rows_seen, with_table, insert_row, count_rows, create_refusal, unless_refused, or_refused, create_last, commit_plan, insert_plan, count_plan, create_plan, Request, IsRest, IsAnswer}
-use Rattle.std.specs.List.{list_any}
+use Rattle.im_shell.specs.declared.reply.Reply.{Reply}
+use Rattle.im_shell.specs.Requests.{Request, IsAnswer}
+use Rattle.im_shell.specs.Scans.{shut_by}
+use Rattle.im_shell.specs.Statements.{rewrite}
+use Rattle.im_shell.specs.Turns.{look, fault_of, answer_at, amends, memory_reply, unless_refused, or_refused, refused_reply, decide, end_scan, IsRest}
 
 -- nobody came between
 same : (h added : History) → added ≡ [] → After Nobody (h ++ added) h
@@ -29,106 +31,167 @@ here : (h : History) → After Nobody h h
 here h = record { between = []; lawful = record { none = refl }; log = sym (append-nil h) }
 
 -- no cursor of the session is open
-pub closed : (h : History) (who : ℕ) → opened h who ≡ [] → is_cursor_open h who 0 ≡ false
+closed : (h : History) (who : ℕ) → opened h who ≡ [] → is_cursor_open h who 0 ≡ false
 closed h who none = ap (list_any (is_cursor 0)) none
 
-module _ (who k : ℕ) (h : History) where
-  -- the plan is at its end
-  pub rest-end : (reply : Reply) → IsRest who k h (End reply) reply h
-  rest-end reply = record { rest = record { played = inl (record { value_is = refl; after = here h }) } }
-
-  amended : opened h who ≡ [] → Goes Nobody who h (amends who k) (memory_reply k) h
-  amended none = (h, here h, record { value_is = refl; after = same h (made who (if is_cursor_open h who 0 then Some (what.Shut 0) else None)) (ap (λ b. made who (if b then Some (what.Shut 0) else None)) (closed h who none)) })
-
-  -- memory lacks before the next turn
-  pub rest-lacks : (plan : Plan Reply) → opened h who ≡ [] → IsRest who k h plan (memory_reply k) h
-  rest-lacks (End reply) none = record { rest = record { played = inr (amended none) } }
-  rest-lacks (Turn decides adds on) none = record { rest = record { played = inr (inl (amended none)) } }
-
-  -- a turn whose entry does not decide, or that adds none
-  pub rest-turn : (decides : Bool) (adds : History → Option What) (on : History → Plan Reply) (reply : Reply) (new : History) → (decides && is_some (adds h)) ≡ false → IsRest who (counted (adds h) k) (h ++ made who (adds h)) (on h) reply new → IsRest who k h (Turn decides adds on) reply new
-  rest-turn decides adds on reply new undecided after = record {
-    rest = record {
-      played = elim after.rest.played [
-        | inl goes ↦ inl (h, here h, goes)
-        | inr lacks ↦ inr (inr (h, here h, undecided, lacks))
-      ];
-    };
-  }
-
-  -- a turn, after which the line goes by its plan
-  pub rest-goes : (decides : Bool) (adds : History → Option What) (on : History → Plan Reply) (reply : Reply) (new : History) → Goes Nobody who (h ++ made who (adds h)) (on h) reply new → IsRest who k h (Turn decides adds on) reply new
-  rest-goes decides adds on reply new goes = record { rest = record { played = inl (h, here h, goes) } }
-
-  -- a look
-  pub rest-look : (on : History → Plan Reply) (reply : Reply) (new : History) → IsRest who k h (on h) reply new → IsRest who k h (look on) reply new
-  rest-look on reply new after = rest-turn false (λ at. None) on reply new refl (subst (λ (log : History). IsRest who k log (on h) reply new) (sym (append-nil h)) after)
-
 -- a line ends where it is
-pub ends-here : (h : History) (reply : Reply) → Ends Nobody h reply reply h
+ends-here : (h : History) (reply : Reply) → Ends Nobody h reply reply h
 ends-here h reply = record { value_is = refl; after = here h }
 
--- ---- the statements
+-- ---- exits on histories
 
--- memory lacks and the history stays
-pub lacks : (who k : ℕ) (h new : History) (plan : Plan Reply) (reply : Reply) → opened h who ≡ [] → reply ≡ memory_reply k → new ≡ h → IsRest who k h plan reply new
-lacks who k h new plan reply none reply_is new_is = rw (reply_is, new_is) (rest-lacks who k h plan none)
+abbrev OnLog : ℕ → ℕ → History → Plan Reply → Reply → History → Type 0
+OnLog who k old plan reply new = Rest Nobody who (amends who) k old plan reply new
 
-pub commit-done : (who n s : ℕ) (h new : History) → n ≡ length h → new ≡ h ++ record { who = who; what = what.Commit } ∷ [] → s ≡ scn new → IsRest who 0 h commit_plan (record { place = Some n; body = Committed s }) new
-commit-done who n s h new n_is new_is s_is =
-    let entry : Entry = record { who = who; what = what.Commit } in
-    let s_after : s ≡ scn h + 1 = s_is ∙ (ap scn new_is ∙ scn-push h entry) in
-    rw (n_is, s_after, new_is)
-    (rest-look who 0 h _ _ _ (rest-goes who 0 h true _ _ _ _ (ends-here (h ++ entry ∷ []) _)))
+module _ (who k : ℕ) (h : History) where
+  amended : is_cursor_open h who 0 ≡ false → Goes Nobody who h (amends who k) (memory_reply k) h
+  amended shut = (h, here h, record { value_is = refl; after = same h (made who (if is_cursor_open h who 0 then Some (what.Shut 0) else None)) (ap (λ b. made who (if b then Some (what.Shut 0) else None)) shut) })
 
--- no transaction is open after a commit
-pub idle-commit : (who : ℕ) (h new : History) → new ≡ h ++ record { who = who; what = what.Commit } ∷ [] → is_open new who ≡ false
-idle-commit who h new new_is =
-    let entry : Entry = record { who = who; what = what.Commit } in
-    let itself : (who == who) ≡ true = grind (arith, nat_tests) in
-    ap (λ (log : History). is_open log who) new_is
-    ∙ (ap is_some (begun-push h entry who) ∙ ap (λ (b : Bool). is_some (if b then None else begun h who)) itself)
+  amended-open : is_cursor_open h who 0 ≡ true → Goes Nobody who h (amends who k) (memory_reply k) (h ++ record { who = who; what = what.Shut 0 } ∷ [])
+  amended-open is_open = (h, here h, rw is_open (ends-here (h ++ record { who = who; what = what.Shut 0 } ∷ []) (memory_reply k)))
 
--- a look that finds the table
-found-table : (who : ℕ) (h new : History) (name : List ℕ) (on : ℕ → Plan Reply) (table : ℕ) (reply : Reply) → table_named h name ≡ Some table → IsRest who 0 h (on table) reply new → IsRest who 0 h (with_table name h on (table_named h name)) reply new
-found-table who h new name on table reply found rest = rw found rest
+  log-lacks : (plan : Plan Reply) → opened h who ≡ [] → OnLog who k h plan (memory_reply k) h
+  log-lacks (End reply) none = record { played = inr (amended (closed h who none)) }
+  log-lacks (Turn decides adds on) none = record { played = inr (inl (amended (closed h who none))) }
 
-pub insert-done : (who n first : ℕ) (h new : History) (name : List ℕ) (row : Row) (table : ℕ) → table_named h name ≡ Some table → n ≡ length h → first ≡ given h table → new ≡ h ++ record { who = who; what = what.Write (put_from table (given h table) (row ∷ [])) } ∷ [] → IsRest who 0 h (insert_plan name row) (record { place = Some n; body = Inserted 1 first }) new
-insert-done who n first h new name row table found n_is first_is new_is =
-    let entry : Entry = record { who = who; what = what.Write (put_from table (given h table) (row ∷ [])) } in
-    rw (n_is, first_is, new_is)
-    (rest-look who 0 h _ _ _ (found-table who h _ name (λ t. insert_row t row) table _ found (rest-goes who 0 h true _ _ _ _ (ends-here (h ++ entry ∷ []) _))))
+  log-lacks_open : (plan : Plan Reply) → is_cursor_open h who 0 ≡ true → OnLog who k h plan (memory_reply k) (h ++ record { who = who; what = what.Shut 0 } ∷ [])
+  log-lacks_open (End reply) is_open = record { played = inr (amended-open is_open) }
+  log-lacks_open (Turn decides adds on) is_open = record { played = inr (inl (amended-open is_open)) }
 
-pub count-done : (who n s rows_now : ℕ) (h new : History) (name : List ℕ) (table : ℕ) → table_named h name ≡ Some table → n ≡ length h → s ≡ scn h → snapshot h who ≡ scn h → rows_now ≡ rows_seen h who table → new ≡ (h ++ record { who = who; what = what.Open 0 table } ∷ []) ++ record { who = who; what = what.Shut 0 } ∷ [] → IsRest who 0 h (count_plan who name) (record { place = Some n; body = Counted s rows_now }) new
-count-done who n s rows_now h new name table found n_is s_is read_at rows_is new_is =
-    let open_entry : Entry = record { who = who; what = what.Open 0 table } in
-    let shut_entry : Entry = record { who = who; what = what.Shut 0 } in
-    rw (n_is, s_is ∙ sym read_at, rows_is, new_is)
-    (rest-look who 0 h _ _ _ (found-table who h _ name (count_rows who) table _ found
-    (rest-goes who 0 h false _ _ _ _ (h ++ open_entry ∷ [], here (h ++ open_entry ∷ []), ends-here ((h ++ open_entry ∷ []) ++ shut_entry ∷ []) _))))
+  log-turn : (decides : Bool) (adds : History → Option What) (on : History → Plan Reply) (reply : Reply) (new : History) → (decides && is_some (adds h)) ≡ false → OnLog who (counted (adds h) k) (h ++ made who (adds h)) (on h) reply new → OnLog who k h (Turn decides adds on) reply new
+  log-turn decides adds on reply new undecided after = record {
+    played = elim after.played [
+      | inl goes ↦ inl (h, here h, goes)
+      | inr lacks ↦ inr (inr (h, here h, undecided, lacks))
+    ];
+  }
 
-pub create-done : (who k n number s : ℕ) (h new : History) (name column : List ℕ) → name_is_taken h name ≡ false → nat_lt (length (tables h)) 64 ≡ true → n ≡ length h → number ≡ length (tables h) → new ≡ h ++ record { who = who; what = what.Create name (number_column column) default_grid } ∷ [] → s ≡ scn new → IsRest who k h (create_last name column) (record { place = Some n; body = Created (number + 1) s }) new
-create-done who k n number s h new name column free room n_is number_is new_is s_is =
-    let entry : Entry = record { who = who; what = what.Create name (number_column column) default_grid } in
-    let s_after : s ≡ scn h + 1 = s_is ∙ (ap scn new_is ∙ scn-push h entry) in
-    rw (n_is, number_is, s_after, new_is)
-    (rest-goes who k h true _ _ _ _ (goes (create_refusal name h) refused))
+  log-goes : (decides : Bool) (adds : History → Option What) (on : History → Plan Reply) (reply : Reply) (new : History) → Goes Nobody who (h ++ made who (adds h)) (on h) reply new → OnLog who k h (Turn decides adds on) reply new
+  log-goes decides adds on reply new goes = record { played = inl (h, here h, goes) }
+
+-- ---- exits on what is seen of a store
+
+module _ (who k : ℕ) (old : Seen) where
+  -- the plan is at its end
+  pub rest-end : (reply : Reply) (new : Seen) → new ≡ old → IsRest who k old (End reply) reply new
+  rest-end reply new e = rw e (record { limits = refl; rest = record { played = inl (ends-here old.log reply) } })
+
+  -- memory lacks before the next turn, and no cursor is open
+  pub rest-lacks : (plan : Plan Reply) (new : Seen) → opened old.log who ≡ [] → new ≡ old → IsRest who k old plan (memory_reply k) new
+  rest-lacks plan new none e = rw e (record { limits = refl; rest = log-lacks who k old.log plan none })
+
+  -- memory lacks while cursor 0 is open
+  pub rest-lacks_open : (plan : Plan Reply) (new : Seen) → is_cursor_open old.log who 0 ≡ true → new ≡ old → IsRest who k old plan (memory_reply k) (shut_by who new)
+  rest-lacks_open plan new is_open e = rw e (record { limits = refl; rest = log-lacks_open who k old.log plan is_open })
+
+  -- a turn that adds nothing
+  pub rest-look : (on : History → Plan Reply) (reply : Reply) (new : Seen) → IsRest who k old (on old.log) reply new → IsRest who k old (look on) reply new
+  rest-look on reply new after = record {
+    limits = after.limits;
+    rest = log-turn who k old.log false (λ at. None) on reply new.log refl (subst (λ (log : History). OnLog who k log (on old.log) reply new.log) (sym (append-nil old.log)) after.rest);
+  }
+
+  -- a turn whose entry does not decide
+  pub rest-adds : (entry : What) (on : History → Plan Reply) (reply : Reply) (middle new : Seen) → Adds old who entry middle → IsRest who (k + 1) middle (on old.log) reply new → IsRest who k old (Turn false (λ at. Some entry) on) reply new
+  rest-adds entry on reply middle new added after = by (rw added at after)
+    where
+      suc_is : k + 1 ≡ suc k
+      suc_is = omega arith
+
+      by : IsRest who (k + 1) (record old { log = old.log ++ record { who = who; what = entry } ∷ [] }) (on old.log) reply new → IsRest who k old (Turn false (λ at. Some entry) on) reply new
+      by rest = record { limits = rest.limits; rest = log-turn who k old.log false (λ at. Some entry) on reply new.log refl (rw suc_is at rest.rest) }
+
+-- the one entry of a statement is made
+pub decide-done : (who k : ℕ) (old new : Seen) (tells : Why → Fault) (refused : History → Option Why) (entry : History → What) (body : History → Body) (place : ℕ) (said : Body) → refused old.log ≡ None → Adds old who (entry old.log) new → place ≡ length old.log → said ≡ body old.log → IsRest who k old (decide tells refused entry body) (record { place = Some place; body = said }) new
+decide-done who k old new tells refused entry body place said allowed added place_is said_is =
+    rw (added, place_is, said_is) (record { limits = refl; rest = log-goes who k old.log true _ _ _ _ (goes (refused old.log) allowed) })
   where
-    refused : create_refusal name h ≡ None
-    refused = rw (free, room) refl
-
-    goes : (o : Option Fault) → o ≡ None → Goes Nobody who (h ++ made who (unless_refused o (what.Create name (number_column column) default_grid))) (answer_at h (or_refused o (Created (length (tables h) + 1) (scn h + 1)))) (record { place = Some (length h); body = Created (length (tables h) + 1) (scn h + 1) }) (h ++ record { who = who; what = what.Create name (number_column column) default_grid } ∷ [])
+    goes : (o : Option Why) → o ≡ None → Goes Nobody who (old.log ++ made who (unless_refused o (entry old.log))) (answer_at old.log (or_refused tells o (body old.log))) (record { place = Some (length old.log); body = body old.log }) (old.log ++ record { who = who; what = entry old.log } ∷ [])
     goes None e = ends-here _ _
-    goes (Some why) e = cc
+    goes (Some cause) e = cc
 
--- a creation that first commits
-pub create-committed : (who : ℕ) (h middle new : History) (name column : List ℕ) (reply : Reply) → is_open h who ≡ true → middle ≡ h ++ record { who = who; what = what.Commit } ∷ [] → IsRest who 1 middle (create_last name column) reply new → IsRest who 0 h (create_plan who name column) reply new
-create-committed who h middle new name column reply open_now middle_is rest =
-    rest-look who 0 h _ reply new
-    (rw open_now
-    (rest-turn who 0 h false (λ at. Some what.Commit) (λ at. look (λ after. create_last name column)) reply new refl
-    (rest-look who 1 (h ++ record { who = who; what = what.Commit } ∷ []) (λ after. create_last name column) reply new (rw middle_is at rest))))
+-- it is refused
+decide-refused : (who k : ℕ) (old : Seen) (tells : Why → Fault) (refused : History → Option Why) (entry : History → What) (body : History → Body) (cause : Why) → refused old.log ≡ Some cause → IsRest who k old (decide tells refused entry body) (record { place = Some (length old.log); body = Error (tells cause) }) old
+decide-refused who k old tells refused entry body cause is =
+    record { limits = refl; rest = log-goes who k old.log true _ _ _ _ (goes (refused old.log) is) }
+  where
+    some-inj : {a b : Why} → Some a ≡ Some b → a ≡ b
+    some-inj e = cc
+
+    goes : (o : Option Why) → o ≡ Some cause → Goes Nobody who (old.log ++ made who (unless_refused o (entry old.log))) (answer_at old.log (or_refused tells o (body old.log))) (record { place = Some (length old.log); body = Error (tells cause) }) old.log
+    goes None e = cc
+    goes (Some other) e = rw (some-inj e) (record { value_is = refl; after = same old.log [] refl })
+
+-- what is told of a cause: that memory lacked, or its fault
+data IsToldOf (tells : Why → Fault) (k place : ℕ) (cause : Why) : Type 0 where
+  of_memory : cause ≡ why.NoMemory → refused_reply tells k place cause ≡ memory_reply k → IsToldOf tells k place cause
+  of_fault : refused_reply tells k place cause ≡ record { place = Some place; body = Error (tells cause) } → IsToldOf tells k place cause
+
+told_of : (tells : Why → Fault) (k place : ℕ) (cause : Why) → IsToldOf tells k place cause
+told_of tells k place why.NoMemory = of_memory refl refl
+told_of tells k place _ = of_fault refl
+
+-- the call for the one entry of a statement was refused
+pub decide-told : (who k : ℕ) (old new : Seen) (tells : Why → Fault) (cause_at : History → Option Why) (entry : History → What) (body : History → Body) (told : Refused) → opened old.log who ≡ [] → new ≡ old → IsRefusal old.log (cause_at old.log) told → IsRest who k old (decide tells cause_at entry body) (refused_reply tells k told.place told.why) new
+decide-told who k old new tells cause_at entry body told none new_is is = rw new_is (by (told_of tells k told.place told.why))
+  where
+    lacking : refused_reply tells k told.place told.why ≡ memory_reply k → IsRest who k old (decide tells cause_at entry body) (refused_reply tells k told.place told.why) old
+    lacking e = rw e (rest-lacks who k old (decide tells cause_at entry body) old none refl)
+
+    by : IsToldOf tells k told.place told.why → IsRest who k old (decide tells cause_at entry body) (refused_reply tells k told.place told.why) old
+    by (of_memory c e) = lacking e
+    by (of_fault e) = elim is.why [
+      | inl lacks ↦ lacking (ap (refused_reply tells k told.place) lacks)
+      | inr cause ↦ rw (e, is.place) (decide-refused who k old tells cause_at entry body told.why cause)
+    ]
 
 -- a whole line, none of whose entries was made before
-pub answer-from_rest : (request : Request) (h : History) (reply : Reply) (new : History) → IsRest request.who 0 h request.plan reply new → IsAnswer request h reply new
-answer-from_rest request h reply new rest = record { line = record { whole = rest.rest } }
+pub answer-from_rest : (request : Request) (old : Seen) (reply : Reply) (new : Seen) → IsRest request.who 0 old request.plan reply new → IsAnswer request old.log reply new.log
+answer-from_rest request old reply new rest = record { line = record { whole = rest.rest } }
+
+-- cursor 0 is shut, and the line ends
+pub scan-ended : (who k : ℕ) (old new : Seen) (place : ℕ) (body : Body) → new ≡ old → IsRest who k old (end_scan place body) (record { place = Some place; body = body }) (shut_by who new)
+scan-ended who k old new place body e = rw e (record { limits = refl; rest = log-goes who k old.log false _ _ _ _ (ends-here _ _) })
+
+-- ---- a write inside a scan
+
+-- changes to what was seen are written
+pub rewrite-done : (who : ℕ) (old new : Seen) (opened_at scn : ℕ) (changes : List Change) (body : ℕ → Body) (place : ℕ) → 1 ≤ length changes → write_refusal old.limits old.log who scn changes ≡ None → Adds old who (what.Write changes) new → place ≡ length old.log → IsRest who 1 old (rewrite old.limits who opened_at scn changes body) (record { place = Some place; body = body (length changes) }) (shut_by who new)
+rewrite-done who old new opened_at scn [] body place some allowed added place_is = absurd (omega (arith, some))
+rewrite-done who old new opened_at scn (change ∷ changes) body place some allowed added place_is =
+    rw (added, place_is) (record { limits = refl; rest = log-goes who 1 old.log true _ _ _ _ (goes (write_refusal old.limits old.log who scn (change ∷ changes)) allowed) })
+  where
+    said : Body
+    said = body (length (change ∷ changes))
+
+    goes : (o : Option Why) → o ≡ None → Goes Nobody who (old.log ++ made who (unless_refused o (what.Write (change ∷ changes)))) (end_scan (length old.log) (or_refused fault_of o said)) (record { place = Some (length old.log); body = said }) ((old.log ++ record { who = who; what = what.Write (change ∷ changes) } ∷ []) ++ record { who = who; what = what.Shut 0 } ∷ [])
+    goes None e = (old.log ++ record { who = who; what = what.Write (change ∷ changes) } ∷ [], here _, ends-here _ _)
+    goes (Some cause) e = cc
+
+-- and where the write is refused
+pub rewrite-told : (who : ℕ) (old new : Seen) (opened_at scn : ℕ) (changes : List Change) (body : ℕ → Body) (told : Refused) → 1 ≤ length changes → is_cursor_open old.log who 0 ≡ true → new ≡ old → IsRefusal old.log (write_refusal old.limits old.log who scn changes) told → IsRest who 1 old (rewrite old.limits who opened_at scn changes body) (refused_reply fault_of 1 told.place told.why) (shut_by who new)
+rewrite-told who old new opened_at scn [] body told some is_open new_is is = absurd (omega (arith, some))
+rewrite-told who old new opened_at scn (change ∷ changes) body told some is_open new_is is = rw new_is (by (told_of fault_of 1 told.place told.why))
+  where
+    said : Body
+    said = body (length (change ∷ changes))
+
+    lacking : refused_reply fault_of 1 told.place told.why ≡ memory_reply 1 → IsRest who 1 old (rewrite old.limits who opened_at scn (change ∷ changes) body) (refused_reply fault_of 1 told.place told.why) (shut_by who old)
+    lacking e = rw e (rest-lacks_open who 1 old (rewrite old.limits who opened_at scn (change ∷ changes) body) old is_open refl)
+
+    some-inj : {a b : Why} → Some a ≡ Some b → a ≡ b
+    some-inj e = cc
+
+    goes : (o : Option Why) → o ≡ Some told.why → Goes Nobody who (old.log ++ made who (unless_refused o (what.Write (change ∷ changes)))) (end_scan (length old.log) (or_refused fault_of o said)) (record { place = Some (length old.log); body = Error (fault_of told.why) }) (old.log ++ record { who = who; what = what.Shut 0 } ∷ [])
+    goes None e = cc
+    goes (Some other) e = rw (some-inj e) (old.log, same old.log [] refl, ends-here _ _)
+
+    caused : write_refusal old.limits old.log who scn (change ∷ changes) ≡ Some told.why → IsRest who 1 old (rewrite old.limits who opened_at scn (change ∷ changes) body) (record { place = Some (length old.log); body = Error (fault_of told.why) }) (shut_by who old)
+    caused cause = record { limits = refl; rest = log-goes who 1 old.log true _ _ _ _ (goes (write_refusal old.limits old.log who scn (change ∷ changes)) cause) }
+
+    by : IsToldOf fault_of 1 told.place told.why → IsRest who 1 old (rewrite old.limits who opened_at scn (change ∷ changes) body) (refused_reply fault_of 1 told.place told.why) (shut_by who old)
+    by (of_memory c e) = lacking e
+    by (of_fault e) = elim is.why [
+      | inl lacks ↦ lacking (ap (refused_reply fault_of 1 told.place) lacks)
+      | inr cause ↦ rw (e, is.place) (caused cause)
+    ]

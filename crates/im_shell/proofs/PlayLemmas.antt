@@ -3,7 +3,9 @@ use Rattle.std.proofs.Common.{◌≡◌, ◌≤◌, ℕ, ◌+◌, true, List, []
 use Rattle.std.proofs.lemmas.List.{take-append-drop}
 use Rattle.im_edge.specs.Writing.{Took, TookPart}
 use Rattle.im_edge.proofs.ForCallers.{Took-nil, Took-append}
-use Rattle.im_history.specs.History.{History}
+use Rattle.im_core.specs.Seen.{Seen}
+use Rattle.im_history.specs.Cursors.{opened}
+use Rattle.im_history.specs.History.{History, replay}
 use Rattle.im_plan.specs.Alone.{Played}
 use Rattle.im_plan.proofs.AloneLaws.{line_alone}
 use Rattle.im_shell.specs.declared.reply.Reply.{Reply}
@@ -14,7 +16,8 @@ use Rattle.im_script.specs.declared.line.LineKind.{LineKind}
 use Rattle.im_script.specs.declared.line.LineKind.TheVariants as kind
 use Rattle.im_script.specs.Forms.{lines_of, first_of, form_of, who_of}
 use Rattle.im_script.specs.Lines.{AreLines, IsLine, HasKind, no_memory}
-use Rattle.im_shell.specs.Machine.{Request, asked, request_of, with_request, requests_of, amends, IsAnswer, IsAnswered}
+use Rattle.im_shell.specs.Requests.{Request, asked, request_of, with_request, requests_of, IsAnswer, IsAnswered, IsBetween, script_limits}
+use Rattle.im_shell.specs.Turns.{amends}
 use Rattle.im_shell.specs.Play.{play_request, replies, may_lack_in, reply_text, IsPlayed, IsPlayedInPart, Sends, Plays, PlaysInPart, IsSoFar, PlaysNext}
 use Rattle.im_shell.specs.Texts.{body_text, text_of}
 
@@ -160,13 +163,21 @@ pub record IsGoing (script : List ℕ) (before now : Option (List ℕ)) (number 
   pub sends : Sends before now written waiting
   pub numbered : number + length rest ≤ length script + 1
 
-pub IsGoing-start : (script : List ℕ) (taken : Option (List ℕ)) (waiting : List ℕ) → waiting ≡ [] → IsGoing script taken taken 1 [] script waiting
+IsGoing-start : (script : List ℕ) (taken : Option (List ℕ)) (waiting : List ℕ) → waiting ≡ [] → IsGoing script taken taken 1 [] script waiting
 IsGoing-start script taken waiting none = record {
   written = [];
   so_far = IsSoFar-start script;
   sends = subst (Sends taken taken []) (sym none) (Sends-start taken);
   numbered = omega arith;
 }
+
+-- the store in which nothing has happened
+pub IsGoing-start_at : (script : List ℕ) (taken : Option (List ℕ)) (waiting : List ℕ) (h : History) → h ≡ [] → waiting ≡ [] → IsGoing script taken taken 1 h script waiting
+IsGoing-start_at script taken waiting h empty none = rw empty (IsGoing-start script taken waiting none)
+
+pub between-start : (s : Seen) → s ≡ record { limits = script_limits; log = [] } → IsBetween s
+unfolding opened replay
+between-start s is = rw is (record { limits = refl; closed = record { each = λ who. refl } })
 
 pub IsGoing-next : (script : List ℕ) (before now after : Option (List ℕ)) (number : ℕ) (h new : History) (rest behind line waiting middle new_waiting : List ℕ) → IsGoing script before now number h rest waiting → lines_of rest ≡ line ∷ lines_of behind → length behind + 1 ≤ length rest → PlaysNext line number h new waiting middle → Sends now after middle new_waiting → IsGoing script before after (number + 1) new behind new_waiting
 IsGoing-next script before now after number h new rest behind line waiting middle new_waiting going lines_are shorter next sends = record {

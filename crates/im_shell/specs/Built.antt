@@ -1,5 +1,5 @@
 -- Which statements are played.
-use Rattle.std.specs.Prelude.{ℕ, ℤ, Bool, true, false, ◌&&◌, not, List, [], ◌∷◌, Option, Some, None, is_some, option_and_then, if◌then◌else◌}
+use Rattle.std.specs.Prelude.{Bool, true, false, ◌&&◌, not, List, [], ◌∷◌, is_some}
 use Rattle.im_syntax.specs.declared.literal.Lit.{Lit}
 use Rattle.im_syntax.specs.declared.literal.Lit.TheVariants.{Int}
 use Rattle.im_syntax.specs.declared.query.ItemPart.{ItemPart}
@@ -7,21 +7,22 @@ use Rattle.im_syntax.specs.declared.query.ItemPart.TheVariants.{CountAll}
 use Rattle.im_syntax.specs.declared.query.ListPart.{ListPart}
 use Rattle.im_syntax.specs.declared.query.ListPart.TheVariants.{Star, Items}
 use Rattle.im_syntax.specs.declared.query.Query.{Query}
+use Rattle.im_syntax.specs.declared.statement.Stmt.{Stmt}
+use Rattle.im_syntax.specs.declared.statement.Stmt.TheVariants.{Create, Insert, Delete, Select, SetReadOnly, SetSerializable, SetCommitted, Commit, Rollback}
 use Rattle.im_syntax.specs.declared.table.ColumnPart.{ColumnPart}
 use Rattle.im_syntax.specs.declared.table.KindWord.{KindWord}
 use Rattle.im_syntax.specs.declared.table.KindWord.TheVariants.{Number, Integer, Varchar2}
-use Rattle.im_syntax.specs.declared.table.MemoryPart.{MemoryPart}
 
 -- there is none in the list
 abbrev pub is_nil : {X : Type 0} → List X → Bool
 is_nil [] = true
 is_nil (x ∷ xs) = false
 
--- what stands alone in a list
-abbrev pub alone : {X : Type 0} → List X → Option X
-alone [] = None
-alone (x ∷ []) = Some x
-alone (x ∷ y ∷ rest) = None
+-- the list has one member, which passes this test
+abbrev pub is_alone : {X : Type 0} → (X → Bool) → List X → Bool
+is_alone test [] = false
+is_alone test (x ∷ []) = test x
+is_alone test (x ∷ y ∷ rest) = false
 
 -- a kind of numbers
 abbrev pub is_number : KindWord → Bool
@@ -29,26 +30,18 @@ is_number Number = true
 is_number Integer = true
 is_number (Varchar2 most) = false
 
--- the name of a column of numbers
-abbrev pub number_column_name : ColumnPart → Option (List ℕ)
-number_column_name column = if is_number column.kind then Some column.name else None
-
--- CREATE TABLE of one column of numbers: its name
-abbrev pub number_column_alone : List ColumnPart → Option (List ℕ)
-number_column_alone columns = option_and_then number_column_name (alone columns)
-
--- CREATE TABLE without BLOCK, EXTENT and INMEMORY
-abbrev pub is_bare : Option ℕ → Option ℕ → Option MemoryPart → Bool
-is_bare block extent memory = not (is_some block) && not (is_some extent) && not (is_some memory)
+-- a column of numbers
+abbrev pub is_number_column : ColumnPart → Bool
+is_number_column column = is_number column.kind
 
 -- an integer
-abbrev pub integer_of : Lit → Option ℤ
-integer_of (Int number) = Some number
-integer_of value = None
+abbrev pub is_integer : Lit → Bool
+is_integer (Int number) = true
+is_integer value = false
 
--- INSERT of one tuple of one integer
-abbrev pub integer_alone : List (List Lit) → Option ℤ
-integer_alone tuples = option_and_then integer_of (option_and_then alone (alone tuples))
+-- a tuple of one integer
+abbrev pub is_integer_tuple : List Lit → Bool
+is_integer_tuple values = is_alone is_integer values
 
 -- COUNT(*)
 abbrev pub is_count : ItemPart → Bool
@@ -58,11 +51,22 @@ is_count item = false
 -- COUNT(*) and nothing else is answered
 abbrev pub is_count_list : ListPart → Bool
 is_count_list Star = false
-is_count_list (Items []) = false
-is_count_list (Items (item ∷ [])) = is_count item
-is_count_list (Items (item ∷ next ∷ items)) = false
+is_count_list (Items items) = is_alone is_count items
 
 -- SELECT COUNT(*) of a table, without another clause
 abbrev pub is_count_alone : Query → Bool
 is_count_alone query =
     is_count_list query.list && not (is_some query.cond) && is_nil query.groups && is_nil query.keys
+
+-- a statement that is played
+abbrev pub is_built : Stmt → Bool
+is_built (Create name columns block extent memory) = not (is_some memory) && is_alone is_number_column columns
+is_built (Insert name columns tuples) = is_nil columns && is_alone is_integer_tuple tuples
+is_built (Delete name cond) = not (is_some cond)
+is_built (Select query) = is_count_alone query
+is_built SetReadOnly = true
+is_built SetSerializable = true
+is_built SetCommitted = true
+is_built Commit = true
+is_built Rollback = true
+is_built statement = false

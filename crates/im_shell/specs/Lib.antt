@@ -1,10 +1,9 @@
 pub mod Built
-pub mod Counting
-pub mod Engine
-pub mod Legal
-pub mod Machine
-pub mod Names
+pub mod Creations
 pub mod Play
+pub mod Requests
+pub mod Scans
+pub mod Statements
 pub mod Texts
-pub mod Touches
+pub mod Turns
 pub mod Words

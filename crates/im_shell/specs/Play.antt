@@ -7,8 +7,9 @@ use Rattle.im_shell.specs.declared.reply.Reply.{Reply}
 use Rattle.im_script.specs.declared.line.Line.{Line}
 use Rattle.im_script.specs.Forms.{lines_of}
 use Rattle.im_script.specs.Lines.{AreLines, IsLine}
-use Rattle.im_shell.specs.Machine.{Request, requests_of, amends, Answers}
+use Rattle.im_shell.specs.Requests.{Request, requests_of, Answers}
 use Rattle.im_shell.specs.Texts.{body_text, text_of}
+use Rattle.im_shell.specs.Turns.{amends}
 
 -- one request, memory having lacked after so many entries of it or not at all
 abbrev pub play_request : Option ℕ → History → Request → Played Reply

@@ -1,70 +1,40 @@
-ghost use Rattle.std.specs.Prelude.{◌≡◌, option_copied};
+ghost use Rattle.std.specs.Prelude.{◌≡◌};
 ghost use Rattle.im_shell.specs.Built as spec;
+ghost use Rattle.im_shell.specs.Statements as plan;
 
-use im_syntax::{ColumnPart, ItemPart, KindWord, ListPart, Lit, MemoryPart, Parts, Query};
-use im_values::Name;
+use im_syntax::{ColumnPart, ItemPart, KindWord, ListPart, Lit, Parts, Query, Stmt};
 
-/// What stands alone in a list.
-fn alone<T>(list: &[T]) -> Option<&T>
-    ensures { option_copied result ≡ spec.alone list.now }
+/// Whether a table has one column, and that one is of numbers.
+fn is_number_column_alone(columns: &[ColumnPart]) -> bool
+    ensures { result ≡ spec.is_alone spec.is_number_column columns.now }
 {
-    match list {
-        [one] => Some(one),
-        _ => None,
+    match columns {
+        [column] => match column.kind {
+            KindWord::Number | KindWord::Integer => true,
+            KindWord::Varchar2(_) => false,
+        },
+        _ => false,
     }
 }
 
-/// Whether a kind is one of numbers.
-fn is_number(kind: KindWord) -> bool
-    ensures { result ≡ spec.is_number kind }
+/// Whether a tuple has one value, and that one is an integer.
+fn is_integer_tuple(values: &[Lit]) -> bool
+    ensures { result ≡ spec.is_integer_tuple values.now }
 {
-    match kind {
-        KindWord::Number | KindWord::Integer => true,
-        KindWord::Varchar2(_) => false,
+    match values {
+        [value] => matches!(value, Lit::Int(_)),
+        _ => false,
     }
 }
 
-/// The name of the one column, where it is one of numbers.
-pub fn number_column_alone(columns: &[ColumnPart]) -> Option<&Name>
-    ensures { option_copied result ≡ spec.number_column_alone columns.now }
+/// Whether one tuple of one integer is inserted.
+fn is_integer_alone(tuples: &[Parts<Lit>]) -> bool
+    ensures { result ≡ spec.is_alone spec.is_integer_tuple tuples.now }
 {
-    let column = alone(columns)?;
-    if is_number(column.kind) {
-        Some(&column.name)
-    } else {
-        None
+    match tuples {
+        [values] => is_integer_tuple(values.items()),
+        _ => false,
     }
-}
-
-/// Whether a table is created without BLOCK, EXTENT and INMEMORY.
-pub fn is_bare(block: Option<u32>, extent: Option<u32>, memory: Option<MemoryPart>) -> bool
-    ensures { result ≡ spec.is_bare block extent memory }
-{
-    block.is_none() && extent.is_none() && memory.is_none()
-}
-
-/// An integer, where the value is one.
-fn integer_of(value: &Lit) -> Option<i64>
-    ensures { result ≡ spec.integer_of value.now }
-{
-    match value {
-        Lit::Int(number) => Some(*number),
-        Lit::Null | Lit::Text(_) => None,
-    }
-}
-
-/// The one integer of the one tuple.
-pub fn integer_alone(tuples: &[Parts<Lit>]) -> Option<i64>
-    ensures { result ≡ spec.integer_alone tuples.now }
-{
-    integer_of(alone(alone(tuples)?.items())?)
-}
-
-/// Whether an item is COUNT(*).
-fn is_count(item: &ItemPart) -> bool
-    ensures { result ≡ spec.is_count item.now }
-{
-    matches!(item, ItemPart::CountAll)
 }
 
 /// Whether COUNT(*) and nothing else is answered.
@@ -74,18 +44,51 @@ fn is_count_list(list: &ListPart) -> bool
     match list {
         ListPart::Star => false,
         ListPart::Items(items) => match items.items() {
-            [item] => is_count(item),
+            [item] => matches!(item, ItemPart::CountAll),
             _ => false,
         },
     }
 }
 
 /// Whether a query is SELECT COUNT(*) of a table, without another clause.
-pub fn is_count_alone(query: &Query) -> bool
+fn is_count_alone(query: &Query) -> bool
     ensures { result ≡ spec.is_count_alone query.now }
 {
     is_count_list(&query.list)
         && query.cond.is_none()
         && query.groups.items().is_empty()
         && query.keys.items().is_empty()
+}
+
+/// Whether a statement is played.
+pub fn is_built(statement: &Stmt) -> bool
+    ensures { result ≡ spec.is_built statement.now }
+{
+    match statement {
+        Stmt::Create {
+            columns,
+            memory,
+            ..
+        } => memory.is_none() && is_number_column_alone(columns.items()),
+        Stmt::Insert {
+            columns,
+            tuples,
+            ..
+        } => columns.items().is_empty() && is_integer_alone(tuples.items()),
+        Stmt::Delete { cond, .. } => cond.is_none(),
+        Stmt::Select(query) => is_count_alone(query),
+        Stmt::SetReadOnly
+        | Stmt::SetSerializable
+        | Stmt::SetCommitted
+        | Stmt::Commit
+        | Stmt::Rollback => true,
+        _ => false,
+    }
+}
+
+/// Whether a statement defines a table.
+pub fn is_definition(statement: &Stmt) -> bool
+    ensures { result ≡ plan.is_definition statement.now }
+{
+    matches!(statement, Stmt::Create { .. })
 }

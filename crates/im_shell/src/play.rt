@@ -2,20 +2,30 @@ ghost use Rattle.std.specs.Prelude.{◌≡◌, ◌<◌, ◌≤◌, [], ◌++◌,
 ghost use Rattle.im_edge.specs.Faults.{Rose};
 ghost use Rattle.im_edge.specs.Writing.{Took, TookPart};
 ghost use Rattle.im_shell.specs.declared.play.Stop.TheVariants as stop;
-ghost use Rattle.im_shell.specs.Machine.{who_of};
 ghost use Rattle.im_shell.specs.Play.{IsRead, reply_text, Sends, Plays, PlaysBytes, PlaysInPart, PlaysNext};
+ghost use Rattle.im_shell.specs.Requests.{Answers, IsBetween, IsKnown, script_limits};
 
-use crate::engine::Engine;
 use crate::lines::first_line;
-use crate::player::play_line;
-use crate::reply::Reply;
+use crate::refusals::{lacked, refusal};
+use crate::reply::{Fault, Reply};
+use crate::statement::play_statement;
 use crate::text::body_text;
+use crate::unit::NoUnit;
+use im_core::Core;
 use im_edge::{Sink, WriteFault, write_all};
-use im_script::{Line, line_of};
+use im_history::Limits;
+use im_script::{Line, LineKind, line_of};
 use im_values::{NoMemory, Steps};
 use std::alloc::Global;
 use std::sync::ledger::Ledger;
 use thiserror::Error;
+
+/// The limits of the store that a script is played over.
+const LIMITS: Limits = Limits {
+    area: 67_108_864,
+    store: 536_870_912,
+    changes: 65_536,
+};
 
 /// Replies are handed to the sink in pieces of this size, and a last one.
 const PIECE: usize = 65536;
@@ -47,26 +57,52 @@ impl From<NoMemory> for Stop {
     }
 }
 
-/// The line of these bytes. A session that it names is known.
+/// The line of these bytes. What it has is known.
 fn read_line(alloc: Global, number: u64, bytes: &[u8]) -> Line
     ensures read { IsRead number bytes.now result }
-    ensures known { who_of result.kind < 25 }
+    ensures known { IsKnown result.kind }
 {
     line_of(alloc, number, bytes)
+}
+
+/// Plays one line. Blanks, comments and the end of a prelude have no reply.
+fn play_line<L: Ledger>(
+    alloc: Global,
+    store: &mut Core<NoUnit>,
+    line: &Line,
+    steps: &mut Steps<L>,
+) -> Option<Reply>
+    requires known { IsKnown line.now.kind }
+    requires between { IsBetween store.old }
+    ensures between { IsBetween store.new }
+    ensures answers { Answers line.now store.old.log result store.new.log }
+{
+    match &line.kind {
+        LineKind::Skip | LineKind::Race => None,
+        LineKind::Long(length) => Some(refusal(Fault::LineTooLong { length: *length })),
+        LineKind::Bad(byte) => Some(refusal(Fault::Syntax { byte: *byte })),
+        LineKind::Session(who, statement) => {
+            Some(play_statement(alloc, store, *who, statement, steps))
+        }
+        LineKind::Background(_) => Some(refusal(Fault::NotBuilt)),
+        LineKind::NoMemory => Some(lacked(0)),
+    }
 }
 
 /// Reads the next line, and plays it.
 fn play_bytes<L: Ledger>(
     alloc: Global,
-    engine: &mut Engine,
+    store: &mut Core<NoUnit>,
     bytes: &[u8],
     number: u64,
     steps: &mut Steps<L>,
 ) -> Option<Reply>
-    ensures { PlaysBytes bytes.now number engine.old result engine.new }
+    requires between { IsBetween store.old }
+    ensures between { IsBetween store.new }
+    ensures plays { PlaysBytes bytes.now number store.old.log result store.new.log }
 {
     let line = read_line(alloc, number, bytes);
-    play_line(alloc, engine, &line, steps)
+    play_line(alloc, store, &line, steps)
 }
 
 /// Puts the text of a reply, where there is one, behind what waits to be written.
@@ -89,16 +125,18 @@ fn put_reply(
 /// Plays the next line, and puts the text of its reply behind what waits to be written.
 fn play_next<L: Ledger>(
     alloc: Global,
-    engine: &mut Engine,
+    store: &mut Core<NoUnit>,
     bytes: &[u8],
     number: u64,
     waiting: &mut Vec<u8>,
     steps: &mut Steps<L>,
 ) -> Result<(), NoMemory>
-    ensures ok { OnOk result (PlaysNext bytes.now number engine.old engine.new waiting.old.items waiting.new.items) }
+    requires between { IsBetween store.old }
+    ensures between { IsBetween store.new }
+    ensures ok { OnOk result (PlaysNext bytes.now number store.old.log store.new.log waiting.old.items waiting.new.items) }
     ensures err { OnErr result (waiting.new.items ≡ waiting.old.items) }
 {
-    let reply = play_bytes(alloc, engine, bytes, number, steps);
+    let reply = play_bytes(alloc, store, bytes, number, steps);
     put_reply(alloc, number, &reply, waiting)
 }
 
@@ -128,6 +166,16 @@ fn flush_piece<K: Sink>(sink: &mut K, waiting: &mut Vec<u8>) -> Result<(), Write
     flush(sink, waiting)
 }
 
+/// The store in which nothing has happened.
+fn empty_store(alloc: Global) -> Result<Core<NoUnit>, NoMemory>
+    ensures { IfOk result (λ store. store ≡ record { limits = script_limits; log = [] }) }
+{
+    match Core::new(alloc, LIMITS) {
+        Ok(store) => Ok(store),
+        Err(_) => Err(NoMemory),
+    }
+}
+
 /// Plays a script line by line, over a store of its own, and writes the text of its replies.
 pub fn play_script<K: Sink, L: Ledger>(
     alloc: Global,
@@ -140,13 +188,13 @@ pub fn play_script<K: Sink, L: Ledger>(
     ensures cause { IsErrOf result Stop.WriteFault → Rose (K.faults sink.old) (K.faults sink.new) }
     ensures later { K.faults sink.old ≤ K.faults sink.new }
 {
-    let mut engine = Engine::new(alloc);
+    let mut store = empty_store(alloc)?;
     let mut waiting = Vec::new(alloc);
     let mut rest = script;
     let mut number = 1;
     while rest.len() > 0 {
         let (line, behind) = first_line(rest);
-        play_next(alloc, &mut engine, line, number, &mut waiting, steps)?;
+        play_next(alloc, &mut store, line, number, &mut waiting, steps)?;
         flush_piece(sink, &mut waiting)?;
         number += 1;
         rest = behind;

@@ -122,6 +122,24 @@ fn scripts_come_to_the_text_of_their_replies(rt: HostRuntime) -> Result<(), Fail
             "1,created,1,1\n2,inserted,1,0\n3,inserted,1,1\n4,error,07,table-exists,A\n5,answer,2,1\n5,row,2\n\
              6,answer,2,1\n6,row,1\n7,error,01,syntax,1\n9,committed,3\n",
         ),
+        // A reader under SERIALIZABLE keeps its snapshot; the first writer of a row wins at once.
+        plain(
+            "1> CREATE TABLE T (K NUMBER)\n1> INSERT INTO T VALUES (1)\n1> COMMIT\n\
+             2> SET TRANSACTION ISOLATION LEVEL SERIALIZABLE\n1> DELETE FROM T\n2> DELETE FROM T\n1> COMMIT\n\
+             2> DELETE FROM T\n2> SELECT COUNT(*) FROM T\n1> SELECT COUNT(*) FROM T\n",
+            "1,created,1,1\n2,inserted,1,0\n3,committed,2\n4,begun,2\n5,deleted,1\n6,error,15,row-locked,0,1\n\
+             7,committed,3\n8,error,16,cannot-serialize,0,3\n9,answer,2,1\n9,row,1\n10,answer,3,1\n10,row,0\n",
+        ),
+        // Modes, rollbacks, and rows that their own session takes away, over several extents.
+        plain(
+            "1> CREATE TABLE T (K NUMBER) BLOCK 1 EXTENT 2\n2> ROLLBACK\n2> SET TRANSACTION READ ONLY\n\
+             2> SET TRANSACTION READ ONLY\n2> INSERT INTO T VALUES (1)\n2> DELETE FROM T\n2> ROLLBACK\n\
+             2> INSERT INTO T VALUES (1)\n2> ROLLBACK\n2> INSERT INTO T VALUES (2)\n2> DELETE FROM T\n\
+             2> SELECT COUNT(*) FROM T\n2> COMMIT\n",
+            "1,created,1,1\n2,rolled-back\n3,begun,1\n4,error,13,transaction-open,1\n5,error,14,read-only\n\
+             6,error,14,read-only\n7,rolled-back\n8,inserted,1,0\n9,rolled-back\n10,inserted,1,1\n11,deleted,1\n\
+             12,answer,1,1\n12,row,0\n13,committed,2\n",
+        ),
         // Any spelling is played; statements that are not played yet say so; comments have no reply.
         plain(
             "1> create table t (k integer);\nbg> RUN\n-- note\nrace>\n1> SELECT COUNT(*) FROM T -- all\n\

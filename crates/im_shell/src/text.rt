@@ -45,6 +45,22 @@ fn fault_text(alloc: Global, line: u64, fault: &Fault) -> Result<Vec<u8>, NoMemo
         Fault::TooManyTables => {
             Ok(bytes_of(format!(in alloc; "{line},error,08,too-many-tables,64\n")?))
         }
+        Fault::TransactionOpen { place } => {
+            Ok(bytes_of(format!(in alloc; "{line},error,13,transaction-open,{place}\n")?))
+        }
+        Fault::ReadOnly => Ok(bytes_of(format!(in alloc; "{line},error,14,read-only\n")?)),
+        Fault::RowLocked { row, holder } => {
+            Ok(bytes_of(format!(in alloc; "{line},error,15,row-locked,{row},{holder}\n")?))
+        }
+        Fault::CannotSerialize { row, scn } => {
+            Ok(bytes_of(format!(in alloc; "{line},error,16,cannot-serialize,{row},{scn}\n")?))
+        }
+        Fault::TooManyChanges { need, left } => {
+            Ok(bytes_of(format!(in alloc; "{line},error,17,too-many-changes,{need},{left}\n")?))
+        }
+        Fault::StoreFull { need, left } => {
+            Ok(bytes_of(format!(in alloc; "{line},error,18,store-full,{need},{left}\n")?))
+        }
         Fault::Memory { k } => Ok(bytes_of(format!(in alloc; "{line},error,99,memory,{k}\n")?)),
     }
 }
@@ -60,6 +76,9 @@ pub fn body_text(alloc: Global, line: u64, body: &Body) -> Result<Vec<u8>, NoMem
         Body::Inserted { rows, first } => {
             Ok(bytes_of(format!(in alloc; "{line},inserted,{rows},{first}\n")?))
         }
+        Body::Begun { scn } => Ok(bytes_of(format!(in alloc; "{line},begun,{scn}\n")?)),
+        Body::Deleted { rows } => Ok(bytes_of(format!(in alloc; "{line},deleted,{rows}\n")?)),
+        Body::RolledBack => Ok(bytes_of(format!(in alloc; "{line},rolled-back\n")?)),
         Body::Committed { scn } => Ok(bytes_of(format!(in alloc; "{line},committed,{scn}\n")?)),
         Body::Counted { scn, rows } => {
             Ok(bytes_of(format!(in alloc; "{line},answer,{scn},1\n{line},row,{rows}\n")?))

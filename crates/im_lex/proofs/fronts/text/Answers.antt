@@ -12,7 +12,7 @@ returns-in-Over c =
 pub returns-in-End : goal.returns-in-End
 returns-in-End c =
     let e = at_end c.loop.content.items c.loop.taken c.args.bytes.now _ c.loop.invariant.0 (ap piece_of (sym c.behind.ensures) ∙ sym c.piece.ensures ∙ c.in-End.is) in
-    ap (λ (x : List ℕ). Lexed (token.Text x) (c.loop.taken + 1)) (c.in_ok-name-in-End.ensures ∙ c.as_slice.ensures.value) ∙ ap text_found (sym e)
+    ap (λ (x : List ℕ). Lexed (token.Text x) (c.loop.taken + 1)) c.from_vec-name.ensures ∙ ap text_found (sym e)
 
 pub loop-preserved : goal.loop-preserved
 loop-preserved c =

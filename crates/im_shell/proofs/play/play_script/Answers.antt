@@ -1,10 +1,12 @@
-use Rattle.std.proofs.Common.{arith}
-use Rattle.im_shell.proofs.PlayLemmas.{OnErr-always, IsGoing-start, IsGoing-next, IsGoing-end, IsGoing-part, IsGoing-fault, IsGoing-stuck}
+use Rattle.std.proofs.Common.{arith, ap, refl}
+use Rattle.im_core.specs.Seen.{Seen}
+use Rattle.im_shell.proofs.PlayLemmas.{OnErr-always, IsGoing-start_at, between-start, PlaysInPart-nil, IsGoing-next, IsGoing-end, IsGoing-part, IsGoing-fault, IsGoing-stuck}
 use Rattle.im_shell.proofs.play.play_script.Goals as goal
 
 pub loop-rest-init : goal.loop-rest-init
 loop-rest-init g c = record {
-  going = rw c.new-engine.ensures (IsGoing-start c.args.script.now _ _ c.new-waiting.ensures.items);
+  going = IsGoing-start_at c.args.script.now _ _ _ (ap (λ (s : Seen). s.log) c.in_ok-store.ensures) c.new-waiting.ensures.items;
+  between = between-start _ c.in_ok-store.ensures;
   later = omega arith;
 }
 
@@ -18,6 +20,7 @@ returns-in_err-flush_piece-clause-err g c =
 pub loop-rest-preserved : goal.loop-rest-preserved
 loop-rest-preserved g c = record {
   going = IsGoing-next _ _ _ _ _ _ _ _ _ _ _ _ _ c.loop-rest.invariant.going c.first_line.ensures.lines c.first_line.ensures.shorter c.in_ok-play_next.ensures.ok c.in_ok-flush_piece.ensures.ok;
+  between = c.play_next.ensures.between;
   later = omega (arith, c.loop-rest.invariant.later, c.flush_piece.ensures.later);
 }
 
@@ -26,3 +29,6 @@ returns-in_err-flush-clause-err g c = OnErr-always _ (IsGoing-fault _ _ _ _ _ _ 
 
 pub returns-clause-ok : goal.returns-clause-ok
 returns-clause-ok g c = IsGoing-end _ _ _ _ _ _ _ _ _ c.loop-rest.invariant.going (omega arith) c.in_ok-flush.ensures.ok c.in_ok-flush.ensures.none_left
+
+pub returns-in_err-store-clause-err : goal.returns-in_err-store-clause-err
+returns-in_err-store-clause-err g c = OnErr-always _ (PlaysInPart-nil _ _ _ refl)

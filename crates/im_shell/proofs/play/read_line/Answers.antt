@@ -1,8 +1,8 @@
-use Rattle.im_shell.proofs.LineLemmas.{known_session}
+use Rattle.im_shell.proofs.KnownLemmas.{known_line}
 use Rattle.im_shell.proofs.play.read_line.Goals as goal
 
 pub returns-clause-read : goal.returns-clause-read
 returns-clause-read c = record { is_line = c.line_of.ensures.is }
 
 pub returns-clause-known : goal.returns-clause-known
-returns-clause-known c = known_session _ _ c.line_of.ensures.names.speaks
+returns-clause-known c = known_line _ _ _ c.line_of.ensures.is c.line_of.ensures.names

@@ -25,3 +25,18 @@ pub returns-in_ok-format-in-Memory : goal.returns-in_ok-format-in-Memory
 returns-in_ok-format-in-Memory c =
     let head : string_bytes c.in_ok-format-in-Memory.field-0 ≡ decimal c.args.line ++ (codes ",error,99,memory," ++ (decimal c.in-Memory.k ++ codes "\n")) = c.in_ok-format-in-Memory.ensures.ok in
     rw c.in-Memory.is (c.bytes_of-in-Memory.ensures ∙ head)
+
+pub returns-in_ok-format-in-CannotSerialize : goal.returns-in_ok-format-in-CannotSerialize
+returns-in_ok-format-in-CannotSerialize c =
+    let head : string_bytes c.in_ok-format-in-CannotSerialize.field-0 ≡ decimal c.args.line ++ (codes ",error,16,cannot-serialize," ++ (decimal c.in-CannotSerialize.row ++ (codes "," ++ (decimal c.in-CannotSerialize.scn ++ codes "\n")))) = c.in_ok-format-in-CannotSerialize.ensures.ok in
+    rw c.in-CannotSerialize.is (c.bytes_of-in-CannotSerialize.ensures ∙ head)
+
+pub returns-in_ok-format-in-TooManyChanges : goal.returns-in_ok-format-in-TooManyChanges
+returns-in_ok-format-in-TooManyChanges c =
+    let head : string_bytes c.in_ok-format-in-TooManyChanges.field-0 ≡ decimal c.args.line ++ (codes ",error,17,too-many-changes," ++ (decimal c.in-TooManyChanges.need ++ (codes "," ++ (decimal c.in-TooManyChanges.left ++ codes "\n")))) = c.in_ok-format-in-TooManyChanges.ensures.ok in
+    rw c.in-TooManyChanges.is (c.bytes_of-in-TooManyChanges.ensures ∙ head)
+
+pub returns-in_ok-format-in-StoreFull : goal.returns-in_ok-format-in-StoreFull
+returns-in_ok-format-in-StoreFull c =
+    let head : string_bytes c.in_ok-format-in-StoreFull.field-0 ≡ decimal c.args.line ++ (codes ",error,18,store-full," ++ (decimal c.in-StoreFull.need ++ (codes "," ++ (decimal c.in-StoreFull.left ++ codes "\n")))) = c.in_ok-format-in-StoreFull.ensures.ok in
+    rw c.in-StoreFull.is (c.bytes_of-in-StoreFull.ensures ∙ head)

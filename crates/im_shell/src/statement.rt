@@ -1,0 +1,130 @@
+ghost use Rattle.std.specs.Prelude.{◌≡◌, ◌<◌, [], true, false};
+ghost use Rattle.im_history.specs.Cursors.{opened};
+ghost use Rattle.im_history.specs.Transactions.{is_open};
+ghost use Rattle.im_history.specs.Views.{look_at};
+ghost use Rattle.im_syntax.specs.Rules.{IsStmt};
+ghost use Rattle.im_shell.specs.Statements as plan;
+ghost use Rattle.im_shell.specs.Turns.{IsRest};
+
+use crate::built::{is_built, is_definition};
+use crate::player::{NewTable, create, play_resolved};
+use crate::refusals::{lacked, name_reply, refusal};
+use crate::reply::{Fault, Reply};
+use crate::scan::NUMBERS;
+use crate::unit::NoUnit;
+use im_core::Core;
+use im_history::Look;
+use im_names::resolve;
+use im_syntax::Stmt;
+use im_values::Steps;
+use std::alloc::Global;
+use std::sync::ledger::Ledger;
+
+/// Plays a statement, other than a definition, whose names are looked up now.
+fn play_named<L: Ledger>(
+    alloc: Global,
+    store: &mut Core<NoUnit>,
+    who: u32,
+    statement: &Stmt,
+    steps: &mut Steps<L>,
+) -> Reply
+    requires session { who < NUMBERS }
+    requires closed { opened store.old.log who ≡ [] }
+    requires statement { IsStmt statement.now }
+    requires other { plan.is_definition statement.now ≡ false }
+    ensures { IsRest who 0 store.old (plan.looked_up store.old.limits who statement.now) result store.new }
+{
+    let Ok(look) = store.look(who) else {
+        return lacked(0);
+    };
+    match resolve(alloc, statement, &look) {
+        Ok(resolved) => play_resolved(alloc, store, who, &look, resolved, steps),
+        Err(fault) => name_reply(0, look.place, fault),
+    }
+}
+
+/// Plays a definition whose names are looked up now, once the line has made so many entries.
+fn define(
+    alloc: Global,
+    store: &mut Core<NoUnit>,
+    who: u32,
+    statement: &Stmt,
+    look: &Look,
+    entries: u64,
+) -> Reply
+    requires session { who < NUMBERS }
+    requires closed { opened store.old.log who ≡ [] }
+    requires idle { is_open store.old.log who ≡ false }
+    requires statement { IsStmt statement.now }
+    requires definition { plan.is_definition statement.now ≡ true }
+    requires look { look.now ≡ look_at store.old.log who }
+    ensures { IsRest who entries store.old
+        (plan.named_plan store.old.limits who statement.now store.old.log) result store.new }
+{
+    match resolve(alloc, statement, look) {
+        Ok(resolved) => match NewTable::of(resolved) {
+            Some(table) => create(alloc, store, who, table, entries),
+            None => refusal(Fault::NotBuilt),
+        },
+        Err(fault) => name_reply(entries, look.place, fault),
+    }
+}
+
+/// Plays a definition. An open transaction of the session is committed first.
+fn play_definition(alloc: Global, store: &mut Core<NoUnit>, who: u32, statement: &Stmt) -> Reply
+    requires session { who < NUMBERS }
+    requires closed { opened store.old.log who ≡ [] }
+    requires statement { IsStmt statement.now }
+    requires definition { plan.is_definition statement.now ≡ true }
+    ensures { IsRest who 0 store.old (plan.definition_plan store.old.limits who statement.now) result store.new }
+{
+    let Ok(look) = store.look(who) else {
+        return lacked(0);
+    };
+    if look.begun.is_none() {
+        return define(alloc, store, who, statement, &look, 0);
+    }
+    match store.commit(who) {
+        Ok(_) => define_later(alloc, store, who, statement),
+        Err(_) => lacked(0),
+    }
+}
+
+/// Plays a definition once the line has committed.
+fn define_later(alloc: Global, store: &mut Core<NoUnit>, who: u32, statement: &Stmt) -> Reply
+    requires session { who < NUMBERS }
+    requires closed { opened store.old.log who ≡ [] }
+    requires idle { is_open store.old.log who ≡ false }
+    requires statement { IsStmt statement.now }
+    requires definition { plan.is_definition statement.now ≡ true }
+    ensures { IsRest who 1 store.old
+        (plan.looked_up store.old.limits who statement.now) result store.new }
+{
+    match store.look(who) {
+        Ok(look) => define(alloc, store, who, statement, &look, 1),
+        Err(_) => lacked(1),
+    }
+}
+
+/// Plays a statement of a session.
+pub fn play_statement<L: Ledger>(
+    alloc: Global,
+    store: &mut Core<NoUnit>,
+    who: u32,
+    statement: &Stmt,
+    steps: &mut Steps<L>,
+) -> Reply
+    requires session { who < NUMBERS }
+    requires closed { opened store.old.log who ≡ [] }
+    requires statement { IsStmt statement.now }
+    ensures { IsRest who 0 store.old (plan.statement_plan store.old.limits who statement.now) result store.new }
+{
+    if !is_built(statement) {
+        return refusal(Fault::NotBuilt);
+    }
+    if is_definition(statement) {
+        play_definition(alloc, store, who, statement)
+    } else {
+        play_named(alloc, store, who, statement, steps)
+    }
+}
