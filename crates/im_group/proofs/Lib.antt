@@ -1,0 +1,14 @@
+mod Orders
+mod Sorting
+mod Growth
+mod GroupLemmas
+mod KeyOrder
+mod TallyLists
+mod GroupCells
+mod Held
+mod Few
+mod Agreement
+mod GroupSteps
+mod KeySort
+mod Merging
+mod Parts

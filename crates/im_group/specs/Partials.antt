@@ -1,0 +1,107 @@
+-- The part of an answer that some of the rows give.
+use Rattle.std.specs.Prelude.{ℕ, Bool, true, false, List, [], ◌∷◌, ◌++◌, map, filter, Option, None, Some, if◌then◌else◌}
+use Rattle.std.specs.Option.{ForSome}
+use Rattle.std.specs.Ordering.{is_eq}
+use Rattle.std.specs.declared.cmp.Ordering.{Ordering}
+use Rattle.std.specs.Cmp.Lexicographic.{slice_cmp}
+use Rattle.std.specs.FinMap as map_of
+use Rattle.im_values.specs.declared.truth.Truth.{Truth}
+use Rattle.im_values.specs.declared.truth.Truth.TheVariants.{Yes, No, Unknown}
+use Rattle.im_values.specs.declared.value.Value.{Value}
+use Rattle.im_values.specs.Order.{order}
+use Rattle.im_syntax.specs.Condition.{CondOf}
+use Rattle.im_syntax.specs.declared.bound.Item.{Item}
+use Rattle.im_syntax.specs.declared.bound.Bound.{Bound}
+use Rattle.im_syntax.specs.BoundFits.{value_at}
+use Rattle.im_eval.specs.Holds.{truth_of}
+use Rattle.im_group.specs.declared.tally.Tally.{Tally}
+use Rattle.im_group.specs.Tallies.{tally_of, all_joined, CanJoin}
+
+-- a row with its number
+abbrev pub Numbered : Type 0
+Numbered = ℕ × List Value
+
+-- the values that a group has in the columns of GROUP BY, and their order: from left to right, NULL last
+abbrev pub key_order : List Value → List Value → Ordering
+key_order = slice_cmp order
+
+abbrev pub key_of : List ℕ → List Value → List Value
+key_of columns row = map (value_at row) columns
+
+abbrev pub is_key : List Value → List Value → Bool
+is_key a b = is_eq (key_order a b)
+
+-- ---- kept rows
+
+abbrev pub is_yes : Truth → Bool
+is_yes Yes = true
+is_yes No = false
+is_yes Unknown = false
+
+-- the condition is Yes, or there is none
+abbrev pub keeps : Option (CondOf ℕ Value) → List Value → Bool
+keeps None row = true
+keeps (Some filter) row = is_yes (truth_of filter row)
+
+abbrev pub kept : Bound → List Numbered → List Numbered
+kept bound rows = filter (λ r. keeps bound.filter r.1) rows
+
+-- ---- groups
+
+-- the items that a query takes of each group: those of its list, then those of its keys
+abbrev pub wanted : Bound → List Item
+wanted bound = bound.items ++ map (λ key. key.item) bound.keys
+
+-- the rows of a group
+abbrev pub members : List ℕ → List (List Value) → List Value → List (List Value)
+members columns rows key = filter (λ row. is_key (key_of columns row) key) rows
+
+-- what a group has taken of its rows
+abbrev pub tallies_of : Bound → List (List Value) → List Value → List Tally
+tallies_of bound rows key = map (λ i. tally_of i (members bound.groups rows key)) (wanted bound)
+
+-- the keys of groups: those of the rows. Without GROUP BY there is one group, also over no row
+abbrev pub keys_of : List ℕ → List (List Value) → List (List Value)
+keys_of [] rows = [] ∷ []
+keys_of (column ∷ columns) rows = map (key_of (column ∷ columns)) rows
+
+-- each group's tallies, by its key
+abbrev pub Groups : Type 0
+Groups = map_of.FinMap key_order (List Tally)
+
+-- groups as they are held: in any order, each key once, and the values of a key in a container
+abbrev pub keyed : {K : Type 0} → (K → List Value) → List (K × List Tally) → List (List Value × List Tally)
+keyed values es = map (λ e. (values e.0, e.1)) es
+
+abbrev pub held : {K : Type 0} → (K → List Value) → List (K × List Tally) → Groups
+held values es = map_of.from_entries (keyed values es)
+
+abbrev pub groups_of : Bound → List (List Value) → Groups
+groups_of bound rows = map_of.from_entries (map (λ key. (key, tallies_of bound rows key)) (keys_of bound.groups rows))
+
+-- ---- parts
+
+-- the kept rows of a query that is not grouped, or the groups of one that is
+pub record Parts : Type 0 where
+  pub rows : List Numbered
+  pub groups : Groups
+
+abbrev pub partial : Bound → List Numbered → Parts
+partial bound rows =
+    if bound.grouped then record { rows = []; groups = groups_of bound (map (λ r. r.1) (kept bound rows)) }
+    else record { rows = kept bound rows; groups = map_of.empty }
+
+-- the groups of two parts: a group of both joins what it has in each
+abbrev pub with_tallies : Option (List Tally) → List Tally → List Tally
+with_tallies None ts = ts
+with_tallies (Some old) ts = all_joined old ts
+
+abbrev pub joined_groups : Groups → Groups → Groups
+joined_groups a b = map_of.from_entries (map (λ g. (g.0, with_tallies (map_of.get a g.0) g.1)) (map_of.entries b) ++ map_of.entries a)
+
+abbrev pub merged : Parts → Parts → Parts
+merged a b = record { rows = a.rows ++ b.rows; groups = joined_groups a.groups b.groups }
+
+-- the counts of each group of two parts stay below 2^64
+abbrev pub CanMerge : Parts → Parts → Type 0
+CanMerge a b = (key : List Value) → ForSome (map_of.get a.groups key) (λ ts. ForSome (map_of.get b.groups key) (λ us. CanJoin ts us))

@@ -1,0 +1,237 @@
+ghost use Rattle.std.specs.Prelude.{◌≡◌, ◌+◌, ◌<◌, ◌≤◌, ◌^◌, ◌++◌, ◌∷◌, [], List, None, IfOk, OnOk, OnErr, map, length};
+ghost use Rattle.std.specs.List.{AllByRecursion};
+ghost use Rattle.im_syntax.specs.BoundFits.{BoundFits, FilterFits};
+ghost use Rattle.indexmap.specs.IndexMap.{spare};
+ghost use Rattle.im_syntax.specs.BoundFits.{ItemFits};
+ghost use Rattle.im_group.specs.Tallies.{all_taken, counted, CanJoin};
+ghost use Rattle.im_group.specs.Steps.{tallies_at, placed, so_far, with_row, first_groups, GroupsAre};
+ghost use Rattle.im_group.specs.Partials.{keyed};
+ghost use Rattle.im_values.specs.declared.value.Value.{Value as AnyValue};
+ghost use Rattle.im_group.specs.Partials as spec;
+ghost use Rattle.std.specs.Option.{ForSome};
+
+use crate::tallies::Tallies;
+use im_eval::holds;
+use im_syntax::{Bound, Filter, Item};
+use im_values::{NoMemory, Row, Truth, Value};
+use indexmap::IndexMap;
+use std::alloc::Global;
+
+/// The groups of a query, by the values in the columns of GROUP BY.
+pub type Groups = IndexMap<Vec<Value>, Tallies>;
+
+/// The groups of rows that stay where they are: a key is lent by the first row that has it.
+type Lent<'a> = IndexMap<Vec<&'a Value>, Tallies>;
+
+/// Whether a query keeps a row: its condition is Yes, or it has none.
+pub fn keeps(filter: &Option<Filter>, row: &Row) -> bool
+    requires { ForSome filter.now (FilterFits row.now) }
+    ensures { result ≡ spec.keeps filter.now row.now }
+{
+    match filter {
+        Some(filter) => holds(filter, row) == Truth::Yes,
+        None => true,
+    }
+}
+
+/// What a query wants of each group: its items, then those of its keys.
+pub fn wanted(alloc: Global, bound: &Bound) -> Result<Vec<Item>, NoMemory>
+    ensures { IfOk result (λ items. items.items ≡ spec.wanted bound.now) }
+{
+    let mut items = Vec::from_slice(alloc, bound.items.items())?;
+    for key in bound.keys.items() {
+        items.push(key.item)?;
+    }
+    Ok(items)
+}
+
+/// Lends the values of a row in the columns of GROUP BY.
+fn lend_key<'a>(columns: &[u32], row: &'a [Value], key: &mut Vec<&'a Value>) -> Result<(), NoMemory>
+    requires { AllByRecursion (λ column. column < length row.now) columns.now }
+    ensures { OnOk result (map (λ v. v.now) key.new.items ≡ spec.key_of columns.now row.now) }
+{
+    key.clear();
+    for column in columns {
+        key.push(&row[*column as usize])?;
+    }
+    Ok(())
+}
+
+/// A group of a key that is new takes its first row.
+fn put_group<'a>(
+    alloc: Global,
+    wanted: &[Item],
+    key: &[&'a Value],
+    row: &[Value],
+    groups: &mut Lent<'a>,
+) -> Result<(), NoMemory>
+    requires fits { AllByRecursion (ItemFits row.now) wanted.now }
+    requires new { tallies_at (keyed (λ k. map (λ v. v.now) k.items) groups.old.entries) (map (λ v. v.now) key.now) ≡ None }
+    ensures { OnOk result (keyed (λ k. map (λ v. v.now) k.items) groups.new.entries ≡ placed (keyed (λ k. map (λ v. v.now) k.items) groups.old.entries) (map (λ v. v.now) key.now) (all_taken wanted.now (so_far wanted.now None) row.now)) }
+{
+    let mut tallies = Tallies::new(alloc, wanted)?;
+    tallies.take(alloc, wanted, row)?;
+    groups.insert(Vec::from_slice(alloc, key)?, tallies)?;
+    Ok(())
+}
+
+/// The group of a key takes a row. A key that is there is looked up once and not copied.
+fn take_row<'a>(
+    alloc: Global,
+    wanted: &[Item],
+    key: &[&'a Value],
+    row: &[Value],
+    groups: &mut Lent<'a>,
+) -> Result<(), NoMemory>
+    requires fits { AllByRecursion (ItemFits row.now) wanted.now }
+    requires few { AllByRecursion (λ t. counted t + 1 < 2 ^ 64) (so_far wanted.now (tallies_at (keyed (λ k. map (λ v. v.now) k.items) groups.old.entries) (map (λ v. v.now) key.now))) }
+    ensures { OnOk result (keyed (λ k. map (λ v. v.now) k.items) groups.new.entries ≡ placed (keyed (λ k. map (λ v. v.now) k.items) groups.old.entries) (map (λ v. v.now) key.now) (all_taken wanted.now (so_far wanted.now (tallies_at (keyed (λ k. map (λ v. v.now) k.items) groups.old.entries) (map (λ v. v.now) key.now))) row.now)) }
+{
+    match groups.get_mut(key) {
+        Some(tallies) => tallies.take(alloc, wanted, row),
+        None => put_group(alloc, wanted, key, row, groups),
+    }
+}
+
+/// The groups take a row, where the query keeps it.
+fn take_kept<'a>(
+    alloc: Global,
+    bound: &Bound,
+    wanted: &[Item],
+    row: &'a Row,
+    key: &mut Vec<&'a Value>,
+    groups: &mut Lent<'a>,
+) -> Result<(), NoMemory>
+    requires wanted { wanted.now ≡ spec.wanted bound.now }
+    requires fits { BoundFits row.now bound.now }
+    requires few { AllByRecursion (λ t. counted t + 1 < 2 ^ 64) (so_far wanted.now (tallies_at (keyed (λ k. map (λ v. v.now) k.items) groups.old.entries) (spec.key_of bound.now.groups row.now))) }
+    ensures { OnOk result (keyed (λ k. map (λ v. v.now) k.items) groups.new.entries ≡ with_row bound.now (keyed (λ k. map (λ v. v.now) k.items) groups.old.entries) row.now) }
+{
+    if keeps(&bound.filter, row) {
+        lend_key(bound.groups.items(), row.values(), key)?;
+        take_row(alloc, wanted, key.as_slice(), row.values(), groups)
+    } else {
+        Ok(())
+    }
+}
+
+/// The groups of no row: without GROUP BY there is one.
+fn no_rows<'a>(alloc: Global, columns: &[u32], wanted: &[Item]) -> Result<Lent<'a>, NoMemory>
+    ensures { IfOk result (λ groups. keyed (λ k. map (λ v. v.now) k.items) groups.entries ≡ first_groups columns.now wanted.now) }
+{
+    let mut groups = IndexMap::new(alloc);
+    if columns.is_empty() {
+        groups.insert(Vec::new(alloc), Tallies::new(alloc, wanted)?)?;
+    }
+    Ok(groups)
+}
+
+/// The groups of the rows that a query keeps.
+fn lent_groups<'a>(
+    alloc: Global,
+    bound: &Bound,
+    wanted: &[Item],
+    rows: &'a [(u64, Row)],
+) -> Result<Lent<'a>, NoMemory>
+    requires wanted { wanted.now ≡ spec.wanted bound.now }
+    requires fits { AllByRecursion (λ r. BoundFits r.1 bound.now) rows.now }
+    ensures groups { IfOk result (λ groups. GroupsAre bound.now (map (λ r. r.1) (spec.kept bound.now rows.now)) (keyed (λ k. map (λ v. v.now) k.items) groups.entries)) }
+{
+    let mut groups = no_rows(alloc, bound.groups.items(), wanted)?;
+    let mut key = Vec::with_capacity(alloc, bound.groups.items().len())?;
+    for (_, row) in rows {
+        take_kept(alloc, bound, wanted, row, &mut key, &mut groups)?;
+    }
+    Ok(groups)
+}
+
+/// The values of a key, copied.
+fn owned_key(alloc: Global, values: &[&Value]) -> Result<Vec<Value>, NoMemory>
+    ensures { IfOk result (λ key. key.items ≡ map (λ v. v.now) values.now) }
+{
+    let mut key = Vec::with_capacity(alloc, values.len())?;
+    for value in values {
+        key.push(value.copy(alloc)?)?;
+    }
+    Ok(key)
+}
+
+/// Puts a group with a new key behind the others.
+fn put_new(groups: &mut Groups, key: Vec<Value>, tallies: Tallies) -> Result<(), NoMemory>
+    requires { tallies_at (keyed (λ k. k.items) groups.old.entries) key.items ≡ None }
+    ensures { OnOk result (keyed (λ k. k.items) groups.new.entries ≡ keyed (λ k. k.items) groups.old.entries ++ (key.items, tallies) ∷ []) }
+{
+    groups.insert(key, tallies)?;
+    Ok(())
+}
+
+/// The groups that some rows give to a grouped query.
+///
+/// It costs one look-up a row, and copies the values of a key once for each group.
+pub fn groups_of(alloc: Global, bound: &Bound, rows: &[(u64, Row)]) -> Result<Groups, NoMemory>
+    requires fits { AllByRecursion (λ r. BoundFits r.1 bound.now) rows.now }
+    ensures { IfOk result (λ groups. spec.held (λ k. k.items) groups.entries ≡ spec.groups_of bound.now (map (λ r. r.1) (spec.kept bound.now rows.now))) }
+{
+    let wanted = wanted(alloc, bound)?;
+    let lent = lent_groups(alloc, bound, wanted.as_slice(), rows)?;
+    let mut groups = IndexMap::new(alloc);
+    groups.reserve(lent.len())?;
+    for (key, tallies) in lent {
+        put_new(&mut groups, owned_key(alloc, key.as_slice())?, tallies)?;
+    }
+    Ok(groups)
+}
+
+fn copy_key(alloc: Global, values: &[Value]) -> Result<Vec<Value>, NoMemory>
+    ensures { IfOk result (λ key. key.items ≡ values.now) }
+{
+    let mut key = Vec::with_capacity(alloc, values.len())?;
+    for value in values {
+        key.push(value.copy(alloc)?)?;
+    }
+    Ok(key)
+}
+
+/// The same groups once more.
+pub fn copy_groups(alloc: Global, groups: &Groups) -> Result<Groups, NoMemory>
+    ensures { IfOk result (λ copies. spec.held (λ k. k.items) copies.entries ≡ spec.held (λ k. k.items) groups.now.entries) }
+{
+    let mut copies = IndexMap::new(alloc);
+    copies.reserve(groups.len())?;
+    for (key, tallies) in groups.iter() {
+        put_new(
+            &mut copies,
+            copy_key(alloc, key.as_slice())?,
+            tallies.copy(alloc)?,
+        )?;
+    }
+    Ok(copies)
+}
+
+/// A group of another part joins that of the same key, or is put behind the groups. There is room for it.
+fn join_group(groups: &mut Groups, key: Vec<Value>, tallies: Tallies)
+    requires room { 0 < spare groups.old }
+    requires few { ForSome (tallies_at (keyed (λ k. k.items) groups.old.entries) key.items) (λ old. CanJoin old tallies) }
+    ensures groups { keyed (λ k. k.items) groups.new.entries ≡ placed (keyed (λ k. k.items) groups.old.entries) key.items (spec.with_tallies (tallies_at (keyed (λ k. k.items) groups.old.entries) key.items) tallies) }
+    ensures room { spare groups.old ≤ spare groups.new + 1 }
+{
+    match groups.get_mut(&key) {
+        Some(old) => old.join(tallies),
+        None => {
+            groups.insert(key, tallies).unwrap();
+        }
+    }
+}
+
+/// The groups of another part join these. Where memory lacks, these are as before.
+pub fn join_groups(groups: &mut Groups, others: Groups) -> Result<(), NoMemory>
+    requires few { (key : List AnyValue) → ForSome (tallies_at (keyed (λ k. k.items) groups.old.entries) key) (λ ts. ForSome (tallies_at (keyed (λ k. k.items) others.entries) key) (λ us. CanJoin ts us)) }
+    ensures ok { OnOk result (spec.held (λ k. k.items) groups.new.entries ≡ spec.joined_groups (spec.held (λ k. k.items) groups.old.entries) (spec.held (λ k. k.items) others.entries)) }
+    ensures err { OnErr result (spec.held (λ k. k.items) groups.new.entries ≡ spec.held (λ k. k.items) groups.old.entries) }
+{
+    groups.reserve(others.len())?;
+    for (key, tallies) in others {
+        join_group(groups, key, tallies);
+    }
+    Ok(())
+}

@@ -1,0 +1,343 @@
+use crate::{Cell, Partial};
+use im_syntax::{Bound, Filter, Item, Key, Parts, Test, TestForm, Tests};
+use im_values::{Cmp, Name, Row, Value};
+use std::alloc::Global;
+use std::test::Fail;
+
+const K: u32 = 0;
+
+const V: u32 = 1;
+
+const T: u32 = 2;
+
+fn number(number: Option<i64>) -> Value {
+    match number {
+        Some(number) => Value::Int(number),
+        None => Value::Null,
+    }
+}
+
+fn text(alloc: Global, text: &[u8]) -> Result<Value, Fail> {
+    if text.is_empty() {
+        return Ok(Value::Null);
+    }
+    Ok(Value::Text(Name::of(alloc, text)?))
+}
+
+/// Rows of K, V and T; an empty text is NULL.
+fn rows(
+    alloc: Global,
+    list: &[(Option<i64>, Option<i64>, &[u8])],
+) -> Result<Vec<(u64, Row)>, Fail> {
+    let mut rows = Vec::new(alloc);
+    let mut place = 0;
+    for (k, v, t) in list {
+        let values = [number(*k), number(*v), text(alloc, *t)?];
+        rows.push((place, Row::of(Vec::from_array(alloc, values)?)))?;
+        place += 1;
+    }
+    Ok(rows)
+}
+
+fn seven(alloc: Global) -> Result<Vec<(u64, Row)>, Fail> {
+    let list: [(Option<i64>, Option<i64>, &[u8]); 7] = [
+        (Some(2), Some(10), b"b"),
+        (Some(1), None, b"a"),
+        (None, Some(5), b""),
+        (Some(2), Some(-7), b"a"),
+        (Some(1), None, b""),
+        (None, Some(5), b"c"),
+        (Some(3), Some(10), b"b"),
+    ];
+    rows(alloc, list.as_slice())
+}
+
+fn query(
+    alloc: Global,
+    filter: Option<Filter>,
+    items: &[Item],
+    groups: &[u32],
+    keys: &[Key],
+    grouped: bool,
+) -> Result<Bound, Fail> {
+    Ok(Bound {
+        table: 1,
+        filter,
+        items: Parts::of(Vec::from_slice(alloc, items)?),
+        groups: Parts::of(Vec::from_slice(alloc, groups)?),
+        keys: Parts::of(Vec::from_slice(alloc, keys)?),
+        grouped,
+    })
+}
+
+fn put_cell(alloc: Global, out: &mut Vec<u8>, cell: &Cell) -> Result<(), Fail> {
+    match cell {
+        Cell::Null => {}
+        Cell::Text(text) => out.extend_from_slice(text.bytes())?,
+        Cell::Int(number) => {
+            let digits = format!(in alloc; "{number}")?;
+            out.extend_from_slice(digits.as_bytes())?;
+        }
+    }
+    Ok(())
+}
+
+/// The records, each ended by ';', with ',' between the cells.
+fn written(alloc: Global, records: &[Vec<Cell>]) -> Result<Vec<u8>, Fail> {
+    let mut out = Vec::new(alloc);
+    for record in records {
+        for (i, cell) in record.as_slice().iter().enumerate() {
+            if i > 0 {
+                out.push(b',')?;
+            }
+            put_cell(alloc, &mut out, cell)?;
+        }
+        out.push(b';')?;
+    }
+    Ok(out)
+}
+
+/// The answer over the rows, the rows taken in two parts.
+fn answer(alloc: Global, bound: &Bound, rows: &[(u64, Row)], cut: usize) -> Result<Vec<u8>, Fail> {
+    let cut = cut.min(rows.len());
+    let mut partial = Partial::of_rows(alloc, bound, &rows[..cut])?;
+    partial.merge(Partial::of_rows(alloc, bound, &rows[cut..])?)?;
+    let records = partial.copy(alloc)?.finish(alloc, bound)?;
+    let again = partial.finish(alloc, bound)?;
+    let out = written(alloc, records.as_slice())?;
+    if written(alloc, again.as_slice())?.as_slice() != out.as_slice() {
+        return Ok(Vec::new(alloc));
+    }
+    Ok(out)
+}
+
+const fn asc(item: Item) -> Key {
+    Key {
+        item,
+        descending: false,
+    }
+}
+
+const fn desc(item: Item) -> Key {
+    Key {
+        item,
+        descending: true,
+    }
+}
+
+#[test]
+fn queries_have_the_answers_of_sql(rt: HostRuntime) -> Result<(), Fail> {
+    let alloc = rt.alloc();
+    let rows = seven(alloc)?;
+    let cases: [(&[Item], &[u32], &[Key], bool, &[u8]); 22] = [
+        (
+            &[Item::Column(K), Item::Column(T)],
+            &[],
+            &[],
+            false,
+            b"2,b;1,a;,;2,a;1,;,c;3,b;",
+        ),
+        (
+            &[Item::Column(V)],
+            &[],
+            &[asc(Item::Column(K))],
+            false,
+            b";;10;-7;10;5;5;",
+        ),
+        (
+            &[Item::Column(V)],
+            &[],
+            &[desc(Item::Column(K))],
+            false,
+            b"5;5;10;10;-7;;;",
+        ),
+        (
+            &[Item::Column(K)],
+            &[],
+            &[desc(Item::Column(V)), asc(Item::Column(T))],
+            false,
+            b"1;1;2;3;;;2;",
+        ),
+        (
+            &[Item::Column(K)],
+            &[],
+            &[asc(Item::Column(V)), desc(Item::Column(T))],
+            false,
+            b"2;;;2;3;1;1;",
+        ),
+        (&[Item::CountAll], &[], &[], true, b"7;"),
+        (
+            &[Item::Count(K), Item::Count(V), Item::Count(T)],
+            &[],
+            &[],
+            true,
+            b"5,5,5;",
+        ),
+        (
+            &[Item::Sum(V), Item::Min(V), Item::Max(V)],
+            &[],
+            &[],
+            true,
+            b"23,-7,10;",
+        ),
+        (&[Item::Min(T), Item::Max(T)], &[], &[], true, b"a,c;"),
+        (
+            &[Item::Column(K), Item::CountAll],
+            &[K],
+            &[],
+            true,
+            b"1,2;2,2;3,1;,2;",
+        ),
+        (
+            &[Item::Column(K), Item::Count(V)],
+            &[K],
+            &[],
+            true,
+            b"1,0;2,2;3,1;,2;",
+        ),
+        (
+            &[Item::Column(K), Item::Sum(V)],
+            &[K],
+            &[],
+            true,
+            b"1,;2,3;3,10;,10;",
+        ),
+        (
+            &[Item::Min(V), Item::Max(V)],
+            &[K],
+            &[],
+            true,
+            b",;-7,10;10,10;5,5;",
+        ),
+        (
+            &[Item::Min(T), Item::Max(T)],
+            &[K],
+            &[],
+            true,
+            b"a,a;a,b;b,b;c,c;",
+        ),
+        (
+            &[Item::Column(K)],
+            &[K],
+            &[desc(Item::Column(K))],
+            true,
+            b";3;2;1;",
+        ),
+        (
+            &[Item::Column(K)],
+            &[K],
+            &[asc(Item::CountAll)],
+            true,
+            b"3;1;2;;",
+        ),
+        (
+            &[Item::Column(K)],
+            &[K],
+            &[desc(Item::CountAll)],
+            true,
+            b"1;2;;3;",
+        ),
+        (
+            &[Item::Column(K)],
+            &[K],
+            &[desc(Item::Sum(V))],
+            true,
+            b"1;3;;2;",
+        ),
+        (
+            &[Item::Column(T), Item::CountAll],
+            &[T],
+            &[],
+            true,
+            b"a,2;b,2;c,1;,2;",
+        ),
+        (
+            &[Item::Column(T), Item::Column(K)],
+            &[K, T],
+            &[],
+            true,
+            b"a,1;,1;a,2;b,2;b,3;c,;,;",
+        ),
+        (
+            &[Item::Column(K), Item::Column(T)],
+            &[T, K],
+            &[desc(Item::Column(T))],
+            true,
+            b"1,;,;,c;2,b;3,b;1,a;2,a;",
+        ),
+        (&[], &[], &[], true, b";"),
+    ];
+    for (items, groups, keys, grouped, expected) in cases {
+        let bound = query(alloc, None, items, groups, keys, grouped)?;
+        for cut in [0, 3, 7] {
+            let out = answer(alloc, &bound, rows.as_slice(), cut)?;
+            assert_eq!(rt; out.as_slice(), expected);
+        }
+    }
+    Ok(())
+}
+
+#[test]
+fn no_row_gives_one_record_without_group_by_and_none_with_it(rt: HostRuntime) -> Result<(), Fail> {
+    let alloc = rt.alloc();
+    let items = [Item::CountAll, Item::Count(K), Item::Sum(V), Item::Min(T)];
+    let whole = query(alloc, None, &items, &[], &[], true)?;
+    assert_eq!(rt;
+        answer(alloc, &whole, &[], 0)?.as_slice(),
+        b"0,0,,;".as_slice()
+    );
+    let grouped = query(alloc, None, &items, &[K], &[], true)?;
+    assert_eq!(rt; answer(alloc, &grouped, &[], 0)?.as_slice(), b"".as_slice());
+    let plain = query(alloc, None, &[Item::Column(K)], &[], &[], false)?;
+    assert_eq!(rt; answer(alloc, &plain, &[], 0)?.as_slice(), b"".as_slice());
+    Ok(())
+}
+
+#[test]
+fn sums_are_exact_in_128_bits(rt: HostRuntime) -> Result<(), Fail> {
+    let alloc = rt.alloc();
+    let most = Some(i64::MAX);
+    let least = Some(i64::MIN);
+    let up = rows(
+        alloc,
+        &[
+            (most, least, b"x"),
+            (most, least, b"x"),
+            (most, least, b"x"),
+        ],
+    )?;
+    let bound = query(alloc, None, &[Item::Sum(K), Item::Sum(V)], &[T], &[], true)?;
+    for cut in [0, 1, 2] {
+        let out = answer(alloc, &bound, up.as_slice(), cut)?;
+        assert_eq!(rt;
+            out.as_slice(),
+            b"27670116110564327421,-27670116110564327424;".as_slice()
+        );
+    }
+    Ok(())
+}
+
+#[test]
+fn only_rows_whose_condition_is_yes_are_kept(rt: HostRuntime) -> Result<(), Fail> {
+    let alloc = rt.alloc();
+    let rows = seven(alloc)?;
+    let cases: [(Cmp, &[u64]); 3] = [(Cmp::Ne, &[0, 2, 5, 6]), (Cmp::Eq, &[3]), (Cmp::Lt, &[])];
+    for (cmp, kept) in cases {
+        let test = Test::of(TestForm::Compare {
+            column: V,
+            cmp,
+            value: Value::Int(-7),
+        });
+        let tests = Tests::of(Vec::from_array(alloc, [test])?);
+        let filter = Filter::of(Vec::from_array(alloc, [tests])?);
+        let bound = query(alloc, Some(filter), &[Item::Column(K)], &[], &[], false)?;
+        let mut partial = Partial::of_rows(alloc, &bound, &rows.as_slice()[..4])?;
+        partial.merge(Partial::of_rows(alloc, &bound, &rows.as_slice()[4..])?)?;
+        let kept_rows = partial.into_rows();
+        assert_eq!(rt; kept_rows.len(), kept.len());
+        for (i, (place, _)) in kept_rows.as_slice().iter().enumerate() {
+            assert_eq!(rt; *place, kept[i]);
+        }
+    }
+    Ok(())
+}
