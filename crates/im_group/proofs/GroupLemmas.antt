@@ -1,23 +1,20 @@
 -- The groups of rows, once one row more has come, and of two lists of rows together.
-use Rattle.std.proofs.Common.{◌≡◌, ℕ, suc, ◌+◌, ◌<◌, ◌≤◌, ◌^◌, Bool, true, false, not, cond, List, [], ◌∷◌, ◌++◌, length, map, filter, Option, None, Some, refl, sym, ap, ap₂, ◌∙◌, subst, arith}
+use Rattle.std.proofs.Common.{◌≡◌, ℕ, Bool, true, false, cond, List, [], ◌∷◌, ◌++◌, map, Option, None, Some, refl, sym, ap, ◌∙◌}
 use Rattle.std.specs.Ordering.{is_eq}
-use Rattle.std.specs.Option.{unwrap_or}
-use Rattle.std.specs.List.{AllByRecursion}
 use Rattle.std.specs.declared.cmp.Ordering.{Ordering}
 use Rattle.std.specs.declared.cmp.Ordering.TheVariants.{Less, Equal, Greater}
 use Rattle.std.specs.FinMap as map_of
-use Rattle.std.proofs.lemmas.List.{map-append, length-append}
 use Rattle.std.proofs.lemmas.List.Elements.{filter-append}
-use Rattle.std.proofs.lemmas.Cmp.{tied_itself, alike_right}
+use Rattle.std.proofs.lemmas.Cmp.{tied_itself}
 use Rattle.im_values.specs.declared.value.Value.{Value}
 use Rattle.im_syntax.specs.declared.bound.Item.{Item}
 use Rattle.im_syntax.specs.declared.bound.Bound.{Bound}
 use Rattle.im_group.specs.declared.tally.Tally.{Tally}
-use Rattle.im_group.specs.Tallies.{tally_of, taken, all_taken, joined, all_joined}
-use Rattle.im_group.specs.Partials.{key_order, key_of, is_key, wanted, members, tallies_of, keys_of, Groups, groups_of, with_tallies}
+use Rattle.im_group.specs.Tallies.{tally_of, all_taken}
+use Rattle.im_group.specs.Partials.{key_order, key_of, is_key, wanted, members, tallies_of, keys_of, groups_of}
 use Rattle.im_group.specs.Steps.{placed}
 use Rattle.im_group.proofs.Orders.{key_total, key_same}
-use Rattle.im_group.proofs.Growth.{tally-push, tally-append}
+use Rattle.im_group.proofs.Growth.{tally-push}
 use Rattle.im_group.proofs.Sorting.{true_is_not_false}
 
 -- ---- one group

@@ -1,5 +1,5 @@
 -- What a group has taken, once one row more has come, and of two lists of rows together.
-use Rattle.std.proofs.Common.{◌≡◌, ℕ, ◌+◌, Bool, true, false, not, cond, List, [], ◌∷◌, ◌++◌, length, map, filter, refl, sym, ap, ap₂, ◌∙◌, arith}
+use Rattle.std.proofs.Common.{◌≡◌, ℕ, ◌+◌, Bool, true, false, not, cond, List, [], ◌∷◌, ◌++◌, length, refl, sym, ap, ◌∙◌, arith}
 use Rattle.std.specs.Prelude.{fold, ℤ, pos, ◌+ℤ◌, if◌then◌else◌}
 use Rattle.std.proofs.lemmas.Int.{ints}
 use Rattle.std.specs.Ordering.{is_lt}
@@ -16,9 +16,8 @@ use Rattle.im_values.specs.Order.{order, is_null}
 use Rattle.im_syntax.specs.declared.bound.Item.{Item}
 use Rattle.im_syntax.specs.declared.bound.Item.TheVariants as item
 use Rattle.im_syntax.specs.BoundFits.{value_at}
-use Rattle.im_group.specs.declared.tally.Tally.{Tally}
 use Rattle.im_group.specs.declared.tally.Tally.TheVariants as tally
-use Rattle.im_group.specs.Sums.{SumOf, number, added, joined_sum}
+use Rattle.im_group.specs.Sums.{number, added, joined_sum}
 use Rattle.im_group.specs.Tallies.{column_of, present, total, lesser, greater, least, greatest, sum_of, tally_of, taken, one_more, joined}
 use Rattle.im_group.proofs.Orders.{order_total}
 

@@ -9,7 +9,7 @@ use Rattle.std.specs.Iterator.{Yields}
 use Rattle.im_values.specs.declared.value.Value.{Value}
 use Rattle.indexmap.specs.IndexMap.{insert_entry}
 use Rattle.im_group.specs.declared.tally.Tally.{Tally}
-use Rattle.im_group.specs.Partials.{key_order, is_key, keyed}
+use Rattle.im_group.specs.Partials.{is_key, keyed}
 use Rattle.im_group.specs.Steps.{tallies_at, placed}
 use Rattle.im_group.proofs.Orders.{key_total}
 

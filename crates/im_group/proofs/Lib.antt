@@ -12,3 +12,5 @@ mod GroupSteps
 mod KeySort
 mod Merging
 mod Parts
+mod Prefixes
+pub mod ForCallers

@@ -1,24 +1,18 @@
 -- Two parts in one: the groups of both, and the parts of two lists of rows.
-use Rattle.std.proofs.Common.{◌≡◌, ℕ, suc, ◌+◌, ◌<◌, ◌≤◌, ◌^◌, Bool, true, false, cond, List, [], ◌∷◌, ◌++◌, length, map, filter, Option, None, Some, refl, sym, ap, ap₂, ◌∙◌, subst, arith}
+use Rattle.std.proofs.Common.{◌≡◌, Bool, true, false, cond, List, [], ◌∷◌, ◌++◌, map, Option, None, Some, refl, sym, ap, ◌∙◌, subst}
 use Rattle.std.specs.Ordering.{is_eq}
 use Rattle.std.specs.Option.{ForSome}
 use Rattle.std.specs.List.{IsDistinct}
 use Rattle.std.specs.FinMap as map_of
 use Rattle.std.proofs.lemmas.List.{map-append, append_assoc}
-use Rattle.std.proofs.lemmas.List.Elements.{filter-append}
 use Rattle.std.proofs.lemmas.Cmp.{tied_itself}
 use Rattle.im_values.specs.declared.value.Value.{Value}
-use Rattle.im_syntax.specs.declared.bound.Item.{Item}
-use Rattle.im_syntax.specs.declared.bound.Bound.{Bound}
 use Rattle.im_group.specs.declared.tally.Tally.{Tally}
-use Rattle.im_group.specs.Tallies.{tally_of, all_joined, CanJoin}
-use Rattle.im_group.specs.Partials.{Numbered, Groups, Parts, key_order, key_of, is_key, keeps, kept, wanted, members, tallies_of, keys_of, groups_of, keyed, held, with_tallies, joined_groups, merged, partial, CanMerge}
+use Rattle.im_group.specs.Tallies.{CanJoin}
+use Rattle.im_group.specs.Partials.{Groups, key_order, is_key, keyed, held, with_tallies, joined_groups}
 use Rattle.im_group.specs.Steps.{tallies_at, placed}
 use Rattle.im_group.proofs.Orders.{key_total, key_same}
-use Rattle.im_group.proofs.Sorting.{true_is_not_false}
-use Rattle.im_group.proofs.Growth.{tally-append}
-use Rattle.im_group.proofs.GroupLemmas.{stands, equal, no_more, find-placed, get-groups_of}
-use Rattle.im_group.proofs.GroupSteps.{flipped, none_has}
+use Rattle.im_group.proofs.GroupLemmas.{equal, no_more, find-placed}
 use Rattle.im_group.proofs.Held.{Agrees, absent, placed_new, not_before}
 
 -- what two parts have at a key

@@ -10,7 +10,6 @@ use Rattle.im_values.specs.declared.value.Value.{Value}
 use Rattle.im_values.specs.declared.value.Value.TheVariants.{Int, Text, Null}
 use Rattle.im_values.specs.Order.{order}
 use Rattle.im_syntax.specs.declared.bound.Key.{Key}
-use Rattle.im_group.specs.declared.cell.Cell.{Cell}
 use Rattle.im_group.specs.declared.cell.Cell.TheVariants as cell
 use Rattle.im_group.specs.Cells.{value_of, cell_order}
 use Rattle.im_group.specs.Partials.{key_order}

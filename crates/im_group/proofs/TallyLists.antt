@@ -1,5 +1,5 @@
 -- The tallies of a group, one after the other.
-use Rattle.std.proofs.Common.{◌≡◌, ℕ, zero, suc, ◌+◌, ◌<◌, ◌≤◌, ◌^◌, Bool, true, false, cond, nat_lt, List, [], ◌∷◌, ◌++◌, length, take, drop, set, get_or, refl, sym, ap, ap₂, ◌∙◌, subst, arith, min}
+use Rattle.std.proofs.Common.{◌≡◌, ℕ, zero, suc, ◌+◌, ◌<◌, ◌≤◌, ◌^◌, Bool, true, false, cond, nat_lt, List, [], ◌∷◌, ◌++◌, length, take, drop, set, get_or, refl, sym, ap, ◌∙◌, subst, arith, min}
 use Rattle.std.proofs.lemmas.List.{length-append, append_assoc}
 use Rattle.std.proofs.lemmas.Bool.Decides.{nat_tests}
 use Rattle.std.specs.Iterator.{Yields}
@@ -9,7 +9,7 @@ use Rattle.im_values.specs.declared.value.Value.{Value}
 use Rattle.im_syntax.specs.declared.bound.Item.{Item}
 use Rattle.im_group.specs.declared.tally.Tally.{Tally}
 use Rattle.im_group.specs.Steps.{joined_at, next_place}
-use Rattle.im_group.specs.Tallies.{taken, all_taken, joined, all_joined, counted, CanJoin}
+use Rattle.im_group.specs.Tallies.{all_taken, joined, all_joined, counted, CanJoin}
 
 -- so many of the tallies have taken the row
 pub record Taking (is : List Item) (old : List Tally) (row : List Value) (i : ℕ) (now : List Tally) : Type 0 where

@@ -1,5 +1,4 @@
 -- The cells of an answer, and their order.
-use Rattle.std.specs.Prelude.{ℕ, Bool, true, false}
 use Rattle.std.specs.declared.cmp.Ordering.{Ordering}
 use Rattle.im_values.specs.declared.value.Value.{Value}
 use Rattle.im_values.specs.declared.value.Value.TheVariants as value

@@ -1,5 +1,5 @@
 -- How parts of an answer are kept where a contract compares them.
-use Rattle.std.specs.Prelude.{ℕ, List}
+use Rattle.std.specs.Prelude.{List}
 use Rattle.std.specs.Coded.{Coded, coded_ℕ, coded_list, coded×, code_by}
 use Rattle.std.specs.FinMap as map_of
 use Rattle.std.proofs.Common.{refl}

@@ -1,4 +1,10 @@
+ghost use Rattle.std.specs.Prelude.{◌≡◌, ◌≤◌, IfOk, length};
+ghost use Rattle.im_group.specs.Partials as spec;
+
+mod fits;
+
 use crate::{Cell, Partial};
+use fits::rows_fit;
 use im_syntax::{Bound, Filter, Item, Key, Parts, Test, TestForm, Tests};
 use im_values::{Cmp, Name, Row, Value};
 use std::alloc::Global;
@@ -30,11 +36,9 @@ fn rows(
     list: &[(Option<i64>, Option<i64>, &[u8])],
 ) -> Result<Vec<(u64, Row)>, Fail> {
     let mut rows = Vec::new(alloc);
-    let mut place = 0;
-    for (k, v, t) in list {
+    for (place, (k, v, t)) in list.iter().enumerate() {
         let values = [number(*k), number(*v), text(alloc, *t)?];
-        rows.push((place, Row::of(Vec::from_array(alloc, values)?)))?;
-        place += 1;
+        rows.push((place as u64, Row::of(Vec::from_array(alloc, values)?)))?;
     }
     Ok(rows)
 }
@@ -97,18 +101,28 @@ fn written(alloc: Global, records: &[Vec<Cell>]) -> Result<Vec<u8>, Fail> {
     Ok(out)
 }
 
-/// The answer over the rows, the rows taken in two parts.
-fn answer(alloc: Global, bound: &Bound, rows: &[(u64, Row)], cut: usize) -> Result<Vec<u8>, Fail> {
-    let cut = cut.min(rows.len());
-    let mut partial = Partial::of_rows(alloc, bound, &rows[..cut])?;
-    partial.merge(Partial::of_rows(alloc, bound, &rows[cut..])?)?;
-    let records = partial.copy(alloc)?.finish(alloc, bound)?;
-    let again = partial.finish(alloc, bound)?;
-    let out = written(alloc, records.as_slice())?;
-    if written(alloc, again.as_slice())?.as_slice() != out.as_slice() {
-        return Ok(Vec::new(alloc));
+/// The part of some rows, of which the query may be asked.
+fn part(alloc: Global, bound: &Bound, rows: &[(u64, Row)]) -> Result<Partial, Fail>
+    ensures { IfOk result (λ partial. partial ≡ spec.partial bound.now rows.now) }
+{
+    if !rows_fit(rows, bound) {
+        return Err(Fail::new("the query does not fit the rows"));
     }
-    Ok(out)
+    Ok(Partial::of_rows(alloc, bound, rows)?)
+}
+
+/// The part of all rows, merged from the parts in front of a place and behind it.
+fn merged(alloc: Global, bound: &Bound, rows: &[(u64, Row)], cut: usize) -> Result<Partial, Fail> {
+    let cut = cut.min(rows.len());
+    let mut partial = part(alloc, bound, &rows[..cut])?;
+    partial.merge(part(alloc, bound, &rows[cut..])?)?;
+    Ok(partial)
+}
+
+/// The answer over the rows.
+fn answer(alloc: Global, bound: &Bound, partial: Partial) -> Result<Vec<u8>, Fail> {
+    let records = partial.finish(alloc, bound)?;
+    written(alloc, records.as_slice())
 }
 
 const fn asc(item: Item) -> Key {
@@ -270,8 +284,10 @@ fn queries_have_the_answers_of_sql(rt: HostRuntime) -> Result<(), Fail> {
     for (items, groups, keys, grouped, expected) in cases {
         let bound = query(alloc, None, items, groups, keys, grouped)?;
         for cut in [0, 3, 7] {
-            let out = answer(alloc, &bound, rows.as_slice(), cut)?;
-            assert_eq!(rt; out.as_slice(), expected);
+            let partial = merged(alloc, &bound, rows.as_slice(), cut)?;
+            let copy = partial.copy(alloc)?;
+            assert_eq!(rt; answer(alloc, &bound, partial)?.as_slice(), expected);
+            assert_eq!(rt; answer(alloc, &bound, copy)?.as_slice(), expected);
         }
     }
     Ok(())
@@ -280,37 +296,30 @@ fn queries_have_the_answers_of_sql(rt: HostRuntime) -> Result<(), Fail> {
 #[test]
 fn no_row_gives_one_record_without_group_by_and_none_with_it(rt: HostRuntime) -> Result<(), Fail> {
     let alloc = rt.alloc();
-    let items = [Item::CountAll, Item::Count(K), Item::Sum(V), Item::Min(T)];
-    let whole = query(alloc, None, &items, &[], &[], true)?;
-    assert_eq!(rt;
-        answer(alloc, &whole, &[], 0)?.as_slice(),
-        b"0,0,,;".as_slice()
-    );
-    let grouped = query(alloc, None, &items, &[K], &[], true)?;
-    assert_eq!(rt; answer(alloc, &grouped, &[], 0)?.as_slice(), b"".as_slice());
-    let plain = query(alloc, None, &[Item::Column(K)], &[], &[], false)?;
-    assert_eq!(rt; answer(alloc, &plain, &[], 0)?.as_slice(), b"".as_slice());
+    let aggregates = [Item::CountAll, Item::Count(K), Item::Sum(V), Item::Min(T)];
+    let cases: [(&[Item], &[u32], bool, &[u8]); 3] = [
+        (&aggregates, &[], true, b"0,0,,;"),
+        (&aggregates, &[K], true, b""),
+        (&[Item::Column(K)], &[], false, b""),
+    ];
+    for (items, groups, grouped, expected) in cases {
+        let bound = query(alloc, None, items, groups, &[], grouped)?;
+        let partial = merged(alloc, &bound, &[], 0)?;
+        assert_eq!(rt; answer(alloc, &bound, partial)?.as_slice(), expected);
+    }
     Ok(())
 }
 
 #[test]
-fn sums_are_exact_in_128_bits(rt: HostRuntime) -> Result<(), Fail> {
+fn sums_are_exact_past_64_bits(rt: HostRuntime) -> Result<(), Fail> {
     let alloc = rt.alloc();
-    let most = Some(i64::MAX);
-    let least = Some(i64::MIN);
-    let up = rows(
-        alloc,
-        &[
-            (most, least, b"x"),
-            (most, least, b"x"),
-            (most, least, b"x"),
-        ],
-    )?;
+    let row: (Option<i64>, Option<i64>, &[u8]) = (Some(i64::MAX), Some(i64::MIN), b"x");
+    let three = rows(alloc, &[row, row, row])?;
     let bound = query(alloc, None, &[Item::Sum(K), Item::Sum(V)], &[T], &[], true)?;
     for cut in [0, 1, 2] {
-        let out = answer(alloc, &bound, up.as_slice(), cut)?;
+        let partial = merged(alloc, &bound, three.as_slice(), cut)?;
         assert_eq!(rt;
-            out.as_slice(),
+            answer(alloc, &bound, partial)?.as_slice(),
             b"27670116110564327421,-27670116110564327424;".as_slice()
         );
     }
@@ -331,9 +340,7 @@ fn only_rows_whose_condition_is_yes_are_kept(rt: HostRuntime) -> Result<(), Fail
         let tests = Tests::of(Vec::from_array(alloc, [test])?);
         let filter = Filter::of(Vec::from_array(alloc, [tests])?);
         let bound = query(alloc, Some(filter), &[Item::Column(K)], &[], &[], false)?;
-        let mut partial = Partial::of_rows(alloc, &bound, &rows.as_slice()[..4])?;
-        partial.merge(Partial::of_rows(alloc, &bound, &rows.as_slice()[4..])?)?;
-        let kept_rows = partial.into_rows();
+        let kept_rows = merged(alloc, &bound, rows.as_slice(), 4)?.into_rows();
         assert_eq!(rt; kept_rows.len(), kept.len());
         for (i, (place, _)) in kept_rows.as_slice().iter().enumerate() {
             assert_eq!(rt; *place, kept[i]);

@@ -1,7 +1,7 @@
-use Rattle.std.proofs.Common.{◌≡◌, arith, ap, length}
+use Rattle.std.proofs.Common.{arith, ap, length}
 use Rattle.std.specs.Cmp.Lexicographic.{pointwise}
 use Rattle.im_group.proofs.Agreement.{same_value, keys_tie}
-use Rattle.im_group.proofs.Merging.{Joins, joins_none, joins_next, joins_all, can_join_group}
+use Rattle.im_group.proofs.Merging.{joins_next, joins_all, can_join_group}
 use Rattle.im_group.proofs.grouping.join_groups.Goals as goal
 
 pub join_group-requires-clause-few : goal.join_group-requires-clause-few

@@ -1,4 +1,4 @@
-use Rattle.std.proofs.Common.{◌≡◌, None, ◌+◌, ◌<◌, ◌^◌, map, is_some, sym, ap, subst, ◌∙◌}
+use Rattle.std.proofs.Common.{None, ◌+◌, ◌<◌, ◌^◌, map, is_some, sym, ap, subst, ◌∙◌}
 use Rattle.std.specs.List.{AllByRecursion}
 use Rattle.std.proofs.lemmas.Result.{on_ok_weaker}
 use Rattle.im_group.specs.Tallies.{all_taken, counted}

@@ -1,4 +1,4 @@
-use Rattle.std.proofs.Common.{◌≡◌, ◌++◌, map, drop}
+use Rattle.std.proofs.Common.{◌≡◌, ◌++◌, drop}
 use Rattle.im_group.proofs.partial.copy_rows.Given as goal
 
 abbrev pub invariant-loop-number : goal.invariant-loop-number

@@ -1,4 +1,4 @@
-use Rattle.std.proofs.Common.{◌≡◌, ◌++◌, map, drop}
+use Rattle.std.proofs.Common.{◌≡◌, ◌++◌, drop}
 use Rattle.im_group.specs.Partials.{kept}
 use Rattle.im_group.proofs.partial.kept_rows.Given as goal
 

@@ -1,4 +1,4 @@
-use Rattle.std.proofs.Common.{◌≡◌, List, length, map, take, ap, ◌∙◌}
+use Rattle.std.proofs.Common.{List, length, map, take, ap, ◌∙◌}
 use Rattle.std.proofs.lemmas.Result.{IfOk-weaker}
 use Rattle.im_group.specs.Partials.{Numbered, Groups, Parts, held}
 use Rattle.im_group.specs.Answers.{records, in_order, record_order}

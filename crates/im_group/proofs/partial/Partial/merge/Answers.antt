@@ -1,4 +1,4 @@
-use Rattle.std.proofs.Common.{◌≡◌, ap, rules, ◌∙◌}
+use Rattle.std.proofs.Common.{ap, rules, ◌∙◌}
 use Rattle.im_group.specs.Partials.{merged}
 use Rattle.im_group.proofs.Parts.{merged-partial, can_merge-held}
 use Rattle.im_group.proofs.partial.Partial.merge.Goals as goal

@@ -1,4 +1,4 @@
-use Rattle.std.proofs.Common.{arith, ap, ◌≡◌, ◌+◌, ◌<◌, ◌^◌}
+use Rattle.std.proofs.Common.{arith, ap, ◌≡◌}
 use Rattle.std.proofs.lemmas.Int.{ints}
 use Rattle.im_group.proofs.sum.Sum.join.Goals as goal
 

@@ -1,4 +1,4 @@
-use Rattle.std.proofs.Common.{arith, ap, ◌≡◌, ◌≤◌, length, min}
+use Rattle.std.proofs.Common.{arith, ap, length}
 use Rattle.im_group.proofs.TallyLists.{taking_all}
 use Rattle.im_group.proofs.tallies.Tallies.take.Goals as goal
 
