@@ -16,7 +16,7 @@ use Rattle.im_group.specs.declared.cell.Cell.TheVariants as cell
 use Rattle.im_group.specs.declared.tally.Tally.{Tally}
 use Rattle.im_group.specs.Cells.{cell_of, cell_order}
 use Rattle.im_group.specs.Tallies.{cell_of_tally}
-use Rattle.im_group.specs.Partials.{Numbered, Parts, wanted, partial}
+use Rattle.im_group.specs.Partials.{Numbered, Groups, Parts, wanted, partial}
 
 -- ---- records
 
@@ -41,10 +41,14 @@ group_cells columns key [] ts = []
 group_cells columns key (i ∷ is) [] = []
 group_cells columns key (i ∷ is) (t ∷ ts) = group_cell columns key i t ∷ group_cells columns key is ts
 
--- a record for each group, in the order of their keys, or for each row: what the list asks for, and then the keys of ORDER BY
+-- a record for each group, in the order of their keys
+abbrev pub group_records : List ℕ → List Item → Groups → List (List Cell)
+group_records columns is groups = map (λ g. group_cells columns g.0 is g.1) (map_of.entries groups)
+
+-- a record for each group or for each row: what the list asks for, and then the keys of ORDER BY
 abbrev pub records : Bound → Parts → List (List Cell)
 records bound parts =
-    if bound.grouped then map (λ g. group_cells bound.groups g.0 (wanted bound) g.1) (map_of.entries parts.groups)
+    if bound.grouped then group_records bound.groups (wanted bound) parts.groups
     else map (λ r. map (row_cell r.1) (wanted bound)) parts.rows
 
 -- ---- ORDER BY

@@ -6,3 +6,4 @@ pub mod Partials
 pub mod PartialCode
 pub mod Answers
 pub mod Steps
+pub mod Holding

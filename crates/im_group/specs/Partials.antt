@@ -1,5 +1,5 @@
 -- The part of an answer that some of the rows give.
-use Rattle.std.specs.Prelude.{ℕ, Bool, true, false, List, [], ◌∷◌, ◌++◌, map, filter, Option, None, Some, if◌then◌else◌}
+use Rattle.std.specs.Prelude.{◌≡◌, ℕ, Bool, true, false, List, [], ◌∷◌, ◌++◌, map, filter, Option, None, Some, if◌then◌else◌}
 use Rattle.std.specs.Option.{ForSome}
 use Rattle.std.specs.Ordering.{is_eq}
 use Rattle.std.specs.declared.cmp.Ordering.{Ordering}
@@ -101,6 +101,10 @@ joined_groups a b = map_of.from_entries (map (λ g. (g.0, with_tallies (map_of.g
 
 abbrev pub merged : Parts → Parts → Parts
 merged a b = record { rows = a.rows ++ b.rows; groups = joined_groups a.groups b.groups }
+
+-- where two parts are those of two lists of rows, one is the part of both lists, one behind the other
+abbrev pub IsPartOfBoth : Parts → Parts → Parts → Type 0
+IsPartOfBoth a b whole = (bound : Bound) (front back : List Numbered) → a ≡ partial bound front → b ≡ partial bound back → whole ≡ partial bound (front ++ back)
 
 -- the counts of each group of two parts stay below 2^64
 abbrev pub CanMerge : Parts → Parts → Type 0

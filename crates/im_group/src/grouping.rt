@@ -1,14 +1,12 @@
-ghost use Rattle.std.specs.Prelude.{◌≡◌, ◌+◌, ◌<◌, ◌≤◌, ◌^◌, ◌++◌, ◌∷◌, [], List, None, IfOk, OnOk, OnErr, map, length};
+ghost use Rattle.std.specs.Prelude.{◌≡◌, ◌+◌, ◌<◌, ◌≤◌, ◌++◌, ◌∷◌, [], None, IfOk, OnOk, OnErr, map, length};
 ghost use Rattle.std.specs.List.{AllByRecursion};
-ghost use Rattle.im_syntax.specs.BoundFits.{BoundFits, FilterFits};
-ghost use Rattle.indexmap.specs.IndexMap.{spare};
-ghost use Rattle.im_syntax.specs.BoundFits.{ItemFits};
-ghost use Rattle.im_group.specs.Tallies.{all_taken, counted, CanJoin};
-ghost use Rattle.im_group.specs.Steps.{tallies_at, placed, so_far, with_row, first_groups, GroupsAre};
-ghost use Rattle.im_group.specs.Partials.{keyed};
-ghost use Rattle.im_values.specs.declared.value.Value.{Value as AnyValue};
-ghost use Rattle.im_group.specs.Partials as spec;
 ghost use Rattle.std.specs.Option.{ForSome};
+ghost use Rattle.indexmap.specs.IndexMap.{spare};
+ghost use Rattle.im_syntax.specs.BoundFits.{BoundFits, FilterFits, ItemFits};
+ghost use Rattle.im_group.specs.Holding.{CanJoinGroups, CanTake, as_groups, kept_values, lent, lent_key, own, with_first, with_group, with_taken};
+ghost use Rattle.im_group.specs.Partials as spec;
+ghost use Rattle.im_group.specs.Steps.{tallies_at, with_row, first_groups, GroupsAre};
+ghost use Rattle.im_group.specs.Tallies.{CanJoin};
 
 use crate::tallies::Tallies;
 use im_eval::holds;
@@ -48,7 +46,7 @@ pub fn wanted(alloc: Global, bound: &Bound) -> Result<Vec<Item>, NoMemory>
 /// Lends the values of a row in the columns of GROUP BY.
 fn lend_key<'a>(columns: &[u32], row: &'a [Value], key: &mut Vec<&'a Value>) -> Result<(), NoMemory>
     requires { AllByRecursion (λ column. column < length row.now) columns.now }
-    ensures { OnOk result (map (λ v. v.now) key.new.items ≡ spec.key_of columns.now row.now) }
+    ensures { OnOk result (lent_key key.new.items ≡ spec.key_of columns.now row.now) }
 {
     key.clear();
     for column in columns {
@@ -66,8 +64,8 @@ fn put_group<'a>(
     groups: &mut Lent<'a>,
 ) -> Result<(), NoMemory>
     requires fits { AllByRecursion (ItemFits row.now) wanted.now }
-    requires new { tallies_at (keyed (λ k. map (λ v. v.now) k.items) groups.old.entries) (map (λ v. v.now) key.now) ≡ None }
-    ensures { OnOk result (keyed (λ k. map (λ v. v.now) k.items) groups.new.entries ≡ placed (keyed (λ k. map (λ v. v.now) k.items) groups.old.entries) (map (λ v. v.now) key.now) (all_taken wanted.now (so_far wanted.now None) row.now)) }
+    requires new { tallies_at (lent groups.old.entries) (lent_key key.now) ≡ None }
+    ensures { OnOk result (lent groups.new.entries ≡ with_first wanted.now (lent groups.old.entries) (lent_key key.now) row.now) }
 {
     let mut tallies = Tallies::new(alloc, wanted)?;
     tallies.take(alloc, wanted, row)?;
@@ -84,8 +82,8 @@ fn take_row<'a>(
     groups: &mut Lent<'a>,
 ) -> Result<(), NoMemory>
     requires fits { AllByRecursion (ItemFits row.now) wanted.now }
-    requires few { AllByRecursion (λ t. counted t + 1 < 2 ^ 64) (so_far wanted.now (tallies_at (keyed (λ k. map (λ v. v.now) k.items) groups.old.entries) (map (λ v. v.now) key.now))) }
-    ensures { OnOk result (keyed (λ k. map (λ v. v.now) k.items) groups.new.entries ≡ placed (keyed (λ k. map (λ v. v.now) k.items) groups.old.entries) (map (λ v. v.now) key.now) (all_taken wanted.now (so_far wanted.now (tallies_at (keyed (λ k. map (λ v. v.now) k.items) groups.old.entries) (map (λ v. v.now) key.now))) row.now)) }
+    requires few { CanTake wanted.now (lent groups.old.entries) (lent_key key.now) }
+    ensures { OnOk result (lent groups.new.entries ≡ with_taken wanted.now (lent groups.old.entries) (lent_key key.now) row.now) }
 {
     match groups.get_mut(key) {
         Some(tallies) => tallies.take(alloc, wanted, row),
@@ -104,8 +102,8 @@ fn take_kept<'a>(
 ) -> Result<(), NoMemory>
     requires wanted { wanted.now ≡ spec.wanted bound.now }
     requires fits { BoundFits row.now bound.now }
-    requires few { AllByRecursion (λ t. counted t + 1 < 2 ^ 64) (so_far wanted.now (tallies_at (keyed (λ k. map (λ v. v.now) k.items) groups.old.entries) (spec.key_of bound.now.groups row.now))) }
-    ensures { OnOk result (keyed (λ k. map (λ v. v.now) k.items) groups.new.entries ≡ with_row bound.now (keyed (λ k. map (λ v. v.now) k.items) groups.old.entries) row.now) }
+    requires few { CanTake wanted.now (lent groups.old.entries) (spec.key_of bound.now.groups row.now) }
+    ensures { OnOk result (lent groups.new.entries ≡ with_row bound.now (lent groups.old.entries) row.now) }
 {
     if keeps(&bound.filter, row) {
         lend_key(bound.groups.items(), row.values(), key)?;
@@ -117,7 +115,7 @@ fn take_kept<'a>(
 
 /// The groups of no row: without GROUP BY there is one.
 fn no_rows<'a>(alloc: Global, columns: &[u32], wanted: &[Item]) -> Result<Lent<'a>, NoMemory>
-    ensures { IfOk result (λ groups. keyed (λ k. map (λ v. v.now) k.items) groups.entries ≡ first_groups columns.now wanted.now) }
+    ensures { IfOk result (λ groups. lent groups.entries ≡ first_groups columns.now wanted.now) }
 {
     let mut groups = IndexMap::new(alloc);
     if columns.is_empty() {
@@ -135,7 +133,7 @@ fn lent_groups<'a>(
 ) -> Result<Lent<'a>, NoMemory>
     requires wanted { wanted.now ≡ spec.wanted bound.now }
     requires fits { AllByRecursion (λ r. BoundFits r.1 bound.now) rows.now }
-    ensures groups { IfOk result (λ groups. GroupsAre bound.now (map (λ r. r.1) (spec.kept bound.now rows.now)) (keyed (λ k. map (λ v. v.now) k.items) groups.entries)) }
+    ensures groups { IfOk result (λ groups. GroupsAre bound.now (kept_values bound.now rows.now) (lent groups.entries)) }
 {
     let mut groups = no_rows(alloc, bound.groups.items(), wanted)?;
     let mut key = Vec::with_capacity(alloc, bound.groups.items().len())?;
@@ -158,8 +156,8 @@ fn owned_key(alloc: Global, values: &[&Value]) -> Result<Vec<Value>, NoMemory>
 
 /// Puts a group with a new key behind the others.
 fn put_new(groups: &mut Groups, key: Vec<Value>, tallies: Tallies) -> Result<(), NoMemory>
-    requires { tallies_at (keyed (λ k. k.items) groups.old.entries) key.items ≡ None }
-    ensures { OnOk result (keyed (λ k. k.items) groups.new.entries ≡ keyed (λ k. k.items) groups.old.entries ++ (key.items, tallies) ∷ []) }
+    requires { tallies_at (own groups.old.entries) key.items ≡ None }
+    ensures { OnOk result (own groups.new.entries ≡ own groups.old.entries ++ (key.items, tallies) ∷ []) }
 {
     groups.insert(key, tallies)?;
     Ok(())
@@ -170,7 +168,7 @@ fn put_new(groups: &mut Groups, key: Vec<Value>, tallies: Tallies) -> Result<(),
 /// It costs one look-up a row, and copies the values of a key once for each group.
 pub fn groups_of(alloc: Global, bound: &Bound, rows: &[(u64, Row)]) -> Result<Groups, NoMemory>
     requires fits { AllByRecursion (λ r. BoundFits r.1 bound.now) rows.now }
-    ensures { IfOk result (λ groups. spec.held (λ k. k.items) groups.entries ≡ spec.groups_of bound.now (map (λ r. r.1) (spec.kept bound.now rows.now))) }
+    ensures { IfOk result (λ groups. as_groups groups.entries ≡ spec.groups_of bound.now (kept_values bound.now rows.now)) }
 {
     let wanted = wanted(alloc, bound)?;
     let lent = lent_groups(alloc, bound, wanted.as_slice(), rows)?;
@@ -194,7 +192,7 @@ fn copy_key(alloc: Global, values: &[Value]) -> Result<Vec<Value>, NoMemory>
 
 /// The same groups once more.
 pub fn copy_groups(alloc: Global, groups: &Groups) -> Result<Groups, NoMemory>
-    ensures { IfOk result (λ copies. spec.held (λ k. k.items) copies.entries ≡ spec.held (λ k. k.items) groups.now.entries) }
+    ensures { IfOk result (λ copies. as_groups copies.entries ≡ as_groups groups.now.entries) }
 {
     let mut copies = IndexMap::new(alloc);
     copies.reserve(groups.len())?;
@@ -211,8 +209,8 @@ pub fn copy_groups(alloc: Global, groups: &Groups) -> Result<Groups, NoMemory>
 /// A group of another part joins that of the same key, or is put behind the groups. There is room for it.
 fn join_group(groups: &mut Groups, key: Vec<Value>, tallies: Tallies)
     requires room { 0 < spare groups.old }
-    requires few { ForSome (tallies_at (keyed (λ k. k.items) groups.old.entries) key.items) (λ old. CanJoin old tallies) }
-    ensures groups { keyed (λ k. k.items) groups.new.entries ≡ placed (keyed (λ k. k.items) groups.old.entries) key.items (spec.with_tallies (tallies_at (keyed (λ k. k.items) groups.old.entries) key.items) tallies) }
+    requires few { ForSome (tallies_at (own groups.old.entries) key.items) (λ old. CanJoin old tallies) }
+    ensures groups { own groups.new.entries ≡ with_group (own groups.old.entries) key.items tallies }
     ensures room { spare groups.old ≤ spare groups.new + 1 }
 {
     match groups.get_mut(&key) {
@@ -225,9 +223,9 @@ fn join_group(groups: &mut Groups, key: Vec<Value>, tallies: Tallies)
 
 /// The groups of another part join these. Where memory lacks, these are as before.
 pub fn join_groups(groups: &mut Groups, others: Groups) -> Result<(), NoMemory>
-    requires few { (key : List AnyValue) → ForSome (tallies_at (keyed (λ k. k.items) groups.old.entries) key) (λ ts. ForSome (tallies_at (keyed (λ k. k.items) others.entries) key) (λ us. CanJoin ts us)) }
-    ensures ok { OnOk result (spec.held (λ k. k.items) groups.new.entries ≡ spec.joined_groups (spec.held (λ k. k.items) groups.old.entries) (spec.held (λ k. k.items) others.entries)) }
-    ensures err { OnErr result (spec.held (λ k. k.items) groups.new.entries ≡ spec.held (λ k. k.items) groups.old.entries) }
+    requires few { CanJoinGroups (own groups.old.entries) (own others.entries) }
+    ensures ok { OnOk result (as_groups groups.new.entries ≡ spec.joined_groups (as_groups groups.old.entries) (as_groups others.entries)) }
+    ensures err { OnErr result (as_groups groups.new.entries ≡ as_groups groups.old.entries) }
 {
     groups.reserve(others.len())?;
     for (key, tallies) in others {

@@ -1,9 +1,9 @@
-ghost use Rattle.std.specs.Prelude.{◌≡◌, ◌++◌, List, ℕ, IfOk, OnOk, OnErr, map};
+ghost use Rattle.std.specs.Prelude.{◌≡◌, ◌++◌, IfOk, OnOk, OnErr, map};
 ghost use Rattle.std.specs.List.{AllByRecursion};
 ghost use Rattle.im_syntax.specs.BoundFits.{BoundFits};
+ghost use Rattle.im_group.specs.Holding.{as_groups, held_records};
 ghost use Rattle.im_group.specs.Partials as spec;
-ghost use Rattle.im_group.specs.Answers.{finished, group_cells, records};
-ghost use Rattle.std.specs.FinMap as map_of;
+ghost use Rattle.im_group.specs.Answers.{finished, group_records, records};
 
 use crate::cell::Cell;
 use crate::grouping::{Groups, copy_groups, groups_of, join_groups, keeps, wanted};
@@ -73,7 +73,7 @@ fn put_records(
     groups: Groups,
     records: &mut Vec<Record>,
 ) -> Result<(), NoMemory>
-    ensures { OnOk result (records.new.items ≡ records.old.items ++ map (λ g. group_cells bound.now.groups g.0.items wanted.now g.1) groups.entries) }
+    ensures { OnOk result (records.new.items ≡ records.old.items ++ held_records bound.now.groups wanted.now groups.entries) }
 {
     for (key, tallies) in groups {
         let columns = bound.groups.items();
@@ -89,7 +89,7 @@ fn group_records(
     wanted: &[Item],
     mut groups: Groups,
 ) -> Result<Vec<Record>, NoMemory>
-    ensures { IfOk result (λ records. records.items ≡ map (λ g. group_cells bound.now.groups g.0 wanted.now g.1) (map_of.entries (spec.held (λ k. k.items) groups.entries))) }
+    ensures { IfOk result (λ records. records.items ≡ group_records bound.now.groups wanted.now (as_groups groups.entries)) }
 {
     let mut records = Vec::with_capacity(alloc, groups.len())?;
     groups.sort_by(|left, _, right, _| order_keys(left.as_slice(), right.as_slice()))?;
@@ -106,7 +106,7 @@ fn records_of(
     groups: Groups,
 ) -> Result<Vec<Record>, NoMemory>
     requires { wanted.now ≡ spec.wanted bound.now }
-    ensures { IfOk result (λ made. made.items ≡ records bound.now (record { rows = rows.now; groups = spec.held (λ k. k.items) groups.entries })) }
+    ensures { IfOk result (λ made. made.items ≡ records bound.now (record { rows = rows.now; groups = as_groups groups.entries })) }
 {
     if bound.grouped {
         group_records(alloc, bound, wanted, groups)
@@ -146,13 +146,14 @@ impl Partial {
         })
     }
 
-    /// Takes what later rows give to the same query. Where memory lacks, this one is as before and the other is dropped.
+    /// Takes what later rows give to the same query.
     ///
-    /// It costs the rows or the groups of the other.
+    /// Where memory lacks, this one is as before and the other is dropped. It costs the rows or the groups of the
+    /// other.
     pub fn merge(&mut self, other: Partial) -> Result<(), NoMemory>
         requires few { spec.CanMerge self.old other }
         ensures merged { OnOk result (self.new ≡ spec.merged self.old other) }
-        ensures parts { OnOk result ((bound : Bound) (front back : List spec.Numbered) → self.old ≡ spec.partial bound front → other ≡ spec.partial bound back → self.new ≡ spec.partial bound (front ++ back)) }
+        ensures parts { OnOk result (spec.IsPartOfBoth self.old other self.new) }
         ensures err { OnErr result (self.new ≡ self.old) }
     {
         let Partial { mut rows, groups } = other;
