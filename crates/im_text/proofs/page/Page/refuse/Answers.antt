@@ -1,0 +1,13 @@
+use Rattle.std.proofs.Common.{codes, map, decimal, ◌∷◌}
+use Rattle.im_text.proofs.PageLemmas.{adds-more, whole-ok}
+use Rattle.im_text.proofs.page.Page.refuse.Goals as goal
+
+pub returns : goal.returns
+returns c =
+    let numbers = map decimal c.args.numbers.now in
+    let word = rw c.as_bytes-2.ensures.value at c.in_ok-put-3.ensures in
+    let code = rw c.as_bytes.ensures.value at c.in_ok-put-2.ensures in
+    let from_word = adds-more _ _ _ c.args.word.now numbers word c.in_ok-put_each_number.ensures in
+    let from_code = adds-more _ _ _ c.args.code.now (c.args.word.now ∷ numbers) code from_word in
+    let fields = adds-more _ _ _ (codes "error") (c.args.code.now ∷ c.args.word.now ∷ numbers) c.in_ok-put.ensures from_code in
+    whole-ok _ _ _ _ _ (codes "error" ∷ c.args.code.now ∷ c.args.word.now ∷ numbers) c.in_ok-begin.ensures fields c.end.ensures

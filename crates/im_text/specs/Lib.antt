@@ -1,0 +1,10 @@
+pub mod Fields
+pub mod Records
+pub mod Cells
+pub mod Extents
+pub mod Tasks
+pub mod Faults
+pub mod Bodies
+pub mod Replies
+pub mod Shown
+pub mod Pages
