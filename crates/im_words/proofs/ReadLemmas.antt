@@ -1,0 +1,52 @@
+-- From what `clap` answers to what the words come to.
+use Rattle.std.proofs.Common.{◌≡◌, ◌∙◌, ap, ap₂, refl, sym, subst, List, [], ◌∷◌, ℕ, true, map, inl, inr}
+use Rattle.std.specs.Prelude.{Result, Ok, Err, IfErr, IsErrAnd}
+use Rattle.clap.specs.Words.{App, HasKind, HasMatchesOf, Text, app_of, fault_of, found_of, IsAmong, is_simple, is_simple_and_free, kind_of, matches_of, rows_of}
+use Rattle.clap.specs.declared.error.Error.{Error}
+use Rattle.clap.specs.declared.error.kind.ErrorKind.{ErrorKind}
+use Rattle.clap.specs.declared.error.kind.ErrorKind.TheVariants.{OutOfMemory}
+use Rattle.clap.specs.declared.parser.matches.ArgMatches.{ArgMatches}
+use Rattle.im_words.specs.Asked.{asked_in}
+use Rattle.im_words.specs.Command.{IsCommand, Held, Refuses, Takes, command, fault_by}
+use Rattle.im_words.specs.declared.asked.Asked.{Asked}
+use Rattle.im_words.specs.declared.fault.WordsFault.{WordsFault}
+use Rattle.im_words.specs.declared.fault.WordsFault.TheVariants.{Usage}
+
+pub map-same : (ws : List Text) → map (λ w. w) ws ≡ ws
+map-same [] = refl
+map-same (w ∷ ws) = ap (λ rest. w ∷ rest) (map-same ws)
+
+pub if_err : {T E : Type 0} (r : Result T E) (P Q : E → Type 0) → IsErrAnd r P → ((e : E) → P e → Q e) → IfErr r Q
+if_err (Ok x) P Q h so = absurd h
+if_err (Err e) P Q h so = so e h
+
+simple_free : (held : Held) → is_simple_and_free (command held) ≡ true
+simple_free held = refl
+
+simple : (held : Held) → is_simple (command held) ≡ true
+simple held = refl
+
+not_memory : (kind : ErrorKind) (fault : WordsFault) → kind ≡ OutOfMemory → fault ≡ fault_by kind → fault ≡ Usage → ⊥
+not_memory kind fault memory by usage =
+    let bad : Usage ≡ fault_by OutOfMemory = sym usage ∙ (by ∙ ap fault_by memory) in
+    cc
+
+pub refuses : (app : App) (ws words : List Text) (e : Error) (fault : WordsFault) → IsCommand app → ws ≡ words
+    → (is_simple_and_free app ≡ true → HasKind (fault_of app ws) e) → fault ≡ fault_by (kind_of e) → fault ≡ Usage → Refuses words
+refuses app ws words e fault is same kinds by usage =
+    go (kinds (ap is_simple_and_free is.2 ∙ simple_free is.0))
+  where
+    go : HasKind (fault_of app ws) e → Refuses words
+    go (inl memory) = absurd (not_memory (kind_of e) fault memory by usage)
+    go (inr among) = (app, is, λ none.
+        subst (λ kinds. IsAmong (kind_of e) kinds) (ap (fault_of app) same ∙ none) among)
+
+pub takes_them : (app : App) (ws words : List Text) (m : ArgMatches) (asked : Asked) → IsCommand app → ws ≡ words
+    → (is_simple_and_free app ≡ true → fault_of app ws ≡ []) → HasMatchesOf app ws m
+    → asked ≡ asked_in (rows_of (found_of m)) → Takes words asked
+takes_them app ws words m asked is same kinds matches read = (
+  app,
+  is,
+  ap (fault_of app) (sym same) ∙ kinds (ap is_simple_and_free is.2 ∙ simple_free is.0),
+  read ∙ ap asked_in ((matches (ap is_simple is.2 ∙ simple is.0)).0 ∙ ap (matches_of app) same),
+)

@@ -1,0 +1,23 @@
+ghost use Rattle.std.specs.Prelude.{◌≡◌};
+ghost use Rattle.im_words.specs.Asked as spec;
+
+/// What the program does.
+#[derive(Clone, Copy, Debug, PartialEq, Eq)]
+pub enum Mode {
+    /// It plays the script of its standard input.
+    Run,
+}
+
+/// The names of the modes, one for each variant of [`Mode`]. `clap` refuses every other.
+pub static NAMES: [&str; 1] = ["run"];
+
+impl Mode {
+    /// The mode of a name among [`NAMES`]. Each further mode has an arm of its own above the last.
+    pub fn called(name: &str) -> Mode
+        ensures { result ≡ spec.mode_called name.now }
+    {
+        match name {
+            _ => Mode::Run,
+        }
+    }
+}

@@ -1,0 +1,63 @@
+ghost use Rattle.std.specs.Prelude.{◌≡◌, ◌≤◌, List, IfOk, IfErr};
+ghost use Rattle.clap.specs.Words.{app_of, found_of, rows_of};
+ghost use Rattle.im_words.specs.Asked as spec;
+ghost use Rattle.im_words.specs.Command.{IsCommand, Refuses, Takes};
+ghost use Rattle.im_words.specs.Setting as setting;
+
+use crate::asked::Asked;
+use crate::command::{MODE, command};
+use crate::fault::WordsFault;
+use crate::mode::Mode;
+use crate::setting::Setting;
+use crate::word::Word;
+use clap::ArgMatches;
+use std::alloc::Global;
+
+/// The number of a setting, or its usual one where the words do not set it.
+fn number_of(matches: &ArgMatches<'_>, setting: Setting) -> u64
+    ensures number { result ≡ spec.number_in (rows_of (found_of matches.now)) setting }
+    ensures range { spec.IsFor setting result }
+{
+    match matches.get_one::<u64>(setting.name()) {
+        Some(number) if setting.allows(number) => number,
+        _ => setting.usual(),
+    }
+}
+
+/// The mode that the matches name.
+fn mode_of(matches: &ArgMatches<'_>) -> Mode
+    ensures { result ≡ spec.mode_in (rows_of (found_of matches.now)) }
+{
+    match matches.get_str(MODE) {
+        Some(name) => Mode::called(name),
+        None => Mode::Run,
+    }
+}
+
+/// What the matches ask for.
+fn asked_of(matches: &ArgMatches<'_>) -> Asked
+    ensures asked { result ≡ spec.asked_in (rows_of (found_of matches.now)) }
+    ensures ranges { spec.IsInRange result }
+{
+    Asked {
+        mode: mode_of(matches),
+        area: number_of(matches, Setting::Area),
+        workers: number_of(matches, Setting::Workers) as u32,
+        turns: number_of(matches, Setting::Turns),
+        rows: number_of(matches, Setting::Rows),
+        seed: number_of(matches, Setting::Seed) as u32,
+    }
+}
+
+/// Reads the words of the command line, the program's name first.
+///
+/// They are the name of a mode and up to five options, `--area N`, `--workers N`, `--turns N`,
+/// `--rows N` and `--seed N`, in any order. A number may stand as a word of its own or behind `=`.
+pub fn read_words(alloc: Global, words: &[Word]) -> Result<Asked, WordsFault>
+    ensures taken { IfOk result (λ asked. Takes words.now asked) }
+    ensures usage { IfErr result (λ fault. fault ≡ WordsFault.Usage → Refuses words.now) }
+    ensures ranges { IfOk result spec.IsInRange }
+{
+    let matches = command(alloc)?.try_get_matches_from(words)?;
+    Ok(asked_of(&matches))
+}
