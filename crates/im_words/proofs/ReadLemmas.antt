@@ -1,16 +1,16 @@
 -- From what `clap` answers to what the words come to.
 use Rattle.std.proofs.Common.{◌≡◌, ◌∙◌, ap, ap₂, refl, sym, subst, List, [], ◌∷◌, ℕ, true, map, inl, inr}
-use Rattle.std.specs.Prelude.{Result, Ok, Err, IfErr, IsErrAnd}
+use Rattle.std.specs.Prelude.{Result, Ok, Err, IfErr, IsErrAnd, MatchResult}
 use Rattle.clap.specs.Words.{App, HasKind, HasMatchesOf, Text, app_of, fault_of, found_of, IsAmong, is_simple, is_simple_and_free, kind_of, matches_of, rows_of}
 use Rattle.clap.specs.declared.error.Error.{Error}
 use Rattle.clap.specs.declared.error.kind.ErrorKind.{ErrorKind}
 use Rattle.clap.specs.declared.error.kind.ErrorKind.TheVariants.{OutOfMemory}
 use Rattle.clap.specs.declared.parser.matches.ArgMatches.{ArgMatches}
 use Rattle.im_words.specs.Asked.{asked_in}
-use Rattle.im_words.specs.Command.{IsCommand, Held, Refuses, Takes, command, fault_by}
+use Rattle.im_words.specs.Command.{IsCommand, ModeNames, Refuses, Takes, command, fault_by}
 use Rattle.im_words.specs.declared.asked.Asked.{Asked}
 use Rattle.im_words.specs.declared.fault.WordsFault.{WordsFault}
-use Rattle.im_words.specs.declared.fault.WordsFault.TheVariants.{Usage}
+use Rattle.im_words.specs.declared.fault.WordsFault.TheVariants.{NoMemory, Usage}
 
 pub map-same : (ws : List Text) → map (λ w. w) ws ≡ ws
 map-same [] = refl
@@ -20,11 +20,11 @@ pub if_err : {T E : Type 0} (r : Result T E) (P Q : E → Type 0) → IsErrAnd r
 if_err (Ok x) P Q h so = absurd h
 if_err (Err e) P Q h so = so e h
 
-simple_free : (held : Held) → is_simple_and_free (command held) ≡ true
-simple_free held = refl
+simple_free : (names : ModeNames) → is_simple_and_free (command names) ≡ true
+simple_free names = refl
 
-simple : (held : Held) → is_simple (command held) ≡ true
-simple held = refl
+simple : (names : ModeNames) → is_simple (command names) ≡ true
+simple names = refl
 
 not_memory : (kind : ErrorKind) (fault : WordsFault) → kind ≡ OutOfMemory → fault ≡ fault_by kind → fault ≡ Usage → ⊥
 not_memory kind fault memory by usage =
@@ -38,8 +38,12 @@ refuses app ws words e fault is same kinds by usage =
   where
     go : HasKind (fault_of app ws) e → Refuses words
     go (inl memory) = absurd (not_memory (kind_of e) fault memory by usage)
-    go (inr among) = (app, is, λ none.
-        subst (λ kinds. IsAmong (kind_of e) kinds) (ap (fault_of app) same ∙ none) among)
+    go (inr among) = (
+      app,
+      is,
+      λ none.
+          subst (λ kinds. IsAmong (kind_of e) kinds) (ap (fault_of app) same ∙ none) among,
+    )
 
 pub takes_them : (app : App) (ws words : List Text) (m : ArgMatches) (asked : Asked) → IsCommand app → ws ≡ words
     → (is_simple_and_free app ≡ true → fault_of app ws ≡ []) → HasMatchesOf app ws m
@@ -50,3 +54,17 @@ takes_them app ws words m asked is same kinds matches read = (
   ap (fault_of app) (sym same) ∙ kinds (ap is_simple_and_free is.2 ∙ simple_free is.0),
   read ∙ ap asked_in ((matches (ap is_simple is.2 ∙ simple is.0)).0 ∙ ap (matches_of app) same),
 )
+
+-- good words fail for want of memory alone
+pub good_fails : (app : App) (ws words : List Text) (e : Error) (fault : WordsFault) → IsCommand app → ws ≡ words → fault_of app words ≡ []
+    → (is_simple_and_free app ≡ true → HasKind (fault_of app ws) e) → fault ≡ fault_by (kind_of e) → fault ≡ NoMemory
+good_fails app ws words e fault is same none kinds by =
+    go (subst (λ faults. HasKind faults e) (ap (fault_of app) same ∙ none) (kinds (ap is_simple_and_free is.2 ∙ simple_free is.0)))
+  where
+    go : HasKind [] e → fault ≡ NoMemory
+    go (inl memory) = by ∙ ap fault_by memory
+    go (inr among) = absurd among
+
+pub match_err : {T E : Type 0} (r : Result T E) (P Q : E → Type 0) (R : T → Type 0) → IsErrAnd r P → ((e : E) → P e → Q e) → MatchResult r R Q
+match_err (Ok x) P Q R h so = absurd h
+match_err (Err e) P Q R h so = so e h

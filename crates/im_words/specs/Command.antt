@@ -26,22 +26,22 @@ setting_rule s = record (new_rule (name_of s)) {
 }
 
 -- names, as `clap` holds them behind references
-abbrev pub Held : Type 0
-Held = Bor (List (Bor Text))
+abbrev pub ModeNames : Type 0
+ModeNames = Bor (List (Bor Text))
 
 -- the names are those of the modes
-abbrev pub AreModes : Held → Type 0
-AreModes held = map (λ name. name.now) held.now ≡ codes "run" ∷ []
+abbrev pub AreModes : ModeNames → Type 0
+AreModes names = map (λ name. name.now) names.now ≡ codes "run" ∷ []
 
 -- the argument that is the name of a mode, and may not be left out
-abbrev pub mode_rule : Held → Rule
-mode_rule held = record (new_rule (codes "mode")) {
+abbrev pub mode_rule : ModeNames → Rule
+mode_rule names = record (new_rule (codes "mode")) {
   required = true;
-  parser = Some (parsers.Names held);
+  parser = Some (parsers.Names names);
 }
 
 abbrev pub IsModeRule : Rule → Type 0
-IsModeRule rule = (held : Held) × AreModes held × (rule ≡ mode_rule held)
+IsModeRule rule = (names : ModeNames) × AreModes names × (rule ≡ mode_rule names)
 
 -- a command with no argument, which does not answer `--help`
 abbrev pub bare : App
@@ -50,9 +50,9 @@ bare = record (new_app (codes "ime")) {
 }
 
 -- a mode, and each setting at most once
-abbrev pub command : Held → App
-command held = with_rule (with_rule (with_rule (with_rule (with_rule (with_rule bare
-    (mode_rule held))
+abbrev pub command : ModeNames → App
+command names = with_rule (with_rule (with_rule (with_rule (with_rule (with_rule bare
+    (mode_rule names))
     (setting_rule Area))
     (setting_rule Workers))
     (setting_rule Turns))
@@ -60,7 +60,7 @@ command held = with_rule (with_rule (with_rule (with_rule (with_rule (with_rule 
     (setting_rule Seed)
 
 abbrev pub IsCommand : App → Type 0
-IsCommand app = (held : Held) × AreModes held × (app ≡ command held)
+IsCommand app = (names : ModeNames) × AreModes names × (app ≡ command names)
 
 -- the command refuses the words
 abbrev pub Refuses : List Text → Type 0

@@ -1,3 +1,4 @@
 pub mod Setting
 pub mod Command
 pub mod Asked
+pub mod Good

@@ -1,8 +1,8 @@
-ghost use Rattle.std.specs.Prelude.{◌≡◌, ◌≤◌, List, IfOk, IfErr};
-ghost use Rattle.clap.specs.Words.{app_of, found_of, rows_of};
+ghost use Rattle.std.specs.Prelude.{◌≡◌, IfOk, IfErr, MatchResult};
+ghost use Rattle.clap.specs.Words.{found_of, rows_of};
 ghost use Rattle.im_words.specs.Asked as spec;
-ghost use Rattle.im_words.specs.Command.{IsCommand, Refuses, Takes};
-ghost use Rattle.im_words.specs.Setting as setting;
+ghost use Rattle.im_words.specs.Command.{Refuses, Takes};
+ghost use Rattle.im_words.specs.Good.{IsGood};
 
 use crate::asked::Asked;
 use crate::command::{MODE, command};
@@ -54,6 +54,8 @@ fn asked_of(matches: &ArgMatches<'_>) -> Asked
 /// They are the name of a mode and up to five options, `--area N`, `--workers N`, `--turns N`,
 /// `--rows N` and `--seed N`, in any order. A number may stand as a word of its own or behind `=`.
 pub fn read_words(alloc: Global, words: &[Word]) -> Result<Asked, WordsFault>
+    ensures good { (asked : Asked) → IsGood words.now asked
+        → MatchResult result (λ read. read ≡ asked) (λ fault. fault ≡ WordsFault.NoMemory) }
     ensures taken { IfOk result (λ asked. Takes words.now asked) }
     ensures usage { IfErr result (λ fault. fault ≡ WordsFault.Usage → Refuses words.now) }
     ensures ranges { IfOk result spec.IsInRange }
