@@ -18,7 +18,7 @@ use Rattle.clap.proofs.FaultLemmas.{leaf_fault}
 use Rattle.clap.proofs.OnLiterals.{clap_on_literals}
 use Rattle.im_words.proofs.ItemLemmas.{differs, row_for, rule_for, still_fresh}
 use Rattle.im_words.proofs.StepLemmas.{IsAtMode, IsPlain, Passes, Settles, Walks, between, item_walks, position_after, rules, shape}
-use Rattle.im_words.specs.Command.{AreModes, ModeNames, command}
+use Rattle.im_words.specs.Command.{AreModes, ModeNames, command_with}
 use Rattle.im_words.specs.Good.{HasNumber, Item, Text, about, apart, joined, mode, mode_among, said, said_of, spelled}
 use Rattle.im_words.specs.Setting.{name_of}
 use Rattle.im_words.specs.declared.mode.Mode.{Mode}

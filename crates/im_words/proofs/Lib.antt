@@ -6,3 +6,4 @@ mod StepLemmas
 mod NumberTextLemmas
 mod GoodLemmas
 mod TakenLemmas
+mod PlaceLemmas

@@ -12,7 +12,7 @@ use Rattle.clap.specs.Facts.{parser_of_value}
 use Rattle.clap.specs.Walk.{Held, Row, Rule, Walk, arg_by_id, arg_by_index, arg_by_long, has_row, idle, is_pending, option, settled_rows, used, walked}
 use Rattle.clap.proofs.OnLiterals.{clap_on_literals}
 use Rattle.im_words.proofs.ItemLemmas.{full, full_mode, row_for, rule_for, used_first}
-use Rattle.im_words.specs.Command.{AreModes, ModeNames, command}
+use Rattle.im_words.specs.Command.{AreModes, ModeNames, command_with}
 use Rattle.im_words.specs.Good.{Item, Text, about, apart, joined, mode, name_of_mode, said, spelled}
 use Rattle.im_words.specs.Setting.{name_of}
 use Rattle.im_words.specs.declared.mode.Mode.TheVariants.{Run}
@@ -24,7 +24,7 @@ abbrev pub rules : ModeNames → List Rule
 rules names = full_mode names ∷ full Area ∷ full Workers ∷ full Turns ∷ full Rows ∷ full Seed ∷ []
 
 abbrev pub shape : ModeNames → Shape
-shape names = (built (command names)).top
+shape names = (built (command_with names)).top
 
 pub rules_are : (names : ModeNames) → (shape names).rules ≡ rules names
 rules_are names = refl

@@ -6,7 +6,7 @@ use Rattle.std.specs.Str.{bytes_eq}
 use Rattle.std.specs.Str.Parse.{digits_value}
 use Rattle.std.proofs.lemmas.Slice.Eq.{bytes_eq-Decides}
 use Rattle.clap.specs.Faults.{default_fault, defaults_fault, level_fault, walk_fault}
-use Rattle.clap.specs.Simple.{App, built}
+use Rattle.clap.specs.Simple.{built}
 use Rattle.clap.specs.Takes.{is_given}
 use Rattle.clap.specs.Walk.{Held, Row, Rule, finished, has_row, nothing_held, one_of, walk, walk_from, with_default}
 use Rattle.clap.specs.Words.{fault_of, matches_of}
@@ -16,7 +16,7 @@ use Rattle.im_words.proofs.ItemLemmas.{row_for}
 use Rattle.im_words.proofs.NumberTextLemmas.{items_pass, items_plain, number_is}
 use Rattle.im_words.proofs.StepLemmas.{Settles, Walks, rules, shape}
 use Rattle.im_words.specs.Asked.{asked_in, mode_by, mode_in, number_by, number_in}
-use Rattle.im_words.specs.Command.{AreModes, IsCommand, ModeNames, command}
+use Rattle.im_words.specs.Command.{AreModes, ModeNames, command_with}
 use Rattle.im_words.specs.Good.{HasNumber, IsGood, IsNumberFor, Item, Text, about, apart, joined, mode, mode_among, number_among, said, said_of, spelled}
 use Rattle.im_words.specs.Setting.{name_of, usual_of}
 use Rattle.im_words.specs.declared.asked.Asked.{Asked}
@@ -41,16 +41,16 @@ one_fault rows a none = go (has_row a.id rows) refl
     go true b = rw b refl
     go false b = rw (b, none) refl
 
-no_defaults : (rows : List Row) (rest : List Rule) → AllByRecursion (λ a. a.defaults ≡ []) rest → fold with_default rows rest ≡ rows
+pub no_defaults : (rows : List Row) (rest : List Rule) → AllByRecursion (λ a. a.defaults ≡ []) rest → fold with_default rows rest ≡ rows
 no_defaults rows [] h = refl
 no_defaults rows (a ∷ rest) h = ap (λ r. fold with_default r rest) (one_default rows a h.0) ∙ no_defaults rows rest h.1
 
-no_default_fault : (rows : List Row) (rest : List Rule) → AllByRecursion (λ a. a.defaults ≡ []) rest → defaults_fault rows rest ≡ []
+pub no_default_fault : (rows : List Row) (rest : List Rule) → AllByRecursion (λ a. a.defaults ≡ []) rest → defaults_fault rows rest ≡ []
 unfolding defaults_fault
 no_default_fault rows [] h = refl
 no_default_fault rows (a ∷ rest) h = rw (one_fault rows a h.0, one_default rows a h.0) (no_default_fault rows rest h.1)
 
-rules_plain : (names : ModeNames) → AllByRecursion (λ a. a.defaults ≡ []) (rules names)
+pub rules_plain : (names : ModeNames) → AllByRecursion (λ a. a.defaults ≡ []) (rules names)
 rules_plain names = (refl, (refl, (refl, (refl, (refl, (refl, tt))))))
 
 -- ---- the mode is there
@@ -177,23 +177,17 @@ walk_of names are words asked g = items_walk names g.items nothing_held 1 [] (re
     (taken_first names are g.items words asked g refl) (λ none. refl)
 
 pub good_words : (names : ModeNames) → AreModes names → (words : List Text) (asked : Asked) → IsGood words asked
-    → (fault_of (command names) words ≡ []) × (asked_in (matches_of (command names) words) ≡ asked)
+    → (fault_of (command_with names) words ≡ []) × (asked_in (matches_of (command_with names) words) ≡ asked)
 good_words names are words asked g =
     let e = walk_of names are words asked g in
     let held = ap (λ w. w.held) e.walks.goes in
     let given = mode_given g.items asked.mode g.mode in
     let level = level_passes names (flat_map spelled g.items) e.walks.held (map row_for g.items) e.walks.fault held e.walks.settles given in
     let rows = rows_kept names (flat_map spelled g.items) e.walks.held (map row_for g.items) held e.walks.settles in (
-      ap (fault_of (command names)) g.spelling ∙ (leaf_fault (built (command names)) nothing_held (flat_map spelled g.items) refl ∙ level),
-      ap (λ ws. asked_in (matches_of (command names) ws)) g.spelling ∙ (ap asked_in rows ∙ asked_same (asked_in (map row_for g.items)) asked
+      ap (fault_of (command_with names)) g.spelling ∙ (leaf_fault (built (command_with names)) nothing_held (flat_map spelled g.items) refl ∙ level),
+      ap (λ ws. asked_in (matches_of (command_with names) ws)) g.spelling ∙ (ap asked_in rows ∙ asked_same (asked_in (map row_for g.items)) asked
           (read_as_run _ ∙ sym (is_run asked.mode))
           (number_said Area g.items g.numbers ∙ sym g.area) (number_said Workers g.items g.numbers ∙ sym g.workers)
           (number_said Turns g.items g.numbers ∙ sym g.turns) (number_said Rows g.items g.numbers ∙ sym g.rows)
           (number_said Seed g.items g.numbers ∙ sym g.seed)),
     )
-
-pub good_taken : (app : App) → IsCommand app → (words : List Text) (asked : Asked) → IsGood words asked
-    → (fault_of app words ≡ []) × (asked_in (matches_of app words) ≡ asked)
-good_taken app is words asked g =
-    let both = good_words is.0 is.1 words asked g in
-    (ap (λ a. fault_of a words) is.2 ∙ both.0, ap (λ a. asked_in (matches_of a words)) is.2 ∙ both.1)

@@ -50,8 +50,8 @@ bare = record (new_app (codes "ime")) {
 }
 
 -- a mode, and each setting at most once
-abbrev pub command : ModeNames → App
-command names = with_rule (with_rule (with_rule (with_rule (with_rule (with_rule bare
+abbrev pub command_with : ModeNames → App
+command_with names = with_rule (with_rule (with_rule (with_rule (with_rule (with_rule bare
     (mode_rule names))
     (setting_rule Area))
     (setting_rule Workers))
@@ -60,13 +60,22 @@ command names = with_rule (with_rule (with_rule (with_rule (with_rule (with_rule
     (setting_rule Seed)
 
 abbrev pub IsCommand : App → Type 0
-IsCommand app = (names : ModeNames) × AreModes names × (app ≡ command names)
+IsCommand app = (names : ModeNames) × AreModes names × (app ≡ command_with names)
+
+-- a reference, at a place that no parse depends on
+abbrev pub somewhere : {X : Type 0} → X → Bor X
+somewhere x = record { ref_ptr = (0, 0); now = x }
+
+abbrev pub modes : ModeNames
+modes = somewhere (somewhere (codes "run") ∷ [])
+
+abbrev pub command : App
+command = command_with modes
 
 -- the command refuses the words
 abbrev pub Refuses : List Text → Type 0
-Refuses words = (app : App) × IsCommand app × (fault_of app words ≢ [])
+Refuses words = fault_of command words ≢ []
 
 -- the command takes the words, and this is what its matches ask for
 abbrev pub Takes : List Text → Asked → Type 0
-Takes words asked = (app : App) × IsCommand app × (fault_of app words ≡ [])
-    × (asked ≡ asked_in (matches_of app words))
+Takes words asked = (fault_of command words ≡ []) × (asked ≡ asked_in (matches_of command words))

@@ -1,6 +1,7 @@
-use Rattle.std.proofs.Common.{◌∙◌}
+use Rattle.std.proofs.Common.{◌∙◌, refl}
 use Rattle.im_words.proofs.ReadLemmas.{good_fails, if_err, map-same, match_err, refuses, takes_them}
-use Rattle.im_words.proofs.TakenLemmas.{good_taken}
+use Rattle.im_words.proofs.TakenLemmas.{good_words}
+use Rattle.im_words.specs.Command.{modes}
 use Rattle.im_words.proofs.read.read_words.Goals as goal
 
 pub returns-in_err-matches-clause-usage : goal.returns-in_err-matches-clause-usage
@@ -17,10 +18,10 @@ pub returns-in_err-matches-clause-good : goal.returns-in_err-matches-clause-good
 returns-in_err-matches-clause-good c asked good =
     match_err _ _ _ _ c.from_residual-in_err-matches.ensures.1 (λ fault by.
     good_fails _ _ _ c.in_err-matches.field-0.0 fault c.in_ok-command.ensures (map-same c.args.words.now)
-    (good_taken _ c.in_ok-command.ensures c.args.words.now asked good).0 c.in_err-matches.ensures.kinds by)
+    (good_words modes refl c.args.words.now asked good).0 c.in_err-matches.ensures.kinds by)
 
 pub returns-clause-good : goal.returns-clause-good
 returns-clause-good c asked good =
     let taken = takes_them _ _ _ _ _ c.in_ok-command.ensures (map-same c.args.words.now) c.in_ok-matches.ensures.kinds
     c.in_ok-matches.ensures.matches c.asked_of.ensures.asked in
-    taken.3 ∙ (good_taken taken.0 taken.1 c.args.words.now asked good).1
+    taken.1 ∙ (good_words modes refl c.args.words.now asked good).1
