@@ -1,12 +1,11 @@
 -- What building the command makes of its model.
-use Rattle.std.proofs.Common.{◌≡◌, ◌∙◌, ap, ap₂, refl, false, true, codes, List, ℕ}
+use Rattle.std.proofs.Common.{◌≡◌, ◌∙◌, ap, ap₂, false, true, codes}
 use Rattle.clap.specs.Words.{AddsArg, App, Rule, app_of, new_app, rule_of, with_rule}
 use Rattle.clap.specs.Simple.{app_of_fields}
 use Rattle.clap.specs.declared.builder.arg.Arg.{Arg}
 use Rattle.clap.specs.declared.builder.command.Command.{Command}
 use Rattle.clap.specs.declared.builder.command.Command.TheViews.{out-Command as fields_of}
 use Rattle.im_words.specs.Command.{bare}
-use Rattle.im_words.specs.declared.setting.Setting.TheVariants.{Area, Workers, Turns, Rows, Seed}
 
 pub with_argument : (old : Command) (a : Arg) (new : Command) (app : App) (rule : Rule) → AddsArg old a new → a.global ≡ false
     → app_of old ≡ app → rule_of a ≡ rule → app_of new ≡ with_rule app rule

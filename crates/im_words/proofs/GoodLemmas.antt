@@ -1,34 +1,22 @@
 -- Good words are taken, and come to what stands in them.
-use Rattle.std.proofs.Common.{◌≡◌, ◌≢◌, ◌∙◌, ◌<◌, ◌≤◌, ◌&&◌, ◌||◌, ◌==◌, ◌++◌, ap, ap₂, refl, sym, subst, ℕ, Bool, true, false, List, [], ◌∷◌, Option, Some, None, arith, codes, cond, length, map, suc, zero}
-use Rattle.std.specs.Bool.{⊤}
-use Rattle.std.specs.List.{All, AllByRecursion, AllPairs, flat_map, fold, list_any, slice_index_or}
-use Rattle.std.specs.Prelude.{find, option_map, unwrap_or}
+use Rattle.std.proofs.Common.{◌≡◌, ◌≢◌, ◌∙◌, ◌||◌, ◌++◌, ap, refl, sym, subst, ℕ, Bool, true, false, List, [], ◌∷◌, arith, codes, length, map, suc}
+use Rattle.std.specs.List.{All, AllPairs, flat_map, fold, slice_index_or}
 use Rattle.std.specs.Str.{bytes_eq}
-use Rattle.std.specs.Str.Parse.{digits_value}
 use Rattle.std.proofs.lemmas.List.{append-nil, append_assoc}
 use Rattle.std.proofs.lemmas.List.Folds.{list_any-append}
-use Rattle.std.proofs.lemmas.Slice.Eq.{bytes_eq-Decides}
-use Rattle.clap.specs.Faults.{built_fault, check_fault, defaults_fault, level_fault, settle_fault, turn_fault, walk_fault}
+use Rattle.clap.specs.Faults.{turn_fault, walk_fault}
 use Rattle.clap.specs.Kinds.{Kinds, or_else}
-use Rattle.clap.specs.Simple.{App, Shape, built}
-use Rattle.clap.specs.Takes.{is_given}
-use Rattle.clap.specs.Walk.{Held, Names, Row, Rule, Walk, finished, first_of, has_row, nothing_held, one_of, settled, walk, walk_from, walked, with_default}
-use Rattle.clap.specs.Words.{fault_of, matches_of}
-use Rattle.clap.proofs.FaultLemmas.{leaf_fault}
-use Rattle.clap.proofs.OnLiterals.{clap_on_literals}
-use Rattle.im_words.proofs.ItemLemmas.{differs, row_for, rule_for, still_fresh}
+use Rattle.clap.specs.Simple.{Shape}
+use Rattle.clap.specs.Walk.{Held, Names, Row, Walk, has_row, walked}
+use Rattle.im_words.proofs.ItemLemmas.{row_for, still_fresh}
 use Rattle.im_words.proofs.StepLemmas.{IsAtMode, IsPlain, Passes, Settles, Walks, between, item_walks, position_after, rules, shape}
-use Rattle.im_words.specs.Command.{AreModes, ModeNames, command_with}
-use Rattle.im_words.specs.Good.{HasNumber, Item, Text, about, apart, joined, mode, mode_among, said, said_of, spelled}
-use Rattle.im_words.specs.Setting.{name_of}
-use Rattle.im_words.specs.declared.mode.Mode.{Mode}
+use Rattle.im_words.specs.Command.{ModeNames}
+use Rattle.im_words.specs.Good.{Item, Text, about, apart, joined, mode, spelled}
 use Rattle.im_words.specs.declared.mode.Mode.TheVariants.{Run}
-use Rattle.im_words.specs.declared.setting.Setting.{Setting}
-use Rattle.im_words.specs.declared.setting.Setting.TheVariants.{Area, Workers, Turns, Rows, Seed}
 
 -- ---- words one after another
 
-or_none : (a b : Kinds) → or_else a b ≡ [] → (a ≡ []) × (b ≡ [])
+pub or_none : (a b : Kinds) → or_else a b ≡ [] → (a ≡ []) × (b ≡ [])
 or_none [] b h = (refl, h)
 or_none (k ∷ ks) b h = absurd (cons_nil h)
   where

@@ -1,22 +1,15 @@
 -- The rows that `clap` keeps of items.
-use Rattle.std.proofs.Common.{◌≡◌, ◌≢◌, ◌∙◌, ◌<◌, ◌≤◌, ◌&&◌, ◌||◌, ◌==◌, ◌++◌, ap, ap₂, refl, sym, subst, ℕ, Bool, true, false, List, [], ◌∷◌, Option, Some, None, arith, codes, length, map, suc, drop}
-use Rattle.std.specs.List.{All, AllPairs, list_any}
+use Rattle.std.proofs.Common.{◌≡◌, ◌≢◌, ◌∙◌, ◌||◌, ◌++◌, ap, refl, Bool, true, false, List, [], ◌∷◌, Some, None}
 use Rattle.std.specs.Str.{bytes_eq}
-use Rattle.std.specs.Str.Parse.{IsNumeral, digits_value, without_leading_plus}
-use Rattle.std.specs.Prelude.{find, option_map, unwrap_or, ◌^◌, cond, slice_index}
-use Rattle.std.proofs.lemmas.Bool.{ne_eqb}
 use Rattle.std.proofs.lemmas.List.{append-nil}
 use Rattle.std.proofs.lemmas.List.Folds.{list_any-append}
 use Rattle.std.proofs.lemmas.Slice.Eq.{bytes_eq-Decides}
-use Rattle.std.proofs.lemmas.Str.Parse.{digit_from_value}
-use Rattle.clap.specs.Walk.{Row, Rule, at_row, first_of, has_row, more_values, one_of, used}
-use Rattle.clap.specs.Takes.{is_given}
+use Rattle.clap.specs.Walk.{Row, Rule, at_row, has_row, more_values, used}
 use Rattle.clap.specs.Simple.{filled, with_index}
 use Rattle.clap.specs.declared.builder.value_parser.Reading.TheVariants.{AsWritten}
 use Rattle.clap.specs.declared.parser.matches.ValueSource.TheVariants.{CommandLine}
 use Rattle.im_words.specs.Command.{ModeNames, mode_rule, setting_rule}
-use Rattle.im_words.specs.Good.{Item, Text, about, apart, joined, mode, name_of_mode, said, said_of}
-use Rattle.im_words.specs.Setting.{name_of}
+use Rattle.im_words.specs.Good.{Item, Text, about, apart, joined, mode, said}
 use Rattle.im_words.specs.declared.setting.Setting.{Setting}
 
 -- the arguments of the command as it is built
@@ -52,7 +45,7 @@ at_new id change missing (r ∷ rs) fresh =
     let parts = or_false (bytes_eq r.id id) (has_row id rs) fresh in
     rw parts.0 (ap (λ rest. r ∷ rest) (at_new id change missing rs parts.1))
 
-no_row : (id : Text) (change : Row → List Row) (missing rows : List Row) → has_row id rows ≡ false
+pub no_row : (id : Text) (change : Row → List Row) (missing rows : List Row) → has_row id rows ≡ false
     → at_row id change missing (at_row id (λ r. []) [] rows) ≡ rows ++ missing
 no_row id change missing rows fresh =
     ap (at_row id change missing) (at_new id (λ r. []) [] rows fresh ∙ append-nil rows) ∙ at_new id change missing rows fresh

@@ -7,3 +7,4 @@ mod NumberTextLemmas
 mod GoodLemmas
 mod TakenLemmas
 mod PlaceLemmas
+mod RangeLemmas

@@ -1,14 +1,12 @@
 -- What `clap` makes of a number of good words.
-use Rattle.std.proofs.Common.{◌≡◌, ◌≢◌, ◌∙◌, ◌<◌, ◌≤◌, ◌&&◌, ◌||◌, ◌==◌, ap, refl, sym, ℕ, Bool, true, false, List, [], ◌∷◌, Option, Some, None, arith, codes, cond, drop, length, map}
-use Rattle.std.specs.Bool.{⊤}
+use Rattle.std.proofs.Common.{◌≡◌, ◌∙◌, ◌<◌, ◌==◌, ap, refl, Bool, true, false, [], ◌∷◌, Some, arith, codes, cond, drop}
 use Rattle.std.specs.List.{list_any}
 use Rattle.std.specs.Prelude.{◌^◌}
 use Rattle.std.specs.Str.{bytes_eq}
 use Rattle.std.specs.Str.Parse.{IsNumeral, digits_value, without_leading_plus}
 use Rattle.std.proofs.lemmas.Bool.{ne_eqb}
 use Rattle.std.proofs.lemmas.Str.Parse.{digit_from_value}
-use Rattle.clap.specs.Words.{Accepts}
-use Rattle.clap.specs.ValueTests.{accepts, is_unsigned_in}
+use Rattle.clap.specs.ValueTests.{is_unsigned_in}
 use Rattle.clap.specs.declared.builder.value_parser.ValueParser.TheVariants as parsers
 use Rattle.clap.proofs.ValueTestLemmas.{Accepts-accepts}
 use Rattle.clap.proofs.WalkLemmas.{list_any-map}
@@ -51,7 +49,7 @@ is_taken s t number =
 
 -- the number that is read of it
 pub number_is : (s : Setting) (t : Text) → IsNumberFor s t → number_by s (Some t) ≡ digits_value 10 t
-number_is s t number = rw (is_taken s t number, no_plus t number.digits) refl
+number_is s t number = rw (no_plus t number.digits) refl
 
 pub items_plain : (x : Item) → HasNumber x → IsPlain x
 items_plain (mode m) number = tt

@@ -1,16 +1,16 @@
 -- What a parse finds, and how it fails, does not depend on where the names of the modes lie in memory.
-use Rattle.std.proofs.Common.{◌≡◌, ◌∙◌, ◌&&◌, ◌||◌, ◌==◌, ◌++◌, ◌+◌, ap, ap₂, refl, sym, ℕ, Bool, true, false, List, [], ◌∷◌, Option, Some, None, codes, cond, length, map, suc, zero, drop, min}
+use Rattle.std.proofs.Common.{◌≡◌, ◌∙◌, ◌||◌, ◌==◌, ◌+◌, ap, ap₂, refl, sym, ℕ, Bool, true, false, List, [], ◌∷◌, Option, Some, None, codes, length, suc, zero, drop, min}
 use Rattle.std.specs.List.{fold, list_any}
 use Rattle.std.specs.Option.{option_map_or}
 use Rattle.std.specs.Prelude.{encode_utf8, if◌then◌else◌, is_some, slice_get}
 use Rattle.std.specs.Str.{bytes_eq, chars}
 use Rattle.clap.specs.Faults.{bundle_fault, check_fault, defaults_fault, flag_word_fault, flags_fault, level_fault, long_fault, option_fault, other_fault, positional_fault, react_fault, repeat_fault, settle_fault, step_fault, turn_fault, use_fault, walk_fault, word_fault}
-use Rattle.clap.specs.Kinds.{Kinds, or_else, range_kinds, value_kinds, values_kinds}
+use Rattle.clap.specs.Kinds.{or_else, range_kinds, values_kinds}
 use Rattle.clap.specs.Lexer.{long_of, short_of, usize_max}
 use Rattle.clap.specs.ValueTests.{accepts}
 use Rattle.clap.specs.Simple.{built}
 use Rattle.clap.specs.Words.{fault_of, matches_of}
-use Rattle.clap.specs.Walk.{Held, Outcome, Row, Rule, Step, Waiting, Walk, after_flag, after_step, arg_by_id, arg_by_index, arg_by_long, bundle_met, done, idle, is_pending, long_met, long_or_other, option, option_met, flag_met, option_word, plain, plain_word, positional, positional_held, pushed, refused, settled, settled_rows, short_or_plain, takes_values, to_positional, used, used_by_id, values_or_missing, waits, walk, walk_from, walked, walked_from, word_met, finished, nothing_held, next, trailing, subcommand, value}
+use Rattle.clap.specs.Walk.{Held, Outcome, Row, Rule, Step, Waiting, Walk, after_flag, after_step, arg_by_id, arg_by_index, arg_by_long, bundle_met, done, idle, is_pending, long_met, long_or_other, option, option_met, flag_met, option_word, plain, plain_word, positional, positional_held, pushed, refused, settled, settled_rows, short_or_plain, takes_values, to_positional, used, values_or_missing, waits, walk, walk_from, walked, walked_from, word_met, finished, nothing_held, next, trailing, subcommand, value}
 use Rattle.clap.specs.declared.builder.value_parser.ValueParser.TheVariants as parsers
 use Rattle.clap.specs.declared.error.kind.ErrorKind.TheVariants.{InvalidValue, TooManyValues}
 use Rattle.clap.proofs.FaultLemmas.{leaf_fault}
@@ -23,7 +23,6 @@ use Rattle.im_words.specs.Good.{Text}
 use Rattle.im_words.specs.declared.setting.Setting.TheVariants.{Area, Workers, Turns, Rows, Seed}
 
 module _ (p q : ModeNames) (are-p : AreModes p) (are-q : AreModes q) where
-
   settings : List Rule
   settings = full Area ∷ full Workers ∷ full Turns ∷ full Rows ∷ full Seed ∷ []
 

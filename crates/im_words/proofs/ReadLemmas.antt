@@ -1,14 +1,16 @@
 -- From what `clap` answers to what the words come to.
-use Rattle.std.proofs.Common.{◌≡◌, ◌∙◌, ap, ap₂, refl, sym, subst, List, [], ◌∷◌, ℕ, true, map, inl, inr}
+use Rattle.std.proofs.Common.{◌≡◌, ◌∙◌, ap, ap₂, refl, sym, subst, List, [], ◌∷◌, true, map, inl, inr}
 use Rattle.std.specs.Prelude.{Result, Ok, Err, IfErr, IsErrAnd, MatchResult}
-use Rattle.clap.specs.Words.{App, HasKind, HasMatchesOf, Text, app_of, fault_of, found_of, IsAmong, is_simple, is_simple_and_free, kind_of, matches_of, rows_of}
+use Rattle.clap.specs.Words.{App, HasKind, HasMatchesOf, Text, fault_of, found_of, IsAmong, is_simple, is_simple_and_free, kind_of, matches_of, one_of, rows_of}
 use Rattle.clap.specs.declared.error.Error.{Error}
 use Rattle.clap.specs.declared.error.kind.ErrorKind.{ErrorKind}
 use Rattle.clap.specs.declared.error.kind.ErrorKind.TheVariants.{OutOfMemory}
 use Rattle.clap.specs.declared.parser.matches.ArgMatches.{ArgMatches}
 use Rattle.im_words.proofs.PlaceLemmas.{fault-same, matches-same}
-use Rattle.im_words.specs.Asked.{asked_in}
-use Rattle.im_words.specs.Command.{AreModes, IsCommand, ModeNames, Refuses, Takes, command, command_with, fault_by, modes}
+use Rattle.im_words.proofs.RangeLemmas.{numbers_pass}
+use Rattle.im_words.specs.Asked.{HasNumbers, asked_in}
+use Rattle.im_words.specs.Setting.{name_of}
+use Rattle.im_words.specs.Command.{IsCommand, ModeNames, Refuses, Takes, command, command_with, fault_by, modes}
 use Rattle.im_words.specs.declared.asked.Asked.{Asked}
 use Rattle.im_words.specs.declared.fault.WordsFault.{WordsFault}
 use Rattle.im_words.specs.declared.fault.WordsFault.TheVariants.{NoMemory, Usage}
@@ -75,3 +77,11 @@ good_fails app ws words e fault is same none kinds by =
 pub match_err : {T E : Type 0} (r : Result T E) (P Q : E → Type 0) (R : T → Type 0) → IsErrAnd r P → ((e : E) → P e → Q e) → MatchResult r R Q
 match_err (Ok x) P Q R h so = absurd h
 match_err (Err e) P Q R h so = so e h
+
+-- the matches of the command have a number of each setting that they have
+pub numbers_found : (app : App) (ws words : List Text) (m : ArgMatches) → IsCommand app → ws ≡ words
+    → (is_simple_and_free app ≡ true → fault_of app ws ≡ []) → HasMatchesOf app ws m → HasNumbers (rows_of (found_of m))
+numbers_found app ws words m is same kinds matches =
+    let none = sym (faults_are app ws words is same) ∙ kinds (ap is_simple_and_free is.2 ∙ simple_free is.0) in
+    let rows = (matches (ap is_simple is.2 ∙ simple is.0)).0 ∙ matches_are app ws words is same in
+    λ s text found. numbers_pass modes words none s text (sym (ap (one_of (name_of s)) rows) ∙ found)

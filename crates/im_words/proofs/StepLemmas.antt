@@ -1,19 +1,19 @@
 -- The walk over the words of one item.
-use Rattle.std.proofs.Common.{◌≡◌, ◌≢◌, ◌∙◌, ◌<◌, ◌≤◌, ◌&&◌, ◌||◌, ◌==◌, ◌++◌, ap, ap₂, refl, sym, subst, ℕ, Bool, true, false, List, [], ◌∷◌, Option, Some, None, arith, codes, length, map, suc, drop}
+use Rattle.std.proofs.Common.{◌≡◌, ◌∙◌, ◌++◌, ap, refl, sym, subst, ℕ, Bool, true, false, List, [], ◌∷◌, Some, None, codes}
 use Rattle.std.specs.Bool.{⊤}
-use Rattle.std.specs.List.{All, fold, list_any}
+use Rattle.std.specs.List.{fold}
 use Rattle.std.specs.Str.{bytes_eq}
 use Rattle.clap.specs.Faults.{settle_fault, turn_fault, use_fault, walk_fault}
-use Rattle.clap.specs.Kinds.{Kinds, or_else}
+use Rattle.clap.specs.Kinds.{or_else}
 use Rattle.clap.specs.Lexer.{long_of, short_of}
 use Rattle.clap.specs.Simple.{Shape, built}
 use Rattle.clap.specs.ValueTests.{accepts}
 use Rattle.clap.specs.Facts.{parser_of_value}
-use Rattle.clap.specs.Walk.{Held, Row, Rule, Walk, arg_by_id, arg_by_index, arg_by_long, has_row, idle, is_pending, option, settled_rows, used, walked}
+use Rattle.clap.specs.Walk.{Held, Row, Rule, Walk, arg_by_id, has_row, idle, is_pending, option, settled_rows, used, walked}
 use Rattle.clap.proofs.OnLiterals.{clap_on_literals}
 use Rattle.im_words.proofs.ItemLemmas.{full, full_mode, row_for, rule_for, used_first}
-use Rattle.im_words.specs.Command.{AreModes, ModeNames, command_with}
-use Rattle.im_words.specs.Good.{Item, Text, about, apart, joined, mode, name_of_mode, said, spelled}
+use Rattle.im_words.specs.Command.{ModeNames, command_with}
+use Rattle.im_words.specs.Good.{Item, Text, about, apart, joined, mode, said, spelled}
 use Rattle.im_words.specs.Setting.{name_of}
 use Rattle.im_words.specs.declared.mode.Mode.TheVariants.{Run}
 use Rattle.im_words.specs.declared.setting.Setting.{Setting}

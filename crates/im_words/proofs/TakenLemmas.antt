@@ -1,9 +1,8 @@
 -- Good words are taken, and come to what stands in them.
-use Rattle.std.proofs.Common.{◌≡◌, ◌≢◌, ◌∙◌, ◌<◌, ◌==◌, ◌++◌, ap, refl, sym, subst, ℕ, Bool, true, false, List, [], ◌∷◌, Option, Some, None, arith, codes, cond, length, map, suc}
+use Rattle.std.proofs.Common.{◌≡◌, ◌≢◌, ◌∙◌, ap, refl, sym, subst, Bool, true, false, List, [], ◌∷◌, Option, Some, None, arith, codes, cond, map, suc}
 use Rattle.std.specs.List.{All, AllByRecursion, AllPairs, flat_map, fold, slice_index_or}
-use Rattle.std.specs.Prelude.{find, option_map, unwrap_or}
+use Rattle.std.specs.Prelude.{unwrap_or}
 use Rattle.std.specs.Str.{bytes_eq}
-use Rattle.std.specs.Str.Parse.{digits_value}
 use Rattle.std.proofs.lemmas.Slice.Eq.{bytes_eq-Decides}
 use Rattle.clap.specs.Faults.{default_fault, defaults_fault, level_fault, walk_fault}
 use Rattle.clap.specs.Simple.{built}
@@ -14,11 +13,11 @@ use Rattle.clap.proofs.FaultLemmas.{leaf_fault}
 use Rattle.im_words.proofs.GoodLemmas.{AreTaken, Ends, items_walk}
 use Rattle.im_words.proofs.ItemLemmas.{row_for}
 use Rattle.im_words.proofs.NumberTextLemmas.{items_pass, items_plain, number_is}
-use Rattle.im_words.proofs.StepLemmas.{Settles, Walks, rules, shape}
-use Rattle.im_words.specs.Asked.{asked_in, mode_by, mode_in, number_by, number_in}
+use Rattle.im_words.proofs.StepLemmas.{Settles, rules, shape}
+use Rattle.im_words.specs.Asked.{asked_in, mode_by, number_by, number_in}
 use Rattle.im_words.specs.Command.{AreModes, ModeNames, command_with}
-use Rattle.im_words.specs.Good.{HasNumber, IsGood, IsNumberFor, Item, Text, about, apart, joined, mode, mode_among, number_among, said, said_of, spelled}
-use Rattle.im_words.specs.Setting.{name_of, usual_of}
+use Rattle.im_words.specs.Good.{HasNumber, IsGood, IsNumberFor, Item, Text, about, apart, joined, mode, mode_among, number_among, said_of, spelled}
+use Rattle.im_words.specs.Setting.{name_of}
 use Rattle.im_words.specs.declared.asked.Asked.{Asked}
 use Rattle.im_words.specs.declared.mode.Mode.{Mode}
 use Rattle.im_words.specs.declared.mode.Mode.TheVariants.{Run}
@@ -96,10 +95,10 @@ tag_of Turns = refl
 tag_of Rows = refl
 tag_of Seed = refl
 
-one_name : (a b : Setting) → bytes_eq (name_of a) (name_of b) ≡ true → a ≡ b
+pub one_name : (a b : Setting) → bytes_eq (name_of a) (name_of b) ≡ true → a ≡ b
 one_name a b same = sym (tag_of a) ∙ (ap tag ((bytes_eq-Decides (name_of a) (name_of b)).0 same) ∙ tag_of b)
 
-not_setting : (s : Setting) → bytes_eq (codes "mode") (name_of s) ≡ false
+pub not_setting : (s : Setting) → bytes_eq (codes "mode") (name_of s) ≡ false
 not_setting Area = refl
 not_setting Workers = refl
 not_setting Turns = refl
@@ -115,7 +114,7 @@ found_of_items id (x ∷ rest) = go (bytes_eq (about x) id) refl (found_of_items
     go true b same = rw b refl
     go false b same = rw b same
 
-same_text : (a b : Text) → Some a ≡ Some b → a ≡ b
+pub same_text : (a b : Text) → Some a ≡ Some b → a ≡ b
 same_text a b e = ap (λ o. unwrap_or o a) e
 
 said_number : (s : Setting) (items : List Item) → All HasNumber items → (t : Text) → said_of (name_of s) items ≡ Some t → IsNumberFor s t

@@ -1,5 +1,5 @@
 -- What is read of the matches that `clap` found.
-use Rattle.std.specs.Prelude.{◌≤◌, ℕ, Bool, List, Option, Some, None, codes, if◌then◌else◌}
+use Rattle.std.specs.Prelude.{◌≡◌, ◌≤◌, ℕ, List, Option, Some, None, codes, true}
 use Rattle.std.specs.Str.Parse.{digits_value, without_leading_plus}
 use Rattle.clap.specs.ValueTests.{is_unsigned_in}
 use Rattle.clap.specs.Words.{Row, Text, first_of, one_of}
@@ -22,16 +22,19 @@ mode_by (Some name) = mode_called name
 abbrev pub mode_in : List Row → Mode
 mode_in rows = mode_by (first_of (codes "mode") rows)
 
--- the number that a text writes, where it writes one that the setting may be set to, and else the usual one
+-- the number that a text writes, or the usual one where there is no text
 abbrev pub number_by : Setting → Option Text → ℕ
 number_by s None = usual_of s
-number_by s (Some text) =
-    if is_unsigned_in (least_of s) (most_of s) text then digits_value 10 (without_leading_plus text)
-    else usual_of s
+number_by s (Some text) = digits_value 10 (without_leading_plus text)
 
 -- the number of the first value of a setting's argument
 abbrev pub number_in : List Row → Setting → ℕ
 number_in rows s = number_by s (one_of (name_of s) rows)
+
+-- the first value of each setting is a number that it may be set to
+abbrev pub HasNumbers : List Row → Type 0
+HasNumbers rows = (s : Setting) (text : Text) → one_of (name_of s) rows ≡ Some text
+    → is_unsigned_in (least_of s) (most_of s) text ≡ true
 
 -- what the matches ask for
 abbrev pub asked_in : List Row → Asked

@@ -1,5 +1,5 @@
 -- The options: their names, the numbers that they may be set to, and the number where they are not set.
-use Rattle.std.specs.Prelude.{◌&&◌, ℕ, Bool, List, codes, nat_le}
+use Rattle.std.specs.Prelude.{ℕ, List, codes}
 use Rattle.im_words.specs.declared.setting.Setting.{Setting}
 use Rattle.im_words.specs.declared.setting.Setting.TheVariants.{Area, Workers, Turns, Rows, Seed}
 
@@ -34,7 +34,3 @@ usual_of Workers = 1
 usual_of Turns = 100000
 usual_of Rows = 5000
 usual_of Seed = 1
-
--- whether it may be set to the number
-abbrev pub allows : Setting → ℕ → Bool
-allows s n = nat_le (least_of s) n && nat_le n (most_of s)

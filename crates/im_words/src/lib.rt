@@ -23,4 +23,5 @@ pub use asked::Asked;
 pub use fault::WordsFault;
 pub use mode::Mode;
 pub use read::read_words;
+pub use setting::Setting;
 pub use word::Word;

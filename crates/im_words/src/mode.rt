@@ -9,14 +9,15 @@ pub enum Mode {
 }
 
 /// The names of the modes, one for each variant of [`Mode`]. `clap` refuses every other.
-pub static NAMES: [&str; 1] = ["run"];
+pub(crate) static NAMES: [&str; 1] = ["run"];
 
 impl Mode {
     /// The mode of a name among [`NAMES`]. Each further mode has an arm of its own above the last.
-    pub fn called(name: &str) -> Mode
+    pub(crate) fn called(name: &str) -> Mode
         ensures { result ≡ spec.mode_called name.now }
     {
         match name {
+            // Today this is `run`.
             _ => Mode::Run,
         }
     }

@@ -15,13 +15,13 @@ use std::alloc::Global;
 
 /// The number of a setting, or its usual one where the words do not set it.
 fn number_of(matches: &ArgMatches<'_>, setting: Setting) -> u64
+    requires numbers { spec.HasNumbers (rows_of (found_of matches.now)) }
     ensures number { result ≡ spec.number_in (rows_of (found_of matches.now)) setting }
     ensures range { spec.IsFor setting result }
 {
-    match matches.get_one::<u64>(setting.name()) {
-        Some(number) if setting.allows(number) => number,
-        _ => setting.usual(),
-    }
+    matches
+        .get_one::<u64>(setting.name())
+        .unwrap_or(setting.usual())
 }
 
 /// The mode that the matches name.
@@ -36,6 +36,7 @@ fn mode_of(matches: &ArgMatches<'_>) -> Mode
 
 /// What the matches ask for.
 fn asked_of(matches: &ArgMatches<'_>) -> Asked
+    requires numbers { spec.HasNumbers (rows_of (found_of matches.now)) }
     ensures asked { result ≡ spec.asked_in (rows_of (found_of matches.now)) }
     ensures ranges { spec.IsInRange result }
 {

@@ -65,11 +65,4 @@ impl Setting {
             Setting::Seed => 1,
         }
     }
-
-    /// Whether it may be set to this number.
-    pub fn allows(self, number: u64) -> bool
-        ensures { result ≡ spec.allows self number }
-    {
-        self.least() <= number && number <= self.most()
-    }
 }

@@ -1,4 +1,3 @@
-use Rattle.std.proofs.Common.{rules}
 use Rattle.std.proofs.lemmas.Result.{IfOk-weaker}
 use Rattle.im_words.proofs.CommandLemmas.{with_argument, without_help}
 use Rattle.im_words.proofs.command.command.Goals as goal

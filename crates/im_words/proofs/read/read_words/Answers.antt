@@ -1,5 +1,5 @@
 use Rattle.std.proofs.Common.{◌∙◌, refl}
-use Rattle.im_words.proofs.ReadLemmas.{good_fails, if_err, map-same, match_err, refuses, takes_them}
+use Rattle.im_words.proofs.ReadLemmas.{good_fails, if_err, map-same, match_err, numbers_found, refuses, takes_them}
 use Rattle.im_words.proofs.TakenLemmas.{good_words}
 use Rattle.im_words.specs.Command.{modes}
 use Rattle.im_words.proofs.read.read_words.Goals as goal
@@ -25,3 +25,9 @@ returns-clause-good c asked good =
     let taken = takes_them _ _ _ _ _ c.in_ok-command.ensures (map-same c.args.words.now) c.in_ok-matches.ensures.kinds
     c.in_ok-matches.ensures.matches c.asked_of.ensures.asked in
     taken.1 ∙ (good_words modes refl c.args.words.now asked good).1
+
+pub asked_of-requires : goal.asked_of-requires
+asked_of-requires c = record {
+  numbers = numbers_found _ _ c.args.words.now _ c.in_ok-command.ensures (map-same c.args.words.now) c.in_ok-matches.ensures.kinds
+      c.in_ok-matches.ensures.matches;
+}
