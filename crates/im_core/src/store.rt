@@ -1,4 +1,5 @@
 ghost use Rattle.std.specs.Prelude.{◌≡◌, ◌<◌, ◌≤◌, [], length, IfOk, IfErr, OnErr, None};
+ghost use Rattle.im_history.specs.Legal.{IsLegal};
 ghost use Rattle.im_history.specs.Views.{look_at};
 ghost use Rattle.im_core.specs.Answers.{IsRefusal};
 
@@ -102,9 +103,12 @@ impl<U: UnitLike> Core<U> {
     }
 
     /// What a session finds: the place, the SCN, its transaction, and the tables. It adds no entry.
+    ///
+    /// The history of a store is always legal; this call tells its caller so.
     pub fn look(&mut self, who: u32) -> Result<Look, Refused>
         requires session { who < NUMBERS }
         ensures same { self.new ≡ self.old }
+        ensures legal { IsLegal self.old.limits self.old.log }
         ensures ok { IfOk result (λ look. look ≡ look_at self.old.log who) }
         ensures err { IfErr result (λ why. IsRefusal self.old.log None why) }
     {

@@ -72,3 +72,13 @@ IsLegalFrom-push limits before (first ∷ h) entry legal allowed =
 -- a legal history with an entry that is allowed after it is legal
 pub IsLegal-push : (limits : Limits) (h : History) (entry : Entry) → IsLegal limits h → IsAllowed limits h entry.who entry.what → IsLegal limits (h ++ entry ∷ [])
 IsLegal-push limits h entry legal allowed = record { each = IsLegalFrom-push limits [] h entry legal.each allowed }
+
+IsLegalFrom-pop : (limits : Limits) (before h : History) (entry : Entry) → IsLegalFrom limits before (h ++ entry ∷ []) → IsLegalFrom limits before h × IsAllowed limits (before ++ h) entry.who entry.what
+IsLegalFrom-pop limits before [] entry legal = (tt, rw append-nil legal.0)
+IsLegalFrom-pop limits before (first ∷ h) entry legal =
+    let rest = IsLegalFrom-pop limits (before ++ first ∷ []) h entry legal.1 in
+    ((legal.0, rest.0), rw (append_assoc before (first ∷ []) h) at rest.1)
+
+-- and of a legal history with one more entry, what is before it is legal, and the entry is allowed there
+pub IsLegal-pop : (limits : Limits) (h : History) (entry : Entry) → IsLegal limits (h ++ entry ∷ []) → IsLegal limits h × IsAllowed limits h entry.who entry.what
+IsLegal-pop limits h entry legal = let both = IsLegalFrom-pop limits [] h entry legal.each in (record { each = both.0 }, both.1)

@@ -1,3 +1,4 @@
+pub mod FitLaws
 pub mod Laws
 pub mod Replay
 pub mod RowLaws
