@@ -22,14 +22,18 @@ use Rattle.im_history.specs.Transactions.{is_open, mode}
 use Rattle.im_plan.specs.Goes.{Nobody, Goes, Lacks}
 use Rattle.im_plan.specs.Plan.{Plan, End, Turn, made, counted}
 use Rattle.im_plan.proofs.AloneLaws.{same_after}
+use Rattle.im_values.specs.declared.value.Value.{Value}
+use Rattle.im_syntax.specs.Condition.{CondOf}
 use Rattle.im_syntax.specs.declared.statement.Stmt.{Stmt}
+use Rattle.im_history.specs.Rows.{snapshot}
+use Rattle.im_shell.specs.declared.rewriting.Rewriting.TheVariants.{Updating, Deleting}
 use Rattle.im_shell.specs.Built.{is_built}
-use Rattle.im_shell.specs.declared.reply.Body.{Body}
-use Rattle.im_shell.specs.declared.reply.Body.TheVariants.{Created, Begun, Inserted, Committed, RolledBack}
-use Rattle.im_shell.specs.declared.reply.Fault.{Fault}
+use Rattle.im_scan.specs.declared.body.Body.{Body}
+use Rattle.im_scan.specs.declared.body.Body.TheVariants.{Created, Begun, Inserted, Committed, RolledBack}
+use Rattle.im_scan.specs.declared.fault.Fault.{Fault}
 use Rattle.im_shell.specs.declared.reply.Reply.{Reply}
 use Rattle.im_shell.specs.Requests.{IsClosed}
-use Rattle.im_shell.specs.Statements.{inserts, delete, rewrite, roll_back, resolved_plan, found_plan, named_plan, definition_plan, looked_up, is_definition, statement_plan}
+use Rattle.im_shell.specs.Statements.{inserts, seen_rows, kept_rows, removals, revisions, written, delete, update, rewrite, roll_back, resolved_plan, found_plan, named_plan, definition_plan, looked_up, is_definition, statement_plan}
 use Rattle.im_shell.specs.Turns.{fault_of, creation_fault, unless_refused, decide, amends, IsRest}
 
 -- ---- whether the cursor of a scan is open
@@ -160,8 +164,11 @@ keeps-rewrite limits who place scn [] body = λ here. (false, shuts, refl)
 keeps-rewrite limits who place scn (change ∷ changes) body =
     λ at. (true, moves-decide true _ (Write (change ∷ changes)) (λ h w cursors. refl), λ here. (false, shuts, refl))
 
-keeps-delete : (limits : Limits) (who table : ℕ) → Keeps false (delete limits who table)
-keeps-delete limits who table = λ at. (true, opens table, keeps-rewrite limits who _ _ _ _)
+keeps-delete : (limits : Limits) (who table : ℕ) (filter : Option (CondOf ℕ Value)) → Keeps false (delete limits who table filter)
+keeps-delete limits who table filter = λ at. (true, opens table, keeps-rewrite limits who (length at) (snapshot at who) (removals table (kept_rows filter (seen_rows at who table))) (written Deleting))
+
+keeps-update : (limits : Limits) (who table : ℕ) (filter : Option (CondOf ℕ Value)) (sets : List (ℕ × Value)) → Keeps false (update limits who table filter sets)
+keeps-update limits who table filter sets = λ at. (true, opens table, keeps-rewrite limits who (length at) (snapshot at who) (revisions table sets (kept_rows filter (seen_rows at who table))) (written Updating))
 
 keeps-roll_back : (who : ℕ) (at : History) → Keeps false (roll_back who at)
 keeps-roll_back who at = keeps-if false (is_open at who) _ _ (keeps-decide fault_of (λ here. None) (λ here. Rollback) (λ here. RolledBack) (λ here h w cursors. refl)) refl
@@ -172,7 +179,8 @@ keeps-resolved limits who at (resolved.Create name schema grid memory) =
     keeps-decide (creation_fault name) (λ here. create_refusal here name) (λ here. Create name schema grid) (λ here. Created (length (tables here) + 1) (scn here + 1)) (λ here h w cursors. refl)
 keeps-resolved limits who at (resolved.Insert table rows) =
     keeps-decide fault_of (λ here. insert_refusal limits here who (inserts table rows here)) (λ here. Write (inserts table rows here)) (λ here. Inserted (length rows) (given here table)) (λ here h w cursors. refl)
-keeps-resolved limits who at (resolved.Delete table filter) = keeps-if false (forbids_writing (mode at who)) _ _ refl (keeps-delete limits who table)
+keeps-resolved limits who at (resolved.Delete table filter) = keeps-if false (forbids_writing (mode at who)) _ _ refl (keeps-delete limits who table filter)
+keeps-resolved limits who at (resolved.Update table filter sets) = keeps-if false (forbids_writing (mode at who)) _ _ refl (keeps-update limits who table filter sets)
 keeps-resolved limits who at (resolved.SetMode mode) =
     keeps-decide fault_of (λ here. begin_refusal here who) (λ here. Begin mode) (λ here. Begun (scn here)) (λ here h w cursors. refl)
 keeps-resolved limits who at resolved.Commit =

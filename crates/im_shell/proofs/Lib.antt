@@ -1,3 +1,4 @@
+pub mod AssignLemmas
 pub mod KeepLemmas
 pub mod KnownLemmas
 pub mod LineLemmas
@@ -5,5 +6,6 @@ pub mod OpeningLemmas
 pub mod PlanLemmas
 pub mod PlayLemmas
 pub mod ScanLemmas
+pub mod ServeLemmas
 pub mod StatementLemmas
 pub mod WriteLemmas

@@ -1,5 +1,5 @@
 -- A scan's plan, from its opening to its end.
-use Rattle.std.proofs.Common.{◌≡◌, ℕ, zero, suc, ◌+◌, ◌≤◌, ◌==◌, Bool, false, true, if◌then◌else◌, List, [], fold, length, Option, refl, sym, ap, ◌∙◌, subst}
+use Rattle.std.proofs.Common.{◌≡◌, ℕ, zero, suc, ◌+◌, ◌≤◌, ◌==◌, Bool, false, true, if◌then◌else◌, List, [], fold, length, Option, Some, refl, sym, ap, ◌∙◌, subst}
 use Rattle.std.specs.List.{cons_option, list_any}
 use Rattle.std.specs.Option.{option_map}
 use Rattle.im_core.specs.Seen.{Seen, Adds}
@@ -15,7 +15,7 @@ use Rattle.im_history.specs.Views.{view_at, seen_by}
 use Rattle.im_history.proofs.RowLaws.{rows-push_quiet}
 use Rattle.im_plan.specs.Plan.{Plan}
 use Rattle.im_shell.specs.declared.reply.Reply.{Reply}
-use Rattle.im_shell.specs.Scans.{IsOpening, seen_in, shut_by}
+use Rattle.im_shell.specs.Scans.{IsOpening, EachSeen, seen_in, shut_by}
 use Rattle.im_shell.specs.Statements.{seen_rows}
 use Rattle.im_shell.specs.Turns.{scan, IsRest}
 use Rattle.im_shell.proofs.PlanLemmas.{rest-adds}
@@ -75,3 +75,14 @@ open-write old new who changes added is_open =
     if_same : (b : Bool) (cursors : List Opened) → (if b then cursors else cursors) ≡ cursors
     if_same true cursors = refl
     if_same false cursors = refl
+
+-- a view sees after its opening what it sees before it
+pub seen_by-opening : (h : History) (who rid : ℕ) (view : View) → (o : IsOpening h who view) → seen_by h view rid ≡ seen_by o.before (view_at o.before who o.table) rid
+unfolding seen
+seen_by-opening h who rid view o =
+    ap (λ (row : Option Row). fold (row_after view.table rid) row view.own) (ap (λ (log : History). rows log view.table view.scn rid) o.is ∙ rows-push_quiet o.before (record { who = who; what = what.Open 0 o.table }) view.table view.scn rid refl)
+    ∙ ap (λ (v : View). seen_by o.before v rid) o.view_is
+
+-- what holds of each row that a session sees holds of each that its opening sees
+pub each-opening : (P : Row → Type 0) (h : History) (who : ℕ) (view : View) → (o : IsOpening h who view) → ((rid : ℕ) (row : Row) → seen_by o.before (view_at o.before who o.table) rid ≡ Some row → P row) → EachSeen P h view
+each-opening P h who view o each = record { each = λ rid row saw. each rid row (sym (seen_by-opening h who rid view o) ∙ saw) }

@@ -18,8 +18,9 @@ use Rattle.im_script.specs.Forms.{lines_of, first_of, form_of, who_of}
 use Rattle.im_script.specs.Lines.{AreLines, IsLine, HasKind, no_memory}
 use Rattle.im_shell.specs.Requests.{Request, asked, request_of, with_request, requests_of, IsAnswer, IsAnswered, IsBetween, script_limits}
 use Rattle.im_shell.specs.Turns.{amends}
-use Rattle.im_shell.specs.Play.{play_request, replies, may_lack_in, reply_text, IsPlayed, IsPlayedInPart, Sends, Plays, PlaysInPart, IsSoFar, PlaysNext}
-use Rattle.im_shell.specs.Texts.{body_text, text_of}
+use Rattle.im_shell.specs.Play.{play_request, replies, may_lack_in, text_put, IsPlayed, IsPlayedInPart, Sends, Plays, PlaysInPart, IsSoFar, PlaysNext}
+use Rattle.im_text.specs.Replies.{reply_text}
+use Rattle.im_shell.specs.Texts.{text_of}
 
 -- a fact that holds anyway holds where a call failed
 pub OnErr-always : {T E P : Type 0} (r : Result T E) → P → OnErr r P
@@ -86,7 +87,7 @@ module _ (script written : List ℕ) (number : ℕ) (h new : History) (rest behi
   abbrev Onward : List Line → List (Option ℕ) → ℕ → Played Reply → Type 0
   Onward lines lacked n played =
       may_lack_in lacked played.history (requests_of lines) ≡ true →
-      IsPlayed script (written ++ (body_text n played.result.body ++ text_of (replies lacked played.history (requests_of lines))))
+      IsPlayed script (written ++ (reply_text n played.result.body ++ text_of (replies lacked played.history (requests_of lines))))
 
   next_none : IsSoFar script written number h rest → lines_of rest ≡ bytes ∷ lines_of behind → IsLine number bytes line → request_of line ≡ None → new ≡ h → IsSoFar script (written ++ []) (number + 1) new behind
   next_none so_far lines_are read none new_is = record {
@@ -95,7 +96,7 @@ module _ (script written : List ℕ) (number : ℕ) (h new : History) (rest behi
         rw (new_is, append-nil written) (whole (rw new_is at lawful));
   }
 
-  next_some : (request : Request) (reply : Reply) → IsSoFar script written number h rest → lines_of rest ≡ bytes ∷ lines_of behind → IsLine number bytes line → request_of line ≡ Some request → IsAnswer request h reply new → IsSoFar script (written ++ body_text number reply.body) (number + 1) new behind
+  next_some : (request : Request) (reply : Reply) → IsSoFar script written number h rest → lines_of rest ≡ bytes ∷ lines_of behind → IsLine number bytes line → request_of line ≡ Some request → IsAnswer request h reply new → IsSoFar script (written ++ reply_text number reply.body) (number + 1) new behind
   next_some request reply so_far lines_are read is answer =
       let machine = line_alone request.who (amends request.who) h request.plan reply new answer.line in
       let numbered : request.number ≡ number = asked-number line.number line.kind request is ∙ read.number in
@@ -104,16 +105,16 @@ module _ (script written : List ℕ) (number : ℕ) (h new : History) (rest behi
             let whole : may_lack_in (machine.lacked ∷ lacked) h (request ∷ requests_of lines) ≡ true → IsPlayed script (written ++ text_of (replies (machine.lacked ∷ lacked) h (request ∷ requests_of lines))) = rw is at (onward so_far lines_are read lines more (machine.lacked ∷ lacked)) in
             let going : Onward lines lacked request.number (play_request machine.lacked h request) = λ may. whole (rw machine.lawful may) in
             let played = subst (Onward lines lacked request.number) machine.same going lawful in
-            subst (IsPlayed script) (ap (λ (n : ℕ). written ++ (body_text n reply.body ++ text_of (replies lacked new (requests_of lines)))) numbered ∙ sym (append_assoc written (body_text number reply.body) (text_of (replies lacked new (requests_of lines))))) played;
+            subst (IsPlayed script) (ap (λ (n : ℕ). written ++ (reply_text n reply.body ++ text_of (replies lacked new (requests_of lines)))) numbered ∙ sym (append_assoc written (reply_text number reply.body) (text_of (replies lacked new (requests_of lines))))) played;
       }
 
-  next_by : (request : Option Request) (reply : Option Reply) → IsSoFar script written number h rest → lines_of rest ≡ bytes ∷ lines_of behind → IsLine number bytes line → request_of line ≡ request → IsAnswered request h reply new → IsSoFar script (written ++ reply_text number reply) (number + 1) new behind
+  next_by : (request : Option Request) (reply : Option Reply) → IsSoFar script written number h rest → lines_of rest ≡ bytes ∷ lines_of behind → IsLine number bytes line → request_of line ≡ request → IsAnswered request h reply new → IsSoFar script (written ++ text_put number reply) (number + 1) new behind
   next_by None None so_far lines_are read is answered = next_none so_far lines_are read is answered
   next_by None (Some reply) so_far lines_are read is answered = absurd answered
   next_by (Some request) None so_far lines_are read is answered = absurd answered
   next_by (Some request) (Some reply) so_far lines_are read is answered = next_some request reply so_far lines_are read is answered
 
-  pub IsSoFar-next : (reply : Option Reply) → IsSoFar script written number h rest → lines_of rest ≡ bytes ∷ lines_of behind → IsLine number bytes line → IsAnswered (request_of line) h reply new → IsSoFar script (written ++ reply_text number reply) (number + 1) new behind
+  pub IsSoFar-next : (reply : Option Reply) → IsSoFar script written number h rest → lines_of rest ≡ bytes ∷ lines_of behind → IsLine number bytes line → IsAnswered (request_of line) h reply new → IsSoFar script (written ++ text_put number reply) (number + 1) new behind
   IsSoFar-next reply so_far lines_are read answered = next_by (request_of line) reply so_far lines_are read refl answered
 
 -- nothing has no lines
@@ -181,9 +182,9 @@ between-start s is = rw is (record { limits = refl; closed = record { each = λ 
 
 pub IsGoing-next : (script : List ℕ) (before now after : Option (List ℕ)) (number : ℕ) (h new : History) (rest behind line waiting middle new_waiting : List ℕ) → IsGoing script before now number h rest waiting → lines_of rest ≡ line ∷ lines_of behind → length behind + 1 ≤ length rest → PlaysNext line number h new waiting middle → Sends now after middle new_waiting → IsGoing script before after (number + 1) new behind new_waiting
 IsGoing-next script before now after number h new rest behind line waiting middle new_waiting going lines_are shorter next sends = record {
-  written = going.written ++ reply_text number next.reply;
+  written = going.written ++ text_put number next.reply;
   so_far = IsSoFar-next script going.written number h new rest behind line next.plays.line next.reply going.so_far lines_are next.plays.read.is_line next.plays.answers.answered;
-  sends = Sends-after before now after _ middle new_waiting (Sends-more before now going.written waiting (reply_text number next.reply) middle going.sends next.text) sends;
+  sends = Sends-after before now after _ middle new_waiting (Sends-more before now going.written waiting (text_put number next.reply) middle going.sends next.text) sends;
   numbered = omega (arith, going.numbered);
 }
 

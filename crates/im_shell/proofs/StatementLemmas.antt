@@ -31,7 +31,7 @@ use Rattle.im_names.specs.Statements.{answer}
 use Rattle.im_syntax.specs.declared.statement.Stmt.{Stmt}
 use Rattle.im_syntax.specs.declared.statement.Stmt.TheVariants as stmt
 use Rattle.im_shell.specs.declared.player.NewTable.{NewTable}
-use Rattle.im_shell.specs.declared.reply.Body.TheVariants.{Error}
+use Rattle.im_scan.specs.declared.body.Body.TheVariants.{Error}
 use Rattle.im_shell.specs.declared.reply.Reply.{Reply}
 use Rattle.im_shell.specs.Creations.{creation_of}
 use Rattle.im_shell.specs.Statements.{is_creation, is_definition, name_fault, name_reply, found_plan, named_plan, resolved_plan, looked_up, definition_plan}
@@ -112,12 +112,12 @@ named-fault who k old new s found fault look_is none new_is cause = elim cause [
 
 -- ---- tables
 
-record MadeOf (h : History) (table : ℕ) (columns : List Column) : Type 0 where
-  made : TableInfo
-  is : table_at h table ≡ Some made
-  schema : made.schema ≡ columns
+pub record MadeOf (h : History) (table : ℕ) (columns : List Column) : Type 0 where
+  pub made : TableInfo
+  pub is : table_at h table ≡ Some made
+  pub schema : made.schema ≡ columns
 
-made_of : (h : History) (table : ℕ) (columns : List Column) → columns_at (tables h) table ≡ Some columns → MadeOf h table columns
+pub made_of : (h : History) (table : ℕ) (columns : List Column) → columns_at (tables h) table ≡ Some columns → MadeOf h table columns
 made_of h zero columns e = cc
 made_of h (suc before) columns e = by (slice_get (tables h) before) refl e
   where

@@ -2,9 +2,8 @@
 use Rattle.std.proofs.Common.{◌≡◌, ℕ, zero, suc, ◌+◌, ◌<◌, ◌≤◌, ◌==◌, ◌&&◌, ◌⊎◌, inl, inr, Bool, true, false, if◌then◌else◌, IsTrue, List, [], ◌∷◌, length, map, filter, fold, get_or, Option, Some, None, is_some, refl, sym, ap, ◌∙◌, subst, arith, rules, All}
 use Rattle.std.proofs.lemmas.List.Elements.{All-nil, All-cons}
 use Rattle.std.specs.Prelude.{slice_get}
-use Rattle.std.specs.List.{AllAdjacentBelow, cons_option}
+use Rattle.std.specs.List.{AllAdjacentBelow, AllByRecursion, cons_option}
 use Rattle.std.specs.Option.{option_map}
-use Rattle.im_values.specs.declared.schema.Column.{Column}
 use Rattle.im_history.specs.declared.change.Change.{Change}
 use Rattle.im_history.specs.declared.look.TableInfo.{TableInfo}
 use Rattle.im_history.specs.declared.view.View.{View}
@@ -16,8 +15,13 @@ use Rattle.im_history.specs.Tables.{tables, table_at}
 use Rattle.im_history.specs.Transactions.{pending, pending_after}
 use Rattle.im_history.specs.Views.{seen_by}
 use Rattle.im_history.proofs.Laws.{tables-push, pending-push}
-use Rattle.im_shell.specs.Scans.{IsOpening, AreSeen, seen_in}
-use Rattle.im_shell.specs.Statements.{removals}
+use Rattle.im_shell.specs.Scans.{IsOpening, AreSeen, EachSeen, MayAssign, seen_in}
+use Rattle.im_syntax.specs.Condition.{CondOf}
+use Rattle.im_values.specs.declared.value.Value.{Value}
+use Rattle.im_values.specs.Fits.{fits}
+use Rattle.im_group.specs.Partials.{keeps}
+use Rattle.im_shell.specs.Assigned.{assigned}
+use Rattle.im_shell.specs.Statements.{kept_rows, removals, revisions}
 use Rattle.im_shell.proofs.ScanLemmas.{itself, opening_cursor, cursor_at-opening}
 
 -- ---- own changes, applied once more
@@ -89,8 +93,9 @@ still h who view rid o =
     ap (λ (row : Option Row). fold (row_after view.table rid) row (pending h who)) own
     ∙ (twice view.table rid (pending h who) x ∙ sym own)
 
-exists-opening : (h : History) (who : ℕ) (view : View) → IsOpening h who view → Exists h view.table
-exists-opening h who view o = subst (λ (t : ℕ). Exists h t) (sym table_is) (record { made = o.exists.made; is = same o.table ∙ o.exists.is })
+-- the table is what it was before the opening
+pub table_at-opening : (h : History) (who : ℕ) (view : View) → (o : IsOpening h who view) → table_at h view.table ≡ table_at o.before o.table
+table_at-opening h who view o = ap (table_at h) table_is ∙ same o.table
   where
     table_is : view.table ≡ o.table
     table_is = ap (λ (v : View). v.table) o.view_is
@@ -101,6 +106,9 @@ exists-opening h who view o = subst (λ (t : ℕ). Exists h t) (sym table_is) (r
     same : (table : ℕ) → table_at h table ≡ table_at o.before table
     same zero = refl
     same (suc before) = ap (λ (ts : List TableInfo). slice_get ts before) tables_are
+
+exists-opening : (h : History) (who : ℕ) (view : View) → IsOpening h who view → Exists h view.table
+exists-opening h who view o = record { made = o.exists.made; is = table_at-opening h who view o ∙ o.exists.is }
 
 -- ---- rows that a view sees
 
@@ -152,7 +160,7 @@ is_some-some o row e = rw e (the_true)
     the_true = search rules
 
 -- changes to rows that an opening sees may be written, where what they put fits the table
-pub may-write : (h : History) (who : ℕ) (view : View) (low : ℕ) (put : ℕ × Row → Option Row) (rows : List (ℕ × Row)) → (o : IsOpening h who view) → AreSeen h view low rows → ((schema : List Column) → (row : ℕ × Row) → seen_by h view row.0 ≡ Some row.1 → IsTrue (row_fits schema (put row))) → 1 ≤ length (map (to_row view.table put) rows) → MayWrite h who 0 (map (to_row view.table put) rows)
+pub may-write : (h : History) (who : ℕ) (view : View) (low : ℕ) (put : ℕ × Row → Option Row) (rows : List (ℕ × Row)) → (o : IsOpening h who view) → AreSeen h view low rows → ((made : TableInfo) → table_at h view.table ≡ Some made → (row : ℕ × Row) → seen_by h view row.0 ≡ Some row.1 → IsTrue (row_fits made.schema (put row))) → 1 ≤ length (map (to_row view.table put) rows) → MayWrite h who 0 (map (to_row view.table put) rows)
 may-write h who view low put rows o are fit some = record {
   opened = opening_cursor view;
   is = cursor_at-opening h who view o;
@@ -163,15 +171,53 @@ may-write h who view low put rows o are fit some = record {
   inside = all-seen h view low view.table put (λ (c : Change). c.rid < view.rows) rows are (λ row inside saw. inside);
   saw = all-seen h view low view.table put (λ (c : Change). IsTrue (is_some (seen_by h view c.rid))) rows are (λ row inside saw. is_some-some (seen_by h view row.0) row.1 saw);
   stands = all-seen h view low view.table put (λ (c : Change). IsTrue (is_some (still_seen h who (opening_cursor view) c.rid))) rows are (λ row inside saw. is_some-some (still_seen h who (opening_cursor view) row.0) row.1 (still h who view row.0 o ∙ saw));
-  fit = all-seen h view low view.table put (λ (c : Change). IsTrue (row_fits exists.made.schema c.row)) rows are (λ row inside saw. fit exists.made.schema row saw);
+  fit = all-seen h view low view.table put (λ (c : Change). IsTrue (row_fits exists.made.schema c.row)) rows are (λ row inside saw. fit exists.made exists.is row saw);
 }
   where
     exists : Exists h view.table
     exists = exists-opening h who view o
 
--- the rows that an opening sees may be taken away
-pub may-remove : (h : History) (who : ℕ) (view : View) → IsOpening h who view → 1 ≤ length (removals view.table (seen_in h view)) → MayWrite h who 0 (removals view.table (seen_in h view))
-may-remove h who view o some = may-write h who view 0 (λ row. None) (seen_in h view) o (seen_in-are h view) (λ schema row saw. fits) some
+-- rows that are kept are still seen ones
+seen-lower : (h : History) (view : View) (low least : ℕ) (rows : List (ℕ × Row)) → least ≤ low → AreSeen h view low rows → AreSeen h view least rows
+seen-lower h view low least [] le are = tt
+seen-lower h view low least (row ∷ rows) le are = (omega (arith, le, are.0), are.1, are.2, are.3)
+
+seen-kept : (h : History) (view : View) (low : ℕ) (test : ℕ × Row → Bool) (rows : List (ℕ × Row)) → AreSeen h view low rows → AreSeen h view low (filter test rows)
+seen-kept h view low test [] are = tt
+seen-kept h view low test (row ∷ rows) are = by (test row) (seen-kept h view (row.0 + 1) test rows are.3)
   where
-    fits : IsTrue true
-    fits = search rules
+    by : (b : Bool) → AreSeen h view (row.0 + 1) (filter test rows) → AreSeen h view low (if b then row ∷ filter test rows else filter test rows)
+    by true rest = (are.0, are.1, are.2, rest)
+    by false rest = seen-lower h view (row.0 + 1) low (filter test rows) (omega (arith, are.0)) rest
+
+-- the kept ones of the rows that an opening sees may be taken away
+pub may-remove : (h : History) (who : ℕ) (view : View) (kept : Option (CondOf ℕ Value)) → IsOpening h who view → 1 ≤ length (removals view.table (kept_rows kept (seen_in h view))) → MayWrite h who 0 (removals view.table (kept_rows kept (seen_in h view)))
+may-remove h who view kept o some =
+    may-write h who view 0 (λ row. None) (kept_rows kept (seen_in h view)) o (seen-kept h view 0 (λ row. keeps kept row.1) (seen_in h view) (seen_in-are h view)) (λ made is row saw. fits_none) some
+  where
+    fits_none : IsTrue true
+    fits_none = search rules
+
+-- and values assigned to their columns
+pub may-revise : (h : History) (who : ℕ) (view : View) (kept : Option (CondOf ℕ Value)) (sets : List (ℕ × Value)) → IsOpening h who view → MayAssign sets h view → 1 ≤ length (revisions view.table sets (kept_rows kept (seen_in h view))) → MayWrite h who 0 (revisions view.table sets (kept_rows kept (seen_in h view)))
+may-revise h who view kept sets o may some =
+    may-write h who view 0 (λ row. Some (assigned sets row.1)) (kept_rows kept (seen_in h view)) o (seen-kept h view 0 (λ row. keeps kept row.1) (seen_in h view) (seen_in-are h view)) fit some
+  where
+    true_is : (b : Bool) → b ≡ true → IsTrue b
+    true_is true e = search rules
+    true_is false e = cc
+
+    some-inj : {a b : TableInfo} → Some a ≡ Some b → a ≡ b
+    some-inj e = cc
+
+    fit : (made : TableInfo) → table_at h view.table ≡ Some made → (row : ℕ × Row) → seen_by h view row.0 ≡ Some row.1 → IsTrue (row_fits made.schema (Some (assigned sets row.1)))
+    fit made is row saw =
+        true_is (fits (assigned sets row.1) made.schema) (ap (λ (t : TableInfo). fits (assigned sets row.1) t.schema) (some-inj (sym is ∙ may.is)) ∙ may.each row.0 row.1 saw)
+
+-- what holds of each row that a view sees holds of the rows
+pub all-fit : (h : History) (view : View) (low : ℕ) (P : Row → Type 0) (rows : List (ℕ × Row)) → EachSeen P h view → AreSeen h view low rows → AllByRecursion (λ row. P row.1) rows
+all-fit h view low P [] each are = tt
+all-fit h view low P (row ∷ rows) each are = (each.each row.0 row.1 are.2, all-fit h view (row.0 + 1) P rows each are.3)
+
+pub all-seen_in : (h : History) (view : View) (P : Row → Type 0) → EachSeen P h view → AllByRecursion (λ row. P row.1) (seen_in h view)
+all-seen_in h view P each = all-fit h view 0 P (seen_in h view) each (seen_in-are h view)

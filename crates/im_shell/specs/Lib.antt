@@ -1,3 +1,4 @@
+pub mod Assigned
 pub mod Built
 pub mod Creations
 pub mod Play
@@ -6,4 +7,3 @@ pub mod Scans
 pub mod Statements
 pub mod Texts
 pub mod Turns
-pub mod Words

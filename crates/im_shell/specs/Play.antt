@@ -8,7 +8,8 @@ use Rattle.im_script.specs.declared.line.Line.{Line}
 use Rattle.im_script.specs.Forms.{lines_of}
 use Rattle.im_script.specs.Lines.{AreLines, IsLine}
 use Rattle.im_shell.specs.Requests.{Request, requests_of, Answers}
-use Rattle.im_shell.specs.Texts.{body_text, text_of}
+use Rattle.im_text.specs.Replies.{reply_text}
+use Rattle.im_shell.specs.Texts.{text_of}
 use Rattle.im_shell.specs.Turns.{amends}
 
 -- one request, memory having lacked after so many entries of it or not at all
@@ -88,9 +89,9 @@ pub record IsSoFar (script written : List ℕ) (number : ℕ) (history : History
       → IsPlayed script (written ++ text_of (replies lacked history (requests_of lines)))
 
 -- what comes behind the text that waits: the reply to a line, where there is one
-abbrev pub reply_text : ℕ → Option Reply → List ℕ
-reply_text number None = []
-reply_text number (Some reply) = body_text number reply.body
+abbrev pub text_put : ℕ → Option Reply → List ℕ
+text_put number None = []
+text_put number (Some reply) = reply_text number reply.body
 
 -- the line of these bytes, with its number
 pub record IsRead (number : ℕ) (bytes : List ℕ) (line : Line) : Type 0 where
@@ -106,4 +107,4 @@ pub record PlaysBytes (bytes : List ℕ) (number : ℕ) (old : History) (reply :
 pub record PlaysNext (bytes : List ℕ) (number : ℕ) (old new : History) (waiting new_waiting : List ℕ) : Type 0 where
   pub reply : Option Reply
   pub plays : PlaysBytes bytes number old reply new
-  pub text : new_waiting ≡ waiting ++ reply_text number reply
+  pub text : new_waiting ≡ waiting ++ text_put number reply

@@ -1,14 +1,19 @@
 -- What a scan knows and finds: cursor 0 was opened on a table and has a view of it.
-use Rattle.std.specs.Prelude.{◌≡◌, ℕ, ◌+◌, ◌<◌, ◌≤◌, List, [], ◌∷◌, ◌++◌, map, fold, slice_set, Option, Some, None}
+use Rattle.std.specs.Prelude.{◌≡◌, ℕ, true, ◌+◌, ◌<◌, ◌≤◌, List, [], ◌∷◌, ◌++◌, map, fold, slice_set, Option, Some, None}
 use Rattle.std.specs.List.{range_with_len}
+use Rattle.im_values.specs.declared.value.Value.{Value}
+use Rattle.im_values.specs.Fits.{fits}
 use Rattle.im_core.specs.Seen.{Seen}
 use Rattle.im_history.specs.declared.change.Change.{Change}
 use Rattle.im_history.specs.declared.entry.What.TheVariants.{Open, Shut}
+use Rattle.im_history.specs.declared.look.TableInfo.{TableInfo}
 use Rattle.im_history.specs.declared.view.View.{View}
 use Rattle.im_history.specs.Cursors.{opened}
 use Rattle.im_history.specs.History.{History}
 use Rattle.im_history.specs.Legal.{Exists}
 use Rattle.im_history.specs.Rows.{Row, rows, present}
+use Rattle.im_history.specs.Tables.{table_at}
+use Rattle.im_shell.specs.Assigned.{assigned}
 use Rattle.im_history.specs.Views.{view_at, seen_by}
 
 -- a session's last entry opened cursor 0 on a table, with this view
@@ -53,3 +58,13 @@ abbrev pub AreSeen : History → View → ℕ → List (ℕ × Row) → Type 0
 AreSeen history view low [] = Unit {0}
 AreSeen history view low (row ∷ rows) =
     (low ≤ row.0) × (row.0 < view.rows) × (seen_by history view row.0 ≡ Some row.1) × AreSeen history view (row.0 + 1) rows
+
+-- this holds of each row that a view sees
+pub record EachSeen (P : Row → Type 0) (history : History) (view : View) : Type 0 where
+  pub each : (rid : ℕ) (row : Row) → seen_by history view rid ≡ Some row → P row
+
+-- what assigning these values makes of each row that a view sees fits its table
+pub record MayAssign (sets : List (ℕ × Value)) (history : History) (view : View) : Type 0 where
+  pub made : TableInfo
+  pub is : table_at history view.table ≡ Some made
+  pub each : (rid : ℕ) (row : Row) → seen_by history view rid ≡ Some row → fits (assigned sets row) made.schema ≡ true

@@ -1,6 +1,9 @@
 -- The plan of each statement: what it reads, adds and answers, turn by turn.
-use Rattle.std.specs.Prelude.{ℕ, ◌+◌, Bool, true, false, List, [], ◌∷◌, length, map, Some, None, Result, Ok, Err, if◌then◌else◌}
+use Rattle.std.specs.Prelude.{ℕ, ◌+◌, Bool, true, false, List, [], ◌∷◌, length, map, filter as list_filter, Option, Some, None, Result, Ok, Err, if◌then◌else◌}
 use Rattle.im_values.specs.declared.schema.Column.{Column}
+use Rattle.im_values.specs.declared.value.Value.{Value}
+use Rattle.im_group.specs.Answers.{answer as answer_of}
+use Rattle.im_group.specs.Partials.{keeps}
 use Rattle.im_history.specs.declared.change.Change.{Change}
 use Rattle.im_history.specs.declared.entry.Mode.{Mode}
 use Rattle.im_history.specs.declared.entry.What.TheVariants as what
@@ -15,18 +18,23 @@ use Rattle.im_history.specs.Tables.{tables, given}
 use Rattle.im_history.specs.Transactions.{is_open, mode}
 use Rattle.im_history.specs.Views.{view_at, seen_by}
 use Rattle.im_names.specs.declared.fault.NameFault.{NameFault}
-use Rattle.im_names.specs.declared.fault.NameFault.TheVariants.{UnknownTable, NoMemory}
+use Rattle.im_names.specs.declared.fault.NameFault.TheVariants as names
 use Rattle.im_names.specs.declared.resolved.Resolved.{Resolved}
 use Rattle.im_names.specs.declared.resolved.Resolved.TheVariants as resolved
 use Rattle.im_names.specs.Statements.{answer}
 use Rattle.im_plan.specs.Plan.{Plan, Turn}
+use Rattle.im_syntax.specs.Condition.{CondOf}
+use Rattle.im_syntax.specs.declared.bound.Bound.{Bound}
 use Rattle.im_syntax.specs.declared.statement.Stmt.{Stmt}
 use Rattle.im_syntax.specs.declared.statement.Stmt.TheVariants.{Create}
+use Rattle.im_shell.specs.Assigned.{assigned}
 use Rattle.im_shell.specs.Built.{is_built}
-use Rattle.im_shell.specs.declared.reply.Body.{Body}
-use Rattle.im_shell.specs.declared.reply.Body.TheVariants.{Created, Begun, Inserted, Deleted, Committed, RolledBack, Counted, Error}
-use Rattle.im_shell.specs.declared.reply.Fault.{Fault}
-use Rattle.im_shell.specs.declared.reply.Fault.TheVariants as fault
+use Rattle.im_shell.specs.declared.rewriting.Rewriting.{Rewriting}
+use Rattle.im_shell.specs.declared.rewriting.Rewriting.TheVariants.{Updating, Deleting}
+use Rattle.im_scan.specs.declared.body.Body.{Body}
+use Rattle.im_scan.specs.declared.body.Body.TheVariants.{Created, Begun, Inserted, Updated, Deleted, Committed, RolledBack, Answer, Error}
+use Rattle.im_scan.specs.declared.fault.Fault.{Fault}
+use Rattle.im_scan.specs.declared.fault.Fault.TheVariants as fault
 use Rattle.im_shell.specs.declared.reply.Reply.{Reply}
 use Rattle.im_shell.specs.Turns.{answer_at, refusal, look, fault_of, creation_fault, unless_refused, or_refused, decide, memory_reply, scan, end_scan}
 
@@ -66,13 +74,18 @@ insert limits who table rows =
 abbrev pub seen_rows : History → ℕ → ℕ → List (ℕ × Row)
 seen_rows at who table = present (seen_by at (view_at at who table)) 0 (given at table)
 
--- rows that were seen at an SCN are counted
-abbrev pub counting : ℕ → ℕ → List (ℕ × Row) → Plan Reply
-counting place scn rows = end_scan place (Counted scn (length rows))
+-- a query is answered over rows that were seen at an SCN
+abbrev pub answering : Bound → ℕ → ℕ → List (ℕ × Row) → Plan Reply
+answering bound place scn rows = end_scan place (Answer scn (answer_of bound rows))
 
--- SELECT COUNT(*)
-abbrev pub count : ℕ → ℕ → Plan Reply
-count who table = scan table (λ at. counting (length at) (snapshot at who) (seen_rows at who table))
+-- SELECT
+abbrev pub select : ℕ → Bound → Plan Reply
+select who bound = scan bound.table (λ at. answering bound (length at) (snapshot at who) (seen_rows at who bound.table))
+
+-- what is answered once so many rows are written to
+abbrev pub written : Rewriting → ℕ → Body
+written Updating rows = Updated rows
+written Deleting rows = Deleted rows
 
 -- changes are written to rows that were seen at an SCN, unless it is refused; then the scan ends
 abbrev pub write_seen : Limits → ℕ → ℕ → List Change → Body → Plan Reply
@@ -86,17 +99,37 @@ rewrite limits who place scn [] body = end_scan place (body 0)
 rewrite limits who place scn (change ∷ changes) body =
     write_seen limits who scn (change ∷ changes) (body (length (change ∷ changes)))
 
+-- the rows that a condition keeps
+abbrev pub kept_rows : Option (CondOf ℕ Value) → List (ℕ × Row) → List (ℕ × Row)
+kept_rows filter rows = list_filter (λ row. keeps filter row.1) rows
+
 -- changes that take these rows of a table away
 abbrev pub removals : ℕ → List (ℕ × Row) → List Change
 removals table rows = map (λ row. record { table = table; rid = row.0; row = None }) rows
 
--- rows that were seen at an SCN are taken away
-abbrev pub removal : Limits → ℕ → ℕ → ℕ → ℕ → List (ℕ × Row) → Plan Reply
-removal limits who table place scn rows = rewrite limits who place scn (removals table rows) (λ count. Deleted count)
+-- those that a condition keeps of the rows that were seen at an SCN are taken away
+abbrev pub removal : Limits → ℕ → ℕ → Option (CondOf ℕ Value) → ℕ → ℕ → List (ℕ × Row) → Plan Reply
+removal limits who table filter place scn rows =
+    rewrite limits who place scn (removals table (kept_rows filter rows)) (written Deleting)
 
--- DELETE of all rows
-abbrev pub delete : Limits → ℕ → ℕ → Plan Reply
-delete limits who table = scan table (λ at. removal limits who table (length at) (snapshot at who) (seen_rows at who table))
+-- DELETE
+abbrev pub delete : Limits → ℕ → ℕ → Option (CondOf ℕ Value) → Plan Reply
+delete limits who table filter =
+    scan table (λ at. removal limits who table filter (length at) (snapshot at who) (seen_rows at who table))
+
+-- changes that assign values to columns of these rows of a table
+abbrev pub revisions : ℕ → List (ℕ × Value) → List (ℕ × Row) → List Change
+revisions table sets rows = map (λ row. record { table = table; rid = row.0; row = Some (assigned sets row.1) }) rows
+
+-- values are assigned to those that a condition keeps of the rows that were seen at an SCN
+abbrev pub revision : Limits → ℕ → ℕ → Option (CondOf ℕ Value) → List (ℕ × Value) → ℕ → ℕ → List (ℕ × Row) → Plan Reply
+revision limits who table filter sets place scn rows =
+    rewrite limits who place scn (revisions table sets (kept_rows filter rows)) (written Updating)
+
+-- UPDATE
+abbrev pub update : Limits → ℕ → ℕ → Option (CondOf ℕ Value) → List (ℕ × Value) → Plan Reply
+update limits who table filter sets =
+    scan table (λ at. revision limits who table filter sets (length at) (snapshot at who) (seen_rows at who table))
 
 -- a statement that writes to rows is refused at its look in a READ ONLY transaction, before anything is scanned
 abbrev pub unless_read_only : ℕ → History → Plan Reply → Plan Reply
@@ -104,22 +137,29 @@ unless_read_only who at plan = if forbids_writing (mode at who) then answer_at a
 
 -- ---- names
 
--- what a statement is told of a fault of its names. No statement that is played yet meets another fault
+-- what a statement is told of a fault of its names
 abbrev pub name_fault : NameFault → Fault
-name_fault (UnknownTable name) = fault.UnknownTable name
-name_fault _ = fault.NotBuilt
+name_fault (names.UnknownTable name) = fault.UnknownTable name
+name_fault (names.UnknownColumn name) = fault.UnknownColumn name
+name_fault (names.RepeatedColumn name) = fault.RepeatedColumn name
+name_fault (names.WrongCount got wanted) = fault.WrongCount got wanted
+name_fault (names.WrongKind column) = fault.WrongKind column
+name_fault (names.TooLong column length limit) = fault.TooLong column length limit
+name_fault (names.NotGrouped column) = fault.NotGrouped column
+name_fault names.NoMemory = fault.Memory 0
 
 -- the reply to a line that has this fault of its names, at this place, once it had made k entries
 abbrev pub name_reply : ℕ → ℕ → NameFault → Reply
-name_reply k place NoMemory = memory_reply k
+name_reply k place names.NoMemory = memory_reply k
 name_reply k place fault = record { place = Some place; body = Error (name_fault fault) }
 
 -- a statement whose names were found at this history
 abbrev pub resolved_plan : Limits → ℕ → History → Resolved → Plan Reply
-resolved_plan limits who at (resolved.Select bound) = count who bound.table
+resolved_plan limits who at (resolved.Select bound) = select who bound
 resolved_plan limits who at (resolved.Create name schema grid memory) = create_table name schema grid
 resolved_plan limits who at (resolved.Insert table rows) = insert limits who table rows
-resolved_plan limits who at (resolved.Delete table filter) = unless_read_only who at (delete limits who table)
+resolved_plan limits who at (resolved.Update table filter sets) = unless_read_only who at (update limits who table filter sets)
+resolved_plan limits who at (resolved.Delete table filter) = unless_read_only who at (delete limits who table filter)
 resolved_plan limits who at (resolved.SetMode mode) = set_mode who mode
 resolved_plan limits who at resolved.Commit = commit
 resolved_plan limits who at resolved.Rollback = roll_back who at

@@ -2,9 +2,10 @@
 //! replies to a sink.
 //!
 //! What must be believed is in `specs/`. The lines of a script are those of `im_script`, and the store is that of
-//! `im_core`. `Built.antt` says which statements are played, `Turns.antt` what their plans are made of and
-//! `Statements.antt` the plan of each, `Requests.antt` what a line asks for, `Play.antt` plays a whole script and says
-//! where memory may lack, and `Texts.antt` has the text of each reply. `Scans.antt` says what a scan finds.
+//! `im_core`; names are resolved by `im_names`, queries answered by `im_group`, and replies written by `im_text`.
+//! `Built.antt` says which statements are played, `Turns.antt` what their plans are made of and `Statements.antt` the plan
+//! of each, `Requests.antt` what a line asks for, and `Play.antt` plays a whole script and says where memory may lack.
+//! `Scans.antt` says what a scan finds.
 //!
 //! The main promise is the clause `done` of [`run`]. Start with `top.rt`, then `specs/Play.antt`.
 #![tactic(auto)]
@@ -14,17 +15,20 @@ mod changes;
 mod lines;
 mod play;
 mod player;
+mod put_at;
+mod query;
 mod refusals;
 mod reply;
+mod rewrite;
+mod rewriting;
 mod scan;
 mod statement;
-mod text;
 mod top;
 mod unit;
-mod words;
+mod writing;
 
+pub use im_words::Word;
 pub use top::{MOST_BYTES, Status, run};
-pub use words::Word;
 
 #[cfg(test)]
 mod tests;

@@ -2,18 +2,18 @@ ghost use Rattle.std.specs.Prelude.{◌≡◌, ◌<◌, ◌≤◌, [], ◌++◌,
 ghost use Rattle.im_edge.specs.Faults.{Rose};
 ghost use Rattle.im_edge.specs.Writing.{Took, TookPart};
 ghost use Rattle.im_shell.specs.declared.play.Stop.TheVariants as stop;
-ghost use Rattle.im_shell.specs.Play.{IsRead, reply_text, Sends, Plays, PlaysBytes, PlaysInPart, PlaysNext};
+ghost use Rattle.im_shell.specs.Play.{IsRead, text_put, Sends, Plays, PlaysBytes, PlaysInPart, PlaysNext};
 ghost use Rattle.im_shell.specs.Requests.{Answers, IsBetween, IsKnown, script_limits};
 
 use crate::lines::first_line;
 use crate::refusals::{lacked, refusal};
-use crate::reply::{Fault, Reply};
+use crate::reply::Reply;
 use crate::statement::play_statement;
-use crate::text::body_text;
 use crate::unit::NoUnit;
 use im_core::Core;
 use im_edge::{Sink, WriteFault, write_all};
 use im_history::Limits;
+use im_scan::Fault;
 use im_script::{Line, LineKind, line_of};
 use im_values::{NoMemory, Steps};
 use std::alloc::Global;
@@ -112,11 +112,11 @@ fn put_reply(
     reply: &Option<Reply>,
     waiting: &mut Vec<u8>,
 ) -> Result<(), NoMemory>
-    ensures ok { OnOk result (waiting.new.items ≡ waiting.old.items ++ reply_text number reply.now) }
+    ensures ok { OnOk result (waiting.new.items ≡ waiting.old.items ++ text_put number reply.now) }
     ensures err { OnErr result (waiting.new.items ≡ waiting.old.items) }
 {
     if let Some(reply) = reply {
-        let text = body_text(alloc, number, &reply.body)?;
+        let text = im_text::reply(alloc, number, &reply.body)?;
         waiting.extend_from_slice(text.as_slice())?;
     }
     Ok(())

@@ -1,11 +1,12 @@
 ghost use Rattle.std.specs.Prelude.{◌≡◌, Some, None};
-ghost use Rattle.im_shell.specs.declared.reply.Body.TheVariants.{Error};
+ghost use Rattle.im_scan.specs.declared.body.Body.TheVariants.{Error};
 ghost use Rattle.im_shell.specs.Statements.{name_fault, name_reply};
 ghost use Rattle.im_shell.specs.Turns as turns;
 
-use crate::reply::{Body, Fault, Reply};
+use crate::reply::Reply;
 use im_history::{Refused, Why};
 use im_names::NameFault;
+use im_scan::{Body, Fault};
 use im_values::Name;
 
 /// The reply that was settled at this place.
@@ -83,7 +84,21 @@ fn name_fault(fault: NameFault) -> Fault
 {
     match fault {
         NameFault::UnknownTable { name } => Fault::UnknownTable { name },
-        _ => Fault::NotBuilt,
+        NameFault::UnknownColumn { name } => Fault::UnknownColumn { name },
+        NameFault::RepeatedColumn { name } => Fault::RepeatedColumn { name },
+        NameFault::WrongCount { got, wanted } => Fault::WrongCount { got, wanted },
+        NameFault::WrongKind { column } => Fault::WrongKind { column },
+        NameFault::TooLong {
+            column,
+            length,
+            limit,
+        } => Fault::TooLong {
+            column,
+            length,
+            limit,
+        },
+        NameFault::NotGrouped { column } => Fault::NotGrouped { column },
+        NameFault::NoMemory => Fault::Memory { k: 0 },
     }
 }
 

@@ -1,12 +1,12 @@
-ghost use Rattle.std.specs.Prelude.{◌≡◌, ◌<◌, ◌≤◌, ◌++◌, length, map, slice_set, IfOk, OnOk};
+ghost use Rattle.std.specs.Prelude.{◌≡◌, ◌<◌, ◌≤◌, ◌++◌, length, map, IfOk, OnOk};
 ghost use Rattle.im_shell.specs.Scans as scans;
 
+use crate::put_at::put_at;
 use crate::unit::NoUnit;
 use im_core::Core;
 use im_history::{Change, View};
 use im_values::{NoMemory, Row, Steps};
 use std::alloc::Global;
-use std::mem::replace;
 use std::sync::ledger::Ledger;
 
 /// Sessions and workers have numbers below this.
@@ -79,15 +79,6 @@ fn change_rows(slots: &mut [Option<Row>], changes: Vec<Change>)
 {
     for change in changes {
         put_at(slots, change.rid, change.row);
-    }
-}
-
-/// Changes the row at a row number, where there is room for it.
-fn put_at(slots: &mut [Option<Row>], rid: u64, row: Option<Row>)
-    ensures { slots.new ≡ slice_set slots.old rid row }
-{
-    if rid < slots.len() as u64 {
-        drop(replace(&mut slots[rid as usize], row));
     }
 }
 

@@ -1,14 +1,16 @@
-ghost use Rattle.std.specs.Prelude.{◌≡◌, ◌≤◌, ◌⊎◌, ◌↔◌, ◌+◌, false, IfSome};
+ghost use Rattle.std.specs.Prelude.{◌≡◌, ◌≤◌, ◌⊎◌, ◌+◌, IfSome};
 ghost use Rattle.im_edge.specs.Faults.{Rose};
 ghost use Rattle.im_edge.specs.Reading.{GaveAtMost, GaveCount};
 ghost use Rattle.im_edge.specs.Source.{IsSpent};
 ghost use Rattle.im_shell.specs.Play.{Plays, PlaysInPart};
-ghost use Rattle.im_shell.specs.Words.{are_good};
+ghost use Rattle.im_words.specs.declared.asked.Asked.{Asked};
+ghost use Rattle.im_words.specs.Command.{Refuses};
+ghost use Rattle.im_words.specs.Good.{IsGood};
 
 use crate::play::{Stop, play_script};
-use crate::words::{Word, are_good};
 use im_edge::{Gate, ReadError, Sink, Source, read_all};
 use im_values::Steps;
+use im_words::{Word, WordsFault, read_words};
 use std::alloc::Global;
 use std::sync::Wait;
 use std::sync::ledger::Ledger;
@@ -37,7 +39,7 @@ pub enum Status {
 /// Runs the program: reads a script from the source to its end, plays it line by line, and writes the replies to the
 /// sink.
 ///
-/// `words` are the program's name and `run`. Want of memory inside a line is a reply of that line, and the script goes
+/// `words` are the program's name and those of its command (`im_words`). Want of memory inside a line is a reply of that line, and the script goes
 /// on; [`Status::NoMemory`] is want of memory in reading the script or in making a text.
 pub fn run<R: Threads + Wait + Sync, S: Source, K: Sink, G: Gate + Sync, L: Ledger>(
     _rt: &R,
@@ -55,7 +57,10 @@ pub fn run<R: Threads + Wait + Sync, S: Source, K: Sink, G: Gate + Sync, L: Ledg
         PlaysInPart script (K.taken sink.old) (K.taken sink.new)) }
     ensures read_to_end { result ≡ Status.Done → IsSpent (S.left source.new) }
 
-    ensures usage { (result ≡ Status.Usage) ↔ (are_good words.now ≡ false) }
+    // The command's words are refused exactly where the reader of words refuses them, and good words never are.
+    ensures usage { result ≡ Status.Usage → Refuses words.now }
+    ensures refused { Refuses words.now → (result ≡ Status.Usage) ⊎ (result ≡ Status.NoMemory) }
+    ensures good { (asked : Asked) → IsGood words.now asked → ¬ (result ≡ Status.Usage) }
     ensures untouched { result ≡ Status.Usage → (source.new ≡ source.old) × (sink.new ≡ sink.old) }
 
     ensures read_fault { result ≡ Status.ReadFault → Rose (S.faults source.old) (S.faults source.new) }
@@ -66,8 +71,10 @@ pub fn run<R: Threads + Wait + Sync, S: Source, K: Sink, G: Gate + Sync, L: Ledg
     ensures reads_later { S.faults source.old ≤ S.faults source.new }
     ensures writes_later { K.faults sink.old ≤ K.faults sink.new }
 {
-    if !are_good(words) {
-        return Status::Usage;
+    match read_words(alloc, words) {
+        Ok(_) => {}
+        Err(WordsFault::Usage) => return Status::Usage,
+        Err(WordsFault::NoMemory) => return Status::NoMemory,
     }
     let script = match read_all(alloc, source, MOST_BYTES) {
         Ok(script) => script,

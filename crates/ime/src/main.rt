@@ -55,7 +55,10 @@ fn play<R: Input + Print + Threads + Wait + Sync, L: Ledger>(
 fn told(status: Status) -> (u8, &'static str) {
     match status {
         Status::Done => (0, ""),
-        Status::Usage => (1, "ime: usage: ime run"),
+        Status::Usage => (
+            1,
+            "ime: usage: ime run [--area N] [--workers N] [--turns N] [--rows N] [--seed N]",
+        ),
         Status::ReadFault => (2, "ime: read failed"),
         Status::WriteFault => (3, "ime: write failed"),
         Status::NoMemory => (4, "ime: no memory"),

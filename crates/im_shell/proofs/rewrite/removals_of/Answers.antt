@@ -1,0 +1,24 @@
+use Rattle.std.proofs.Common.{◌≡◌, ◌≤◌, ◌∙◌, ap, sym, subst, List, ℕ, length}
+use Rattle.std.proofs.lemmas.Result.{IfOk-weaker}
+use Rattle.im_history.specs.declared.change.Change.{Change}
+use Rattle.im_history.specs.Legal.{MayWrite}
+use Rattle.im_history.specs.Rows.{Row}
+use Rattle.im_shell.specs.Scans.{seen_in}
+use Rattle.im_shell.specs.Statements.{removals, kept_rows}
+use Rattle.im_shell.proofs.WriteLemmas.{may-remove}
+use Rattle.im_shell.proofs.rewrite.removals_of.Goals as goal
+
+pub returns-clause-are : goal.returns-clause-are
+returns-clause-are g c =
+    IfOk-weaker c.removals.result _ _
+    (λ changes e. e ∙ (ap (λ (rows : List (ℕ × Row)). removals c.args.table rows) c.in_ok-rows.ensures.rows ∙ ap (λ (table : ℕ). removals table (kept_rows c.args.filter.now (seen_in c.args.store.now.log c.args.view))) c.requires.table))
+    c.removals.ensures
+
+pub returns-clause-may : goal.returns-clause-may
+returns-clause-may g c =
+    IfOk-weaker c.removals.result _ _
+    (λ changes e some.
+    let are = e ∙ (ap (λ (rows : List (ℕ × Row)). removals c.args.table rows) c.in_ok-rows.ensures.rows ∙ ap (λ (table : ℕ). removals table (kept_rows c.args.filter.now (seen_in c.args.store.now.log c.args.view))) c.requires.table) in
+    subst (λ (cs : List Change). MayWrite c.args.store.now.log c.args.who 0 cs) (sym are)
+    (may-remove c.args.store.now.log c.args.who c.args.view c.args.filter.now c.requires.opening (subst (λ (cs : List Change). 1 ≤ length cs) are some)))
+    c.removals.ensures

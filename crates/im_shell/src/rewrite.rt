@@ -1,0 +1,212 @@
+ghost use Rattle.std.specs.Prelude.{◌≡◌, ◌<◌, ◌≤◌, [], ◌∷◌, ◌++◌, length, true, IfOk, OnOk};
+ghost use Rattle.std.specs.List.{AllByRecursion};
+ghost use Rattle.std.specs.Option.{ForSome};
+ghost use Rattle.im_core.specs.Answers.{cursor_view};
+ghost use Rattle.im_group.specs.Partials.{keeps as row_is_kept};
+ghost use Rattle.im_history.specs.Cursors.{is_cursor_open};
+ghost use Rattle.im_history.specs.Legal.{MayWrite};
+ghost use Rattle.im_syntax.specs.BoundFits.{FilterFits};
+ghost use Rattle.im_shell.specs.Scans as scans;
+ghost use Rattle.im_shell.specs.Statements as plan;
+ghost use Rattle.im_shell.specs.Turns.{IsRest};
+
+use crate::changes::{removals, revisions};
+use crate::refusals::{lacked, refused_reply, settled};
+use crate::reply::Reply;
+use crate::rewriting::Rewriting;
+use crate::scan::{NUMBERS, seen_rows};
+use crate::unit::NoUnit;
+use im_core::Core;
+use im_eval::holds;
+use im_history::{Change, View};
+use im_syntax::Filter;
+use im_values::{NoMemory, Row, Steps, Truth, Value};
+use std::alloc::Global;
+use std::sync::ledger::Ledger;
+
+/// Takes away the rows that the open cursor 0 of a session sees and a condition keeps. The cursor is still open then.
+pub fn remove_seen<L: Ledger>(
+    alloc: Global,
+    store: &mut Core<NoUnit>,
+    who: u32,
+    view: View,
+    filter: &Option<Filter>,
+    steps: &mut Steps<L>,
+) -> Reply
+    requires session { who < NUMBERS }
+    requires opening { scans.IsOpening store.old.log who view }
+    requires fits { scans.EachSeen (λ row. ForSome filter.now (FilterFits row)) store.old.log view }
+    ensures cursor { is_cursor_open store.new.log who 0 ≡ true }
+    ensures rest { IsRest who 1 store.old
+        (plan.removal store.old.limits who view.table filter.now view.place view.scn (scans.seen_in store.old.log view))
+        result (scans.shut_by who store.new) }
+{
+    let (place, table) = (view.place, view.table);
+    match removals_of(alloc, store, who, table, view, filter, steps) {
+        Ok(changes) => rewrite(store, who, place, changes, Rewriting::Deleting),
+        Err(NoMemory) => lacked(1),
+    }
+}
+
+/// Assigns values to columns of the rows that the open cursor 0 of a session sees and a condition keeps. The cursor is
+/// still open then.
+pub fn revise_seen<L: Ledger>(
+    alloc: Global,
+    store: &mut Core<NoUnit>,
+    who: u32,
+    view: View,
+    filter: &Option<Filter>,
+    sets: &[(u32, Value)],
+    steps: &mut Steps<L>,
+) -> Reply
+    requires session { who < NUMBERS }
+    requires opening { scans.IsOpening store.old.log who view }
+    requires fits { scans.EachSeen (λ row. ForSome filter.now (FilterFits row)) store.old.log view }
+    requires assigns { scans.MayAssign sets.now store.old.log view }
+    ensures cursor { is_cursor_open store.new.log who 0 ≡ true }
+    ensures rest { IsRest who 1 store.old
+        (plan.revision store.old.limits who view.table filter.now sets.now view.place view.scn (scans.seen_in store.old.log view))
+        result (scans.shut_by who store.new) }
+{
+    let (place, table) = (view.place, view.table);
+    match revisions_of(alloc, store, who, table, view, filter, sets, steps) {
+        Ok(changes) => rewrite(store, who, place, changes, Rewriting::Updating),
+        Err(NoMemory) => lacked(1),
+    }
+}
+
+/// The changes that take away the rows of a table which cursor 0 sees and a condition keeps.
+fn removals_of<L: Ledger>(
+    alloc: Global,
+    store: &mut Core<NoUnit>,
+    who: u32,
+    table: u32,
+    view: View,
+    filter: &Option<Filter>,
+    steps: &mut Steps<L>,
+) -> Result<Vec<Change>, NoMemory>
+    requires session { who < NUMBERS }
+    requires table { table ≡ view.table }
+    requires opening { scans.IsOpening store.old.log who view }
+    requires fits { scans.EachSeen (λ row. ForSome filter.now (FilterFits row)) store.old.log view }
+    ensures same { store.new ≡ store.old }
+    ensures are { IfOk result (λ changes.
+        changes.items ≡ plan.removals view.table (plan.kept_rows filter.now (scans.seen_in store.old.log view))) }
+    ensures may { IfOk result (λ changes. 1 ≤ length changes.items → MayWrite store.old.log who 0 changes.items) }
+{
+    let rows = kept_seen(alloc, store, who, view, filter, steps)?;
+    removals(alloc, table, rows)
+}
+
+/// The changes that assign values to columns of the rows of a table which cursor 0 sees and a condition keeps.
+fn revisions_of<L: Ledger>(
+    alloc: Global,
+    store: &mut Core<NoUnit>,
+    who: u32,
+    table: u32,
+    view: View,
+    filter: &Option<Filter>,
+    sets: &[(u32, Value)],
+    steps: &mut Steps<L>,
+) -> Result<Vec<Change>, NoMemory>
+    requires session { who < NUMBERS }
+    requires table { table ≡ view.table }
+    requires opening { scans.IsOpening store.old.log who view }
+    requires fits { scans.EachSeen (λ row. ForSome filter.now (FilterFits row)) store.old.log view }
+    requires assigns { scans.MayAssign sets.now store.old.log view }
+    ensures same { store.new ≡ store.old }
+    ensures are { IfOk result (λ changes.
+        changes.items ≡ plan.revisions view.table sets.now (plan.kept_rows filter.now (scans.seen_in store.old.log view))) }
+    ensures may { IfOk result (λ changes. 1 ≤ length changes.items → MayWrite store.old.log who 0 changes.items) }
+{
+    let rows = kept_seen(alloc, store, who, view, filter, steps)?;
+    revisions(alloc, table, sets, rows)
+}
+
+/// The rows that the open cursor 0 of a session sees and a condition keeps, each with its number, in rising order.
+fn kept_seen<L: Ledger>(
+    alloc: Global,
+    store: &mut Core<NoUnit>,
+    who: u32,
+    view: View,
+    filter: &Option<Filter>,
+    steps: &mut Steps<L>,
+) -> Result<Vec<(u64, Row)>, NoMemory>
+    requires session { who < NUMBERS }
+    requires opening { scans.IsOpening store.old.log who view }
+    requires fits { scans.EachSeen (λ row. ForSome filter.now (FilterFits row)) store.old.log view }
+    ensures same { store.new ≡ store.old }
+    ensures rows { IfOk result (λ rows. rows.items ≡ plan.kept_rows filter.now (scans.seen_in store.old.log view)) }
+{
+    let rows = seen_rows(alloc, store, who, view, steps)?;
+    kept(alloc, filter, rows)
+}
+
+/// The rows that a condition keeps, in their order.
+fn kept(
+    alloc: Global,
+    filter: &Option<Filter>,
+    rows: Vec<(u64, Row)>,
+) -> Result<Vec<(u64, Row)>, NoMemory>
+    requires { AllByRecursion (λ row. ForSome filter.now (FilterFits row.1)) rows.items }
+    ensures { IfOk result (λ kept. kept.items ≡ plan.kept_rows filter.now rows.items) }
+{
+    let mut kept = Vec::new(alloc);
+    for (rid, row) in rows {
+        put_kept(&mut kept, filter, rid, row)?;
+    }
+    Ok(kept)
+}
+
+/// Puts a row behind others where a condition keeps it.
+fn put_kept(
+    kept: &mut Vec<(u64, Row)>,
+    filter: &Option<Filter>,
+    rid: u64,
+    row: Row,
+) -> Result<(), NoMemory>
+    requires { ForSome filter.now (FilterFits row) }
+    ensures { OnOk result (kept.new.items ≡ kept.old.items ++ plan.kept_rows filter.now ((rid, row) ∷ [])) }
+{
+    if keeps(filter, &row) {
+        kept.push((rid, row))?;
+    }
+    Ok(())
+}
+
+/// Whether a condition is Yes of a row. Without a condition each row is kept.
+fn keeps(filter: &Option<Filter>, row: &Row) -> bool
+    requires { ForSome filter.now (FilterFits row.now) }
+    ensures { result ≡ row_is_kept filter.now row.now }
+{
+    match filter {
+        Some(filter) => matches!(holds(filter, row), Truth::Yes),
+        None => true,
+    }
+}
+
+/// Writes changes to rows that the open cursor 0 of a session saw, and answers how many. The cursor is still open then.
+fn rewrite(
+    store: &mut Core<NoUnit>,
+    who: u32,
+    opened_at: u64,
+    changes: Vec<Change>,
+    rewriting: Rewriting,
+) -> Reply
+    requires session { who < NUMBERS }
+    requires cursor { is_cursor_open store.old.log who 0 ≡ true }
+    requires may { 1 ≤ length changes.items → MayWrite store.old.log who 0 changes.items }
+    ensures cursor { is_cursor_open store.new.log who 0 ≡ true }
+    ensures rest { IsRest who 1 store.old
+        (plan.rewrite store.old.limits who opened_at (cursor_view store.old.log who 0).scn changes.items (plan.written rewriting))
+        result (scans.shut_by who store.new) }
+{
+    if changes.is_empty() {
+        return settled(opened_at, rewriting.written(0));
+    }
+    let rows = changes.len() as u64;
+    match store.write(who, 0, changes) {
+        Ok(place) => settled(place, rewriting.written(rows)),
+        Err(refused) => refused_reply(1, refused),
+    }
+}

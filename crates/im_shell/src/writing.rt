@@ -1,0 +1,122 @@
+ghost use Rattle.std.specs.Prelude.{◌≡◌, ◌<◌, []};
+ghost use Rattle.im_history.specs.Cursors.{opened};
+ghost use Rattle.im_history.specs.Legal.{IsLegal};
+ghost use Rattle.im_history.specs.Tables.{tables};
+ghost use Rattle.im_history.specs.Views.{look_at};
+ghost use Rattle.im_names.specs.Fitting.{OfTable, FilterServes, UpdateServes};
+ghost use Rattle.im_shell.specs.Statements as plan;
+ghost use Rattle.im_shell.specs.Turns.{IsRest};
+
+use crate::refusals::{lacked, settled};
+use crate::reply::Reply;
+use crate::rewrite::{remove_seen, revise_seen};
+use crate::scan::NUMBERS;
+use crate::unit::NoUnit;
+use im_core::Core;
+use im_history::{Look, Mode};
+use im_scan::{Body, Fault};
+use im_syntax::{Filter, Parts};
+use im_values::{Steps, Value};
+use std::alloc::Global;
+use std::sync::ledger::Ledger;
+
+/// Takes away the rows of a table that a session sees and a condition keeps, unless its transaction is READ ONLY.
+pub fn delete<L: Ledger>(
+    alloc: Global,
+    store: &mut Core<NoUnit>,
+    who: u32,
+    look: &Look,
+    table: u32,
+    filter: Option<Filter>,
+    steps: &mut Steps<L>,
+) -> Reply
+    requires session { who < NUMBERS }
+    requires closed { opened store.old.log who ≡ [] }
+    requires look { look.now ≡ look_at store.old.log who }
+    requires legal { IsLegal store.old.limits store.old.log }
+    requires serves { OfTable (tables store.old.log) table (FilterServes filter) }
+    ensures { IsRest who 0 store.old
+        (plan.unless_read_only who store.old.log (plan.delete store.old.limits who table filter)) result store.new }
+{
+    match look.mode {
+        Mode::ReadOnly => settled(look.place, Body::Error(Fault::ReadOnly)),
+        Mode::Committed | Mode::Serializable => {
+            delete_rows(alloc, store, who, table, filter, steps)
+        }
+    }
+}
+
+/// Takes away the rows of a table that a session sees and a condition keeps, by a scan and a write.
+fn delete_rows<L: Ledger>(
+    alloc: Global,
+    store: &mut Core<NoUnit>,
+    who: u32,
+    table: u32,
+    filter: Option<Filter>,
+    steps: &mut Steps<L>,
+) -> Reply
+    requires session { who < NUMBERS }
+    requires closed { opened store.old.log who ≡ [] }
+    requires legal { IsLegal store.old.limits store.old.log }
+    requires serves { OfTable (tables store.old.log) table (FilterServes filter) }
+    ensures { IsRest who 0 store.old (plan.delete store.old.limits who table filter) result store.new }
+{
+    let Ok(view) = store.open_cursor(who, 0, table) else {
+        return lacked(0);
+    };
+    let reply = remove_seen(alloc, store, who, view, &filter, steps);
+    store.shut(who, 0);
+    reply
+}
+
+/// Assigns values to columns of the rows of a table that a session sees and a condition keeps, unless its transaction is
+/// READ ONLY.
+pub fn update<L: Ledger>(
+    alloc: Global,
+    store: &mut Core<NoUnit>,
+    who: u32,
+    look: &Look,
+    table: u32,
+    filter: Option<Filter>,
+    sets: Parts<(u32, Value)>,
+    steps: &mut Steps<L>,
+) -> Reply
+    requires session { who < NUMBERS }
+    requires closed { opened store.old.log who ≡ [] }
+    requires look { look.now ≡ look_at store.old.log who }
+    requires legal { IsLegal store.old.limits store.old.log }
+    requires serves { OfTable (tables store.old.log) table (UpdateServes filter sets) }
+    ensures { IsRest who 0 store.old
+        (plan.unless_read_only who store.old.log (plan.update store.old.limits who table filter sets)) result store.new }
+{
+    match look.mode {
+        Mode::ReadOnly => settled(look.place, Body::Error(Fault::ReadOnly)),
+        Mode::Committed | Mode::Serializable => {
+            update_rows(alloc, store, who, table, filter, sets, steps)
+        }
+    }
+}
+
+/// Assigns values to columns of the rows of a table that a session sees and a condition keeps, by a scan and a write.
+fn update_rows<L: Ledger>(
+    alloc: Global,
+    store: &mut Core<NoUnit>,
+    who: u32,
+    table: u32,
+    filter: Option<Filter>,
+    sets: Parts<(u32, Value)>,
+    steps: &mut Steps<L>,
+) -> Reply
+    requires session { who < NUMBERS }
+    requires closed { opened store.old.log who ≡ [] }
+    requires legal { IsLegal store.old.limits store.old.log }
+    requires serves { OfTable (tables store.old.log) table (UpdateServes filter sets) }
+    ensures { IsRest who 0 store.old (plan.update store.old.limits who table filter sets) result store.new }
+{
+    let Ok(view) = store.open_cursor(who, 0, table) else {
+        return lacked(0);
+    };
+    let reply = revise_seen(alloc, store, who, view, &filter, sets.items(), steps);
+    store.shut(who, 0);
+    reply
+}
