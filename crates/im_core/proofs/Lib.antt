@@ -2,6 +2,7 @@ mod BeginLemmas
 mod CountLemmas
 pub mod FetchLemmas
 mod HoldsLemmas
+mod OpeningLemmas
 mod RefusalLemmas
 mod RewriteLemmas
 mod ViewLemmas

@@ -25,3 +25,6 @@ mod writes;
 pub use answers::{Begun, Committed, Made, Pin, Wrote};
 pub use fetched::Fetched;
 pub use store::Core;
+
+#[cfg(test)]
+mod tests;
