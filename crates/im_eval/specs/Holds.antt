@@ -2,7 +2,7 @@
 use Rattle.std.specs.Prelude.{ℕ, Bool, true, false, List, [], ◌∷◌, if◌then◌else◌}
 use Rattle.im_values.specs.declared.comparison.Cmp.TheVariants.{Eq, Le, Ge}
 use Rattle.im_values.specs.declared.truth.Truth.{Truth}
-use Rattle.im_values.specs.declared.truth.Truth.TheVariants.{Yes, No, Unknown}
+use Rattle.im_values.specs.declared.truth.Truth.TheVariants.{Yes, No}
 use Rattle.im_values.specs.declared.value.Value.{Value}
 use Rattle.im_values.specs.Order.{is_null, compare}
 use Rattle.im_values.specs.Truth as truth

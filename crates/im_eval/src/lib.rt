@@ -11,3 +11,6 @@
 mod truth;
 
 pub use truth::holds;
+
+#[cfg(test)]
+mod tests;
