@@ -4,15 +4,15 @@ ghost use Rattle.im_words.specs.Setting as spec;
 /// An option: a name and a number that may be set.
 #[derive(Clone, Copy, Debug, PartialEq, Eq)]
 pub enum Setting {
-    /// The bytes of the area.
+    /// How many bytes column units may take together.
     Area,
-    /// The workers of a scan.
+    /// How many workers populate column units beside the sessions of a race.
     Workers,
-    /// The turns of a race.
+    /// How many turns each worker has.
     Turns,
-    /// The rows of a race.
+    /// How many rows a generated script inserts.
     Rows,
-    /// What the choices of a race are drawn from.
+    /// What the values of a generated script are made of.
     Seed,
 }
 
