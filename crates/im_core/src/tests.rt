@@ -3,7 +3,7 @@ ghost use Rattle.std.specs.Bool.{OnTrue};
 ghost use Rattle.im_history.specs.Legal.{MayInsert};
 
 use crate::{Core, Fetched, Made};
-use im_history::{Change, Limits, Mode, Refused, Shape, UnitLike, What, Why};
+use im_history::{Change, Limits, Mode, Refused, Shape, UnitLike, Why};
 use im_values::{Column, Kind, Name, NoMemory, Row, Schema, Steps, Value, clone_row, fits};
 use std::alloc::Global;
 use std::marker::Brand;
