@@ -27,4 +27,6 @@ pub use resolved::Resolved;
 pub use statements::resolve;
 
 #[cfg(test)]
+mod samples;
+#[cfg(test)]
 mod tests;
