@@ -41,8 +41,8 @@ pub fn remove_seen<L: Ledger>(
         (plan.removal store.old.limits who view.table filter.now view.place view.scn (scans.seen_in store.old.log view))
         result (scans.shut_by who store.new) }
 {
-    let (place, table) = (view.place, view.table);
-    match removals_of(alloc, store, who, table, view, filter, steps) {
+    let place = view.place;
+    match removals_of(alloc, store, who, view, filter, steps) {
         Ok(changes) => rewrite(store, who, place, changes, Rewriting::Deleting),
         Err(NoMemory) => lacked(1),
     }
@@ -68,8 +68,8 @@ pub fn revise_seen<L: Ledger>(
         (plan.revision store.old.limits who view.table filter.now sets.now view.place view.scn (scans.seen_in store.old.log view))
         result (scans.shut_by who store.new) }
 {
-    let (place, table) = (view.place, view.table);
-    match revisions_of(alloc, store, who, table, view, filter, sets, steps) {
+    let place = view.place;
+    match revisions_of(alloc, store, who, view, filter, sets, steps) {
         Ok(changes) => rewrite(store, who, place, changes, Rewriting::Updating),
         Err(NoMemory) => lacked(1),
     }
@@ -80,13 +80,11 @@ fn removals_of<L: Ledger>(
     alloc: Global,
     store: &mut Core<NoUnit>,
     who: u32,
-    table: u32,
     view: View,
     filter: &Option<Filter>,
     steps: &mut Steps<L>,
 ) -> Result<Vec<Change>, NoMemory>
     requires session { who < NUMBERS }
-    requires table { table ≡ view.table }
     requires opening { scans.IsOpening store.old.log who view }
     requires fits { scans.EachSeen (λ row. ForSome filter.now (FilterFits row)) store.old.log view }
     ensures same { store.new ≡ store.old }
@@ -94,6 +92,7 @@ fn removals_of<L: Ledger>(
         changes.items ≡ plan.removals view.table (plan.kept_rows filter.now (scans.seen_in store.old.log view))) }
     ensures may { IfOk result (λ changes. 1 ≤ length changes.items → MayWrite store.old.log who 0 changes.items) }
 {
+    let table = view.table;
     let rows = kept_seen(alloc, store, who, view, filter, steps)?;
     removals(alloc, table, rows)
 }
@@ -103,14 +102,12 @@ fn revisions_of<L: Ledger>(
     alloc: Global,
     store: &mut Core<NoUnit>,
     who: u32,
-    table: u32,
     view: View,
     filter: &Option<Filter>,
     sets: &[(u32, Value)],
     steps: &mut Steps<L>,
 ) -> Result<Vec<Change>, NoMemory>
     requires session { who < NUMBERS }
-    requires table { table ≡ view.table }
     requires opening { scans.IsOpening store.old.log who view }
     requires fits { scans.EachSeen (λ row. ForSome filter.now (FilterFits row)) store.old.log view }
     requires assigns { scans.MayAssign sets.now store.old.log view }
@@ -119,6 +116,7 @@ fn revisions_of<L: Ledger>(
         changes.items ≡ plan.revisions view.table sets.now (plan.kept_rows filter.now (scans.seen_in store.old.log view))) }
     ensures may { IfOk result (λ changes. 1 ≤ length changes.items → MayWrite store.old.log who 0 changes.items) }
 {
+    let table = view.table;
     let rows = kept_seen(alloc, store, who, view, filter, steps)?;
     revisions(alloc, table, sets, rows)
 }

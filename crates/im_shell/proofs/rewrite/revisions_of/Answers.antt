@@ -11,14 +11,14 @@ use Rattle.im_shell.proofs.rewrite.revisions_of.Goals as goal
 pub returns-clause-are : goal.returns-clause-are
 returns-clause-are g c =
     IfOk-weaker c.revisions.result _ _
-    (λ changes e. e ∙ (ap (λ (rows : List (ℕ × Row)). revisions c.args.table c.args.sets.now rows) c.in_ok-rows.ensures.rows ∙ ap (λ (table : ℕ). revisions table c.args.sets.now (kept_rows c.args.filter.now (seen_in c.args.store.now.log c.args.view))) c.requires.table))
+    (λ changes e. e ∙ ap (λ (rows : List (ℕ × Row)). revisions c.args.view.table c.args.sets.now rows) c.in_ok-rows.ensures.rows)
     c.revisions.ensures
 
 pub returns-clause-may : goal.returns-clause-may
 returns-clause-may g c =
     IfOk-weaker c.revisions.result _ _
     (λ changes e some.
-    let are = e ∙ (ap (λ (rows : List (ℕ × Row)). revisions c.args.table c.args.sets.now rows) c.in_ok-rows.ensures.rows ∙ ap (λ (table : ℕ). revisions table c.args.sets.now (kept_rows c.args.filter.now (seen_in c.args.store.now.log c.args.view))) c.requires.table) in
+    let are = e ∙ ap (λ (rows : List (ℕ × Row)). revisions c.args.view.table c.args.sets.now rows) c.in_ok-rows.ensures.rows in
     subst (λ (cs : List Change). MayWrite c.args.store.now.log c.args.who 0 cs) (sym are)
     (may-revise c.args.store.now.log c.args.who c.args.view c.args.filter.now c.args.sets.now c.requires.opening c.requires.assigns (subst (λ (cs : List Change). 1 ≤ length cs) are some)))
     c.revisions.ensures

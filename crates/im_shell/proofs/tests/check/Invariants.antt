@@ -1,4 +1,4 @@
-use Rattle.im_shell.proofs.tests.scripts_come_to_the_text_of_their_replies.Given as goal
+use Rattle.im_shell.proofs.tests.check.Given as goal
 
 -- the ledger of each count is the blank's
 abbrev pub ghosts-outcome : goal.ghosts-outcome
