@@ -3,7 +3,7 @@ ghost use Rattle.std.specs.Prelude.{◌≡◌, ◌<◌};
 mod queries;
 mod scripts;
 
-use crate::tests::scripts::{PLAYED, TWO_ROWS};
+use crate::tests::scripts::{CHANGES_BEFORE_THE_LIMIT, PLAYED, TWO_ROWS};
 use crate::{Status, Word, run};
 use im_edge::{MemSink, MemSource, OpenGate};
 use im_values::Steps;
@@ -17,18 +17,18 @@ use std::thread::Threads;
 
 /// A script, in which pieces it is read and written, which calls fail, and what comes of it.
 #[derive(Clone, Copy)]
-struct Case {
-    script: &'static str,
+struct Case<'a> {
+    script: &'a str,
     read_piece: usize,
     read_fails: u64,
     write_piece: usize,
     write_fails: u64,
     status: Status,
-    text: &'static str,
+    text: &'a str,
 }
 
 /// A script that meets no fault.
-fn plain(script: &'static str, text: &'static str) -> Case {
+fn plain<'a>(script: &'a str, text: &'a str) -> Case<'a> {
     Case {
         script,
         read_piece: 7,
@@ -108,6 +108,59 @@ fn scripts_come_to_the_text_of_their_replies(rt: HostRuntime) -> Result<(), Fail
         check(&rt, rt.alloc(), &["ime", "run"], &plain(script, text))?;
     }
     Ok(())
+}
+
+/// A text followed by so many copies of a piece.
+fn followed_by(alloc: Global, text: &str, piece: &str, count: usize) -> Result<String, Fail> {
+    let mut text = String::from_str(alloc, text)?;
+    for _ in 0..count {
+        text.push_str(piece)?;
+    }
+    Ok(text)
+}
+
+#[test]
+fn what_passes_a_limit_is_told_with_its_values(rt: HostRuntime) -> Result<(), Fail> {
+    let alloc = rt.alloc();
+    let cases = [
+        // A line may have 1,048,576 bytes.
+        (
+            followed_by(alloc, "--", "-", 1_048_575)?,
+            "1,error,02,line-too-long,1048577\n",
+        ),
+        (followed_by(alloc, "--", "-", 1_048_574)?, ""),
+        // A transaction may have 65,536 changes, and a refused statement keeps none.
+        (
+            followed_by(alloc, CHANGES_BEFORE_THE_LIMIT, ", (0)", 65_534)?,
+            "1,created,1,1\n2,inserted,2,0\n3,error,17,too-many-changes,65535,65534\n",
+        ),
+        (
+            followed_by(alloc, CHANGES_BEFORE_THE_LIMIT, ", (0)", 65_533)?,
+            "1,created,1,1\n2,inserted,2,0\n3,inserted,65534,2\n",
+        ),
+    ];
+    for (script, text) in &cases {
+        let case = Case {
+            read_piece: 4096,
+            ..plain(script.as_str(), text)
+        };
+        check(&rt, alloc, &["ime", "run"], &case)?;
+    }
+    Ok(())
+}
+
+#[test]
+fn a_table_past_the_sixty_fourth_is_refused(rt: HostRuntime) -> Result<(), Fail> {
+    let alloc = rt.alloc();
+    let mut script = String::new(alloc);
+    let mut text = String::new(alloc);
+    for number in 1..65 {
+        script.push_str(&format!(in alloc; "1> CREATE TABLE T{number} (K NUMBER)\n")?)?;
+        text.push_str(&format!(in alloc; "{number},created,{number},{number}\n")?)?;
+    }
+    script.push_str("1> CREATE TABLE T (K NUMBER)\n1> COMMIT\n")?;
+    text.push_str("65,error,08,too-many-tables,64\n66,committed,65\n")?;
+    check(&rt, alloc, &["ime", "run"], &plain(script.as_str(), text.as_str()))
 }
 
 #[test]

@@ -10,6 +10,10 @@ pub const TWO_ROWS: &str =
 const TWO_ROWS_TEXT: &str =
     "1,created,1,1\n2,inserted,1,0\n3,inserted,1,1\n4,committed,2\n5,answer,2,1\n5,row,2\n";
 
+/// A script whose last line goes on with more rows, up to the most changes that a transaction may have and past them.
+pub const CHANGES_BEFORE_THE_LIMIT: &str =
+    "1> CREATE TABLE T (K NUMBER)\n1> INSERT INTO T VALUES (1), (2)\n1> INSERT INTO T VALUES (3)";
+
 /// Each script, and the text of its replies.
 pub const PLAYED: [(&str, &str); 25] = [
     ("", ""),
