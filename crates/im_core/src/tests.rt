@@ -15,7 +15,7 @@ use std::test::Fail;
 struct NoUnit;
 
 impl UnitLike for NoUnit {
-    ghost at = { λ u. 0 };
+    ghost content = { λ u. record { scn = 0; first = 0; columns = 0; rows = [] } };
 
     fn scn(&self) -> u64 {
         0

@@ -2,3 +2,4 @@ pub mod FitLaws
 pub mod Laws
 pub mod Replay
 pub mod RowLaws
+pub mod UnitLaws

@@ -1,0 +1,59 @@
+-- What is kept of each extent and of each build, read by their numbers.
+use Rattle.std.specs.Prelude.{ℕ, zero, suc, List, [], slice_index_or, Option, None}
+use Rattle.std.specs.Option.{option_map}
+use Rattle.im_journal.specs.Stale.{Note}
+use Rattle.im_history.specs.declared.task.Held.{Held}
+use Rattle.im_directory.specs.declared.slot.Current.{Current}
+use Rattle.im_directory.specs.declared.slot.Growing.{Growing}
+use Rattle.im_directory.specs.declared.slot.Slot.{Slot}
+
+-- what is kept of all extents, by table and extent, and of all builds that were begun, the first of which is build 1: those that
+-- are held, and nothing of the others
+pub record Kept (U : Type 0) : Type 0 where
+  pub slots : List (List (Slot U))
+  pub builds : List (Option Held)
+
+-- a current unit, and what was touched since its SCN
+pub record Stock (U : Type 0) : Type 0 where
+  pub unit : U
+  pub notes : List Note
+
+-- a living build, and what was touched since it began
+pub record Growth : Type 0 where
+  pub id : ℕ
+  pub notes : List Note
+
+-- what is told of an extent: all that is kept but the room in its journals
+pub record Told (U : Type 0) : Type 0 where
+  pub current : Option (Stock U)
+  pub growing : Option Growth
+
+-- what is told of a living build
+abbrev pub growth : Growing → Growth
+growth growing = record { id = growing.id; notes = growing.journal.notes }
+
+module _ {U : Type 0} where
+  -- an extent of which nothing is kept
+  abbrev pub nothing : Slot U
+  nothing = record { current = None; growing = None; wanted = 0 }
+
+  -- what is told of a current unit
+  abbrev pub stock : Current U → Stock U
+  stock current = record { unit = current.unit.value; notes = current.journal.notes }
+
+  -- what is told of an extent
+  abbrev pub told : Slot U → Told U
+  told slot = record { current = option_map stock slot.current; growing = option_map growth slot.growing }
+
+  -- what is kept of an extent; past the ends there is nothing
+  unfoldable pub slot_at : List (List (Slot U)) → ℕ → ℕ → Slot U
+  slot_at slots table extent = slice_index_or (slice_index_or slots table []) extent nothing
+
+  -- what is told of an extent
+  abbrev pub told_at : Kept U → ℕ → ℕ → Told U
+  told_at kept table extent = told (slot_at kept.slots table extent)
+
+  -- the held build of this number
+  abbrev pub build_in : Kept U → ℕ → Option Held
+  build_in kept zero = None
+  build_in kept (suc before) = slice_index_or kept.builds before None
