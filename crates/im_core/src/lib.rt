@@ -24,7 +24,7 @@ mod writes;
 
 pub use answers::{Begun, Committed, Made, Pin, Wrote};
 pub use fetched::Fetched;
-pub use store::Core;
+pub use store::{Core, NUMBERS};
 
 #[cfg(test)]
 mod tests;
