@@ -32,6 +32,11 @@ pub record Told (U : Type 0) : Type 0 where
 abbrev pub growth : Growing → Growth
 growth growing = record { id = growing.id; notes = growing.journal.notes }
 
+-- the held build of this number among all builds that began, which are numbered from 1
+abbrev pub build_among : List (Option Held) → ℕ → Option Held
+build_among builds zero = None
+build_among builds (suc before) = slice_index_or builds before None
+
 module _ {U : Type 0} where
   -- an extent of which nothing is kept
   abbrev pub nothing : Slot U
@@ -55,5 +60,4 @@ module _ {U : Type 0} where
 
   -- the held build of this number
   abbrev pub build_in : Kept U → ℕ → Option Held
-  build_in kept zero = None
-  build_in kept (suc before) = slice_index_or kept.builds before None
+  build_in kept id = build_among kept.builds id

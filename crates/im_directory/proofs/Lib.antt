@@ -1,0 +1,3 @@
+mod BuildLemmas
+mod PadLemmas
+mod SlotLemmas
