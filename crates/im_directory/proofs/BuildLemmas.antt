@@ -29,3 +29,12 @@ count-end builds new id count held is counted =
     let less = count-ended builds (id - 1) (ap is_some (build_at builds id held) ∙ held) in
     let same = ap (count_by is_some) is in
     omega (arith, less, same, counted)
+
+-- a held build has a number from 1 on, and its place is one of the list's
+pub build_inside : (builds : List (Option Held)) (id : ℕ) → IsSome (build_among builds id) → (1 ≤ id) × (id - 1 < length builds)
+build_inside builds zero held = absurd (true≢false (sym held))
+build_inside builds (suc before) held =
+    let inside : before < length builds = ⊎_elim (λ (l : before < length builds). l)
+    (λ (past : length builds ≤ before). absurd (true≢false (sym held ∙ ap is_some (get_or_past builds before None past))))
+    (cases_lt before (length builds)) in
+    (omega arith, omega arith)

@@ -12,7 +12,7 @@ use Rattle.im_directory.specs.Slots.{nothing, slot_at, told}
 use Rattle.im_directory.specs.Steps.{HasPlace, IsPadded, KeepsSlots, TellsAlike, TellsSame, shelf_with, slot_in, slots_with}
 
 -- an element of a list changed by a function, if it is there
-get_or-changed : {X : Type 0} (f : X → X) (xs : List X) (d : X) (i j : ℕ) → (i < length xs) ⊎ (f d ≡ d) → slice_index_or (set xs i (f (slice_index_or xs i d))) j d ≡ (if i == j then f (slice_index_or xs j d) else slice_index_or xs j d)
+pub get_or-changed : {X : Type 0} (f : X → X) (xs : List X) (d : X) (i j : ℕ) → (i < length xs) ⊎ (f d ≡ d) → slice_index_or (set xs i (f (slice_index_or xs i d))) j d ≡ (if i == j then f (slice_index_or xs j d) else slice_index_or xs j d)
 get_or-changed f xs d i j stays =
     ⊎_elim (λ (is : j ≡ i).
     rw (eq-eqb i j (sym is))

@@ -1,6 +1,7 @@
 ghost use Rattle.std.specs.Prelude.{◌≡◌, ◌+◌, ◌-◌, [], ◌∷◌, ◌++◌, count_by, is_some, length, option_copied, option_map, set, IsSome, OnErr, OnOk};
+ghost use Rattle.std.specs.Option.{ForSome};
 ghost use Rattle.im_directory.specs.Slots.{build_among};
-ghost use Rattle.im_directory.specs.Steps.{killed_at};
+ghost use Rattle.im_directory.specs.Steps.{builds_killed, killed_at};
 
 use im_history::Held;
 use im_values::NoMemory;
@@ -74,12 +75,14 @@ impl Builds {
         replace(&mut self.list[id as usize - 1], None).unwrap()
     }
 
-    /// Kills a held build by an entry at this place, unless it was killed before.
-    pub fn kill(&mut self, id: u64, place: u64)
-        requires { IsSome (build_among self.old id) }
-        ensures { self.new ≡ set self.old (id - 1) (option_map (killed_at place) (build_among self.old id)) }
+    /// Kills the held build of a number, where one is given, by an entry at this place.
+    pub fn kill(&mut self, id: Option<u64>, place: u64)
+        requires { ForSome id (λ id. IsSome (build_among self.old id)) }
+        ensures { self.new ≡ builds_killed place id self.old }
     {
-        kill(&mut self.list[id as usize - 1], place);
+        if let Some(id) = id {
+            kill(&mut self.list[id as usize - 1], place);
+        }
     }
 }
 

@@ -14,6 +14,7 @@
 
 mod builds;
 mod directory;
+mod noting;
 mod shelf;
 mod shelves;
 mod slot;

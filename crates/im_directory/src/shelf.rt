@@ -1,4 +1,4 @@
-ghost use Rattle.std.specs.Prelude.{◌≡◌, ◌+◌, ◌^◌, ◌<◌, [], length, option_copied, slice_get, IsSome, OnOk};
+ghost use Rattle.std.specs.Prelude.{◌≡◌, ◌<◌, [], length, option_copied, slice_get, IsSome, OnOk};
 ghost use Rattle.im_directory.specs.Slots.{nothing, told};
 ghost use Rattle.im_directory.specs.Steps.{IsPadded, MayNote, TellsSame, shelf_with, slot_begun, slot_cancelled, slot_counted, slot_dropped, slot_in, slot_noted, slot_switched, slot_uncounted};
 
@@ -79,7 +79,6 @@ impl<U: Drop> Shelf<U> {
 
     /// Counts one note more of an extent, and makes room for as many as are counted.
     pub fn count(&mut self, extent: u64) -> Result<(), NoMemory>
-        requires { (slot_in self.old extent).wanted + 1 < 2 ^ 64 }
         ensures same { TellsSame self.old self.new }
         ensures counted { OnOk result (self.new ≡ shelf_with slot_counted extent self.old) }
     {

@@ -1,4 +1,4 @@
-ghost use Rattle.std.specs.Prelude.{◌≡◌, ◌+◌, ◌^◌, ◌<◌, [], length, option_copied, option_map, slice_index_or, unwrap_or, IsSome, OnOk};
+ghost use Rattle.std.specs.Prelude.{◌≡◌, ◌<◌, [], length, option_copied, option_map, slice_index_or, unwrap_or, IsSome, OnOk};
 ghost use Rattle.im_directory.specs.Slots.{nothing, slot_at};
 ghost use Rattle.im_directory.specs.Steps.{HasPlace, IsPadded, KeepsSlots, MayNote, TellsAlike, slot_begun, slot_cancelled, slot_counted, slot_dropped, slot_noted, slot_switched, slot_uncounted, slots_with};
 
@@ -97,7 +97,6 @@ impl<U: Drop> Shelves<U> {
     /// Counts one note more of an extent, and makes room for as many as are counted.
     #[tactic(auto, unfolding(crate::specs::Slots::slot_at))]
     pub fn count(&mut self, table: u32, extent: u64) -> Result<(), NoMemory>
-        requires { (slot_at self.old table extent).wanted + 1 < 2 ^ 64 }
         ensures same { TellsAlike self.old self.new }
         ensures counted { OnOk result (self.new ≡ slots_with slot_counted table extent self.old) }
     {

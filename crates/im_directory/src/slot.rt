@@ -1,6 +1,7 @@
-ghost use Rattle.std.specs.Prelude.{◌≡◌, ◌+◌, ◌^◌, ◌<◌, IsSome, OnOk};
-ghost use Rattle.im_directory.specs.Slots.{nothing, told};
-ghost use Rattle.im_directory.specs.Steps.{MayNote, slot_begun, slot_cancelled, slot_counted, slot_dropped, slot_noted, slot_switched, slot_uncounted};
+ghost use Rattle.std.specs.Prelude.{◌≡◌, length, option_copied, option_map, IfOk, IsSome, OnOk};
+ghost use Rattle.im_journal.specs.Stale.{stale_rows, stale_rows_at};
+ghost use Rattle.im_directory.specs.Slots.{notes_of_unit, nothing, told};
+ghost use Rattle.im_directory.specs.Steps.{MayNote, slot_begun, slot_cancelled, slot_counted, slot_dropped, slot_noted, slot_roomy, slot_switched, slot_uncounted};
 
 use im_journal::Journal;
 use im_values::NoMemory;
@@ -42,6 +43,46 @@ impl<U> Slot<U> {
         }
     }
 
+    /// The number of the living build.
+    pub fn living(&self) -> Option<u64>
+        ensures { result ≡ option_map (λ growing. growing.id) self.now.growing }
+    {
+        match &self.growing {
+            Some(growing) => Some(growing.id),
+            None => None,
+        }
+    }
+
+    /// The current unit.
+    pub fn unit(&self) -> Option<&Arc<U>>
+        ensures { option_copied result ≡ option_map (λ current. current.unit) self.now.current }
+    {
+        match &self.current {
+            Some(current) => Some(&current.unit),
+            None => None,
+        }
+    }
+
+    /// The row numbers in the current unit's journal at or below an SCN, rising.
+    pub fn stale_at(&self, alloc: Global, scn: u64) -> Result<Vec<u64>, NoMemory>
+        ensures { IfOk result (λ rows. rows.items ≡ stale_rows_at (notes_of_unit (told self.now).current) scn) }
+    {
+        match &self.current {
+            Some(current) => current.journal.stale_at(alloc, scn),
+            None => Ok(Vec::new(alloc)),
+        }
+    }
+
+    /// How many row numbers are in the current unit's journal.
+    pub fn stale_count(&self) -> u64
+        ensures { result ≡ length (stale_rows (notes_of_unit (told self.now).current)) }
+    {
+        match &self.current {
+            Some(current) => current.journal.stale_count(),
+            None => 0,
+        }
+    }
+
     /// Notes in both journals that the commit with this SCN touched a row. It takes no memory.
     pub fn note(&mut self, row: u64, scn: u64)
         requires { MayNote self.old scn }
@@ -62,18 +103,31 @@ impl<U> Slot<U> {
         self.wanted = 0;
     }
 
-    /// Counts one note more, and makes room for as many as are counted.
+    /// Counts one note more, and makes room for as many as are counted. Where there is no journal, nothing is counted.
     pub fn count(&mut self) -> Result<(), NoMemory>
-        requires { self.old.wanted + 1 < 2 ^ 64 }
         ensures same { told self.new ≡ told self.old }
         ensures counted { OnOk result (self.new ≡ slot_counted self.old) }
     {
-        self.wanted += 1;
+        if self.current.is_none() && self.growing.is_none() {
+            return Ok(());
+        }
+        let Some(wanted) = self.wanted.checked_add(1) else {
+            return Err(NoMemory);
+        };
+        self.make_room(wanted)
+    }
+
+    /// Makes room for so many notes, and sets their count.
+    fn make_room(&mut self, wanted: u64) -> Result<(), NoMemory>
+        ensures same { told self.new ≡ told self.old }
+        ensures counted { OnOk result (self.new ≡ slot_roomy wanted self.old) }
+    {
+        self.wanted = wanted;
         if let Some(current) = &mut self.current {
-            current.journal.reserve(self.wanted)?;
+            current.journal.reserve(wanted)?;
         }
         if let Some(growing) = &mut self.growing {
-            growing.journal.reserve(self.wanted)?;
+            growing.journal.reserve(wanted)?;
         }
         Ok(())
     }
