@@ -15,10 +15,13 @@ use Rattle.im_directory.specs.Slots.{Kept, Stock, Growth, Told, slot_at, told_at
 
 -- ---- what a commit notes
 
+-- the extent of a change's row
+abbrev pub extent_in : List TableInfo → Change → ℕ
+extent_in tables change = change.rid / per_extent (grid_of (table_among tables change.table))
+
 -- the change is to a row of this extent
 abbrev pub is_in_extent : List TableInfo → ℕ → ℕ → Change → Bool
-is_in_extent tables table extent change =
-    (change.table == table) && (change.rid / per_extent (grid_of (table_among tables table)) == extent)
+is_in_extent tables table extent change = (change.table == table) && (extent_in tables change == extent)
 
 -- the notes that a commit of these changes makes of an extent: a row number and the commit's SCN for each change to it
 abbrev pub notes_of : List TableInfo → ℕ → List Change → ℕ → ℕ → List Note

@@ -1,3 +1,5 @@
 pub mod Agrees
 pub mod Effects
 pub mod Slots
+pub mod Sound
+pub mod Steps

@@ -1,5 +1,5 @@
 -- What is kept of each extent and of each build, read by their numbers.
-use Rattle.std.specs.Prelude.{ℕ, zero, suc, List, [], slice_index_or, Option, None}
+use Rattle.std.specs.Prelude.{ℕ, zero, suc, List, [], slice_index_or, Option, Some, None}
 use Rattle.std.specs.Option.{option_map}
 use Rattle.im_journal.specs.Stale.{Note}
 use Rattle.im_history.specs.declared.task.Held.{Held}
@@ -32,6 +32,11 @@ pub record Told (U : Type 0) : Type 0 where
 abbrev pub growth : Growing → Growth
 growth growing = record { id = growing.id; notes = growing.journal.notes }
 
+-- the held build of this number among all builds that began, which are numbered from 1
+abbrev pub build_among : List (Option Held) → ℕ → Option Held
+build_among builds zero = None
+build_among builds (suc before) = slice_index_or builds before None
+
 module _ {U : Type 0} where
   -- an extent of which nothing is kept
   abbrev pub nothing : Slot U
@@ -55,5 +60,21 @@ module _ {U : Type 0} where
 
   -- the held build of this number
   abbrev pub build_in : Kept U → ℕ → Option Held
-  build_in kept zero = None
-  build_in kept (suc before) = slice_index_or kept.builds before None
+  build_in kept id = build_among kept.builds id
+
+  -- the number of an extent's living build
+  abbrev pub living_in : Kept U → ℕ → ℕ → Option ℕ
+  living_in kept table extent = option_map (λ (growth : Growth). growth.id) (told_at kept table extent).growing
+
+  -- an extent's current unit
+  abbrev pub unit_in : Kept U → ℕ → ℕ → Option U
+  unit_in kept table extent = option_map (λ (stock : Stock U). stock.unit) (told_at kept table extent).current
+
+  -- what was touched since a current unit's SCN, nothing where there is no unit
+  abbrev pub notes_of_unit : Option (Stock U) → List Note
+  notes_of_unit None = []
+  notes_of_unit (Some stock) = stock.notes
+
+  -- what was touched of an extent since its current unit's SCN
+  abbrev pub notes_in : Kept U → ℕ → ℕ → List Note
+  notes_in kept table extent = notes_of_unit (told_at kept table extent).current

@@ -12,8 +12,11 @@
 //! Start with `specs/Slots.antt`, then `directory.rt`, `specs/Effects.antt` and `specs/Agrees.antt`.
 #![tactic(auto)]
 
+mod builds;
 mod directory;
+mod noting;
 mod shelf;
+mod shelves;
 mod slot;
 
 pub use directory::Directory;

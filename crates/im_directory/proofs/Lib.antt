@@ -1,0 +1,7 @@
+mod BuildLemmas
+mod DropLemmas
+mod EffectLemmas
+mod NotingLemmas
+mod PadLemmas
+mod SlotLemmas
+mod SoundLemmas
