@@ -1,4 +1,4 @@
-ghost use Rattle.std.specs.Prelude.{◌≡◌, ◌+◌, ◌-◌, [], ◌∷◌, ◌++◌, count_by, is_some, length, option_copied, option_map, set, IsSome, OnErr, OnOk};
+ghost use Rattle.std.specs.Prelude.{◌≡◌, ◌+◌, ◌-◌, ◌^◌, ◌<◌, [], ◌∷◌, ◌++◌, count_by, is_some, length, option_copied, option_map, set, IsSome, OnErr, OnOk};
 ghost use Rattle.std.specs.Option.{ForSome};
 ghost use Rattle.im_directory.specs.Slots.{build_among};
 ghost use Rattle.im_directory.specs.Steps.{builds_killed, killed_at};
@@ -40,9 +40,10 @@ impl Builds {
 
     /// How many builds are held.
     pub fn held(&self) -> u64
-        ensures { result ≡ count_by is_some self.now }
+        ensures held { result ≡ count_by is_some self.now }
+        ensures few { result < 2 ^ 63 }
     {
-        self.held
+        self.held.min(self.list.len() as u64)
     }
 
     /// The held build of a number.

@@ -1,4 +1,4 @@
-ghost use Rattle.std.specs.Prelude.{◌≡◌, ◌+◌, count_by, is_some, length, option_copied, option_map, IfOk, IsSome, None, OnErr, OnOk, Option};
+ghost use Rattle.std.specs.Prelude.{◌≡◌, ◌+◌, ◌^◌, ◌<◌, count_by, is_some, length, option_copied, option_map, IfOk, IsSome, None, OnErr, OnOk, Option};
 ghost use Rattle.std.specs.Option.{ForSome};
 ghost use Rattle.im_journal.specs.Stale.{stale_rows, stale_rows_at};
 ghost use Rattle.im_history.specs.declared.entry.What.TheVariants.{Evict, Memory};
@@ -49,7 +49,8 @@ impl<U: Drop> Directory<U> {
 
     /// How many builds are held. It takes constant time.
     pub fn held(&self) -> u64
-        ensures { result ≡ count_by is_some self.now.builds }
+        ensures held { result ≡ count_by is_some self.now.builds }
+        ensures few { result < 2 ^ 63 }
     {
         self.builds.held()
     }
