@@ -10,14 +10,14 @@ use Rattle.im_history.specs.declared.limits.Limits.{Limits}
 use Rattle.im_history.specs.declared.look.TableInfo.{TableInfo}
 use Rattle.im_history.specs.declared.task.Held.{Held}
 use Rattle.im_history.specs.Cursors.{Opened, cursor_at, is_cursor_open}
-use Rattle.im_history.specs.Grid.{Grid, IsInRange, extents_for}
+use Rattle.im_history.specs.Grid.{Grid, IsInRange}
 use Rattle.im_history.specs.History.{History}
 use Rattle.im_history.specs.Refusals.{create_refusal, begin_refusal, open_refusal, insert_refusal, write_refusal}
 use Rattle.im_history.specs.Rows.{Row, row_after}
 use Rattle.im_history.specs.Tables.{table_at, given}
 use Rattle.im_history.specs.Transactions.{is_open, pending}
-use Rattle.im_history.specs.Units.{builds, held_at, living, unit}
-use Rattle.im_history.specs.Views.{per_at, seen_by}
+use Rattle.im_history.specs.Units.{builds, held_at, may_populate, unit}
+use Rattle.im_history.specs.Views.{seen_by}
 
 -- a table may be created: the session has no open transaction, nothing refuses it, and it has 1 to 16 columns and a shape
 -- in range
@@ -91,16 +91,10 @@ pub record MaySetMemory (history : History) (who table : ℕ) : Type 0 where
   pub exists : Exists history table
   pub idle : is_open history who ≡ false
 
--- an extent of a table may be built: the table is in the column store, and the extent has a row number and no living build
-pub record MayPopulate (history : History) (table extent : ℕ) : Type 0 where
-  pub exists : Exists history table
-  pub member : IsTrue (is_some exists.made.memory)
-  pub some : extent < extents_for (given history table) (per_at history table)
-  pub alone : living history table extent ≡ None
-
--- a build may begin: its extent may be built, and it has the next number
+-- a build may begin: its table exists, its extent may be populated, and it has the next number
 pub record MayBuild (history : History) (id table extent : ℕ) : Type 0 where
-  pub may : MayPopulate history table extent
+  pub exists : Exists history table
+  pub may : may_populate history table extent ≡ true
   pub next : id ≡ builds history + 1
 
 -- a build may end: whoever ends it began it, and it is held
