@@ -1,4 +1,5 @@
 pub mod BuildLaws
+pub mod ContentLaws
 pub mod FitLaws
 pub mod Laws
 pub mod Replay
