@@ -1,6 +1,12 @@
+mod AgreementLemmas
+mod AgreesLemmas
+mod BeginLemmas
 mod BuildLemmas
 mod DropLemmas
 mod EffectLemmas
+mod EndLemmas
+mod JournalLemmas
+mod NoteLemmas
 mod NotingLemmas
 mod PadLemmas
 mod SlotLemmas

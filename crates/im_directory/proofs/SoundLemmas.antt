@@ -21,7 +21,7 @@ pub ap_if : {X Y : Type 0} (f : X → Y) (b : Bool) (x y : X) → f (if b then x
 ap_if f true x y = refl
 ap_if f false x y = refl
 
-same_either : {X : Type 0} (b : Bool) (x : X) → x ≡ (if b then x else x)
+pub same_either : {X : Type 0} (b : Bool) (x : X) → x ≡ (if b then x else x)
 same_either true x = refl
 same_either false x = refl
 
@@ -65,7 +65,7 @@ number_unless : (id : ℕ) (o : Option Growth) → option_map (λ (g : Growth). 
 number_unless id None = refl
 number_unless id (Some growth) = number_by (growth.id == id) growth
 
-number_noted : (notes : List Note) (o : Option Growth) → option_map (λ (g : Growth). g.id) (option_map (λ (g : Growth). record g { notes = with_notes notes g.notes }) o) ≡ option_map (λ (g : Growth). g.id) o
+pub number_noted : (notes : List Note) (o : Option Growth) → option_map (λ (g : Growth). g.id) (option_map (λ (g : Growth). record g { notes = with_notes notes g.notes }) o) ≡ option_map (λ (g : Growth). g.id) o
 number_noted notes None = refl
 number_noted notes (Some growth) = refl
 
@@ -90,7 +90,7 @@ build_none zero = refl
 build_none (suc before) = get_or_past [] before None (omega arith)
 
 -- a number past the end is of no build
-build_past : (builds : List (Option Held)) (id : ℕ) → length builds + 1 ≤ id → build_among builds id ≡ None
+pub build_past : (builds : List (Option Held)) (id : ℕ) → length builds + 1 ≤ id → build_among builds id ≡ None
 build_past builds zero past = refl
 build_past builds (suc before) past = get_or_past builds before None (omega (arith, past))
 

@@ -1,3 +1,4 @@
+pub mod Agreement
 pub mod Agrees
 pub mod Effects
 pub mod Slots

@@ -12,6 +12,7 @@
 //! Start with `specs/Slots.antt`, then `directory.rt`, `specs/Effects.antt` and `specs/Agrees.antt`.
 #![tactic(auto)]
 
+mod agreement;
 mod builds;
 mod directory;
 mod noting;
@@ -19,4 +20,5 @@ mod shelf;
 mod shelves;
 mod slot;
 
+pub use agreement::agreement_is_kept;
 pub use directory::Directory;

@@ -1,6 +1,10 @@
+pub mod BuildLaws
+pub mod ContentLaws
 pub mod FitLaws
 pub mod Laws
 mod MemoryLemmas
 pub mod Replay
 pub mod RowLaws
+pub mod TableLaws
+pub mod TouchLaws
 pub mod UnitLaws
