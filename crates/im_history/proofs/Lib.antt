@@ -4,6 +4,7 @@ pub mod FitLaws
 pub mod Laws
 pub mod Replay
 pub mod RowLaws
+pub mod ShapeLaws
 pub mod TableLaws
 pub mod TouchLaws
 pub mod UnitLaws
