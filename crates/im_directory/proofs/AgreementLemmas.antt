@@ -1,31 +1,27 @@
 -- A directory that agrees with a history goes on to agree with it, for each kind of entry.
-use Rattle.std.proofs.Common.{◌≡◌, ℕ, ◌+◌, ◌-◌, ◌≤◌, ◌==◌, Bool, true, false, List, [], ◌∷◌, ◌++◌, length, map, set, Option, Some, None, is_some, if◌then◌else◌, refl, sym, ap, ap₂, subst, ◌∙◌, arith, length-append, length-set}
-use Rattle.std.specs.Option.{option_map, option_or}
-use Rattle.std.proofs.lemmas.Bool.{false≢true, eq-eqb, eqb-true, ne_eqb, cases_eq}
-use Rattle.std.proofs.lemmas.List.{length-map, length_push}
+use Rattle.std.proofs.Common.{◌≡◌, ℕ, ◌+◌, Bool, true, List, [], ◌∷◌, ◌++◌, length, map, Option, Some, None, is_some, if◌then◌else◌, refl, sym, ap, subst, ◌∙◌}
+use Rattle.std.specs.Option.{option_map}
+use Rattle.std.proofs.lemmas.Bool.{false≢true}
+use Rattle.std.proofs.lemmas.List.{length-map}
 use Rattle.im_journal.specs.Stale.{Note}
 use Rattle.im_history.specs.declared.entry.Entry.{Entry}
 use Rattle.im_history.specs.declared.entry.What.{What}
-use Rattle.im_history.specs.declared.entry.What.TheVariants.{Commit, Build, Switch, Cancel}
+use Rattle.im_history.specs.declared.entry.What.TheVariants.{Commit}
 use Rattle.im_history.specs.declared.task.Held.{Held}
-use Rattle.im_history.specs.declared.task.Task.{Task}
 use Rattle.im_history.specs.Commits.{scn}
 use Rattle.im_history.specs.History.{History}
-use Rattle.im_history.specs.Legal.{Exists}
 use Rattle.im_history.specs.Tables.{tables}
 use Rattle.im_history.specs.Transactions.{pending}
-use Rattle.im_history.specs.Units.{Content, builds, content_at, drops, held_at, is_on, killed_by, living, unit, unless_ended}
-use Rattle.im_history.proofs.BuildLaws.{held_at-build, held_at-cancel, held_at-nil, held_at-plain, held_at-switch}
+use Rattle.im_history.specs.Units.{Content, drops, held_at, killed_by}
+use Rattle.im_history.proofs.BuildLaws.{held_at-nil, held_at-plain}
 use Rattle.im_history.proofs.ContentLaws.{content_at-push}
-use Rattle.im_history.proofs.UnitLaws.{builds-nil, builds-plain, builds-push, is_plain, is_quiet, living-nil, living-plain, living-push, unit-nil, unit-plain, unit-push}
-use Rattle.im_directory.specs.Agreement.{next_build}
-use Rattle.im_directory.specs.Agrees.{Agrees, IsGrowth, IsJournal, IsStock, is_apart, scn_of, takes_out}
-use Rattle.im_directory.specs.Effects.{IsBegun, IsCancelled, IsDropped, IsNew, IsNoted, IsSwitched, SameTold, grown, notes_of, with_notes}
-use Rattle.im_directory.specs.Slots.{Growth, Kept, Stock, Told, build_among, build_in, living_in, told_at}
-use Rattle.im_directory.specs.Sound.{IsSound}
-use Rattle.im_directory.proofs.AgreesLemmas.{IsGrowth-quiet, IsStock-quiet, all_killed-apart, drops-apart, found_by, killed-apart, or_first, or_none_after, or_second, plain-apart, quiet-apart, scn_noted, task-killed, was_mapped}
-use Rattle.im_directory.proofs.JournalLemmas.{IsJournal-begun, IsJournal-commit, IsJournal-quiet}
-use Rattle.im_directory.proofs.SoundLemmas.{IsBeginning-begun, IsEnding-cancelled, IsEnding-switched, IsKilling-dropped, IsSound-begun, IsSound-ended, IsSound-killed, IsSound-new, IsSound-noted, IsSound-told, ap_if, build_in-new, build_past, living_off, living_on, living_own, number_noted, on_own, on_parts, some_same, told_at-new}
+use Rattle.im_history.proofs.UnitLaws.{builds-nil, builds-plain, is_plain, is_quiet, living-nil, living-plain, unit-nil, unit-plain}
+use Rattle.im_directory.specs.Agrees.{Agrees, IsGrowth, IsStock, is_apart, scn_of}
+use Rattle.im_directory.specs.Effects.{IsDropped, IsNew, IsNoted, SameTold, notes_of, with_notes}
+use Rattle.im_directory.specs.Slots.{Growth, Kept, Stock, Told, build_among, told_at}
+use Rattle.im_directory.proofs.AgreesLemmas.{IsGrowth-quiet, IsStock-quiet, all_killed-apart, drops-apart, found_by, killed-apart, plain-apart, quiet-apart, scn_noted, task-killed, was_mapped}
+use Rattle.im_directory.proofs.JournalLemmas.{IsJournal-commit}
+use Rattle.im_directory.proofs.SoundLemmas.{IsKilling-dropped, IsSound-killed, IsSound-new, IsSound-noted, IsSound-told, ap_if, build_in-new, number_noted, told_at-new}
 
 module _ {U : Type 0} (content : U → Content) where
   -- what is read of what is told

@@ -1,5 +1,5 @@
 -- Units and builds that an entry leaves as they are.
-use Rattle.std.proofs.Common.{◌≡◌, ℕ, ◌≤◌, Bool, true, false, List, [], ◌∷◌, ◌++◌, length, map, Option, Some, None, is_some, if◌then◌else◌, refl, sym, ap, ap₂, subst, ◌∙◌}
+use Rattle.std.proofs.Common.{◌≡◌, ℕ, Bool, true, false, List, [], ◌∷◌, ◌++◌, map, Option, Some, None, is_some, if◌then◌else◌, refl, sym, ap, ap₂, subst, ◌∙◌}
 use Rattle.std.specs.Option.{option_map, option_or}
 use Rattle.std.proofs.lemmas.Bool.{false≢true}
 use Rattle.im_journal.specs.Stale.{Note}
@@ -8,15 +8,14 @@ use Rattle.im_history.specs.declared.entry.What.{What}
 use Rattle.im_history.specs.declared.entry.What.TheVariants.{Memory, Commit, Build, Switch, Cancel, Evict}
 use Rattle.im_history.specs.declared.task.Held.{Held}
 use Rattle.im_history.specs.declared.task.Task.{Task}
-use Rattle.im_history.specs.Commits.{scn}
 use Rattle.im_history.specs.History.{History}
 use Rattle.im_history.specs.Transactions.{or_here}
-use Rattle.im_history.specs.Units.{Content, content_at, drops, held_at, killed_by}
+use Rattle.im_history.specs.Units.{Content, drops, held_at, killed_by}
 use Rattle.im_history.proofs.ContentLaws.{content_at-push}
 use Rattle.im_history.proofs.UnitLaws.{is_plain, is_quiet}
 use Rattle.im_directory.specs.Agrees.{IsGrowth, IsJournal, IsStock, is_apart, takes_out}
 use Rattle.im_directory.specs.Effects.{with_notes}
-use Rattle.im_directory.specs.Slots.{Growth, Stock, Told}
+use Rattle.im_directory.specs.Slots.{Growth, Stock}
 use Rattle.im_directory.proofs.JournalLemmas.{IsJournal-quiet}
 use Rattle.im_directory.proofs.SoundLemmas.{killed_off, some_same}
 

@@ -1,24 +1,23 @@
 -- A directory goes on to agree with a history when a build begins.
-use Rattle.std.proofs.Common.{◌≡◌, ℕ, ◌+◌, ◌≤◌, ◌==◌, ◌&&◌, Bool, true, false, List, [], ◌∷◌, ◌++◌, length, Option, Some, None, is_some, if◌then◌else◌, refl, sym, ap, subst, ◌∙◌, arith}
-use Rattle.std.specs.Option.{option_map, option_or}
+use Rattle.std.proofs.Common.{◌≡◌, ℕ, ◌+◌, ◌==◌, Bool, true, false, [], ◌∷◌, ◌++◌, length, Option, Some, None, if◌then◌else◌, refl, sym, ap, subst, ◌∙◌, arith}
+use Rattle.std.specs.Option.{option_or}
 use Rattle.std.proofs.lemmas.Bool.{eq-eqb, eqb-true, eqb-false, ne_eqb}
 use Rattle.std.proofs.lemmas.List.{length_push}
 use Rattle.im_history.specs.declared.entry.Entry.{Entry}
 use Rattle.im_history.specs.declared.entry.What.TheVariants.{Build}
 use Rattle.im_history.specs.declared.task.Held.{Held}
-use Rattle.im_history.specs.Commits.{scn}
 use Rattle.im_history.specs.History.{History}
 use Rattle.im_history.specs.Legal.{Exists}
 use Rattle.im_history.specs.Units.{Content, builds, held_at, is_on, living}
 use Rattle.im_history.proofs.BuildLaws.{held_at-build}
 use Rattle.im_history.proofs.UnitLaws.{builds-push, living-push, unit-push}
 use Rattle.im_directory.specs.Agreement.{next_build}
-use Rattle.im_directory.specs.Agrees.{Agrees, IsGrowth, IsJournal, IsStock, scn_of}
+use Rattle.im_directory.specs.Agrees.{Agrees, IsGrowth, scn_of}
 use Rattle.im_directory.specs.Effects.{IsBegun}
-use Rattle.im_directory.specs.Slots.{Growth, Kept, Stock, Told, build_in, living_in, told_at}
+use Rattle.im_directory.specs.Slots.{Growth, Kept, Told, build_in, told_at}
 use Rattle.im_directory.proofs.AgreesLemmas.{IsGrowth-quiet, IsStock-quiet, or_first, or_none_after, or_second}
 use Rattle.im_directory.proofs.JournalLemmas.{IsJournal-begun}
-use Rattle.im_directory.proofs.SoundLemmas.{IsBeginning, IsBeginning-begun, IsSound-begun, ap_if, build_past, on_own, on_parts, same_either, some_same}
+use Rattle.im_directory.proofs.SoundLemmas.{IsBeginning, IsBeginning-begun, IsSound-begun, ap_if, build_past, on_parts, same_either, some_same}
 
 module _ {U : Type 0} (content : U → Content) where
   -- a build of the next number begins after this history

@@ -8,14 +8,12 @@ use Rattle.im_history.specs.declared.entry.What.TheVariants.{Evict, Memory}
 use Rattle.im_history.specs.declared.task.Held.{Held}
 use Rattle.im_history.specs.declared.task.Task.{Task}
 use Rattle.im_history.specs.Transactions.{or_here}
-use Rattle.im_history.specs.Units.{drops, killed_by}
-use Rattle.im_directory.specs.declared.slot.Slot.{Slot}
+use Rattle.im_history.specs.Units.{killed_by}
 use Rattle.im_directory.specs.Effects.{IsDropped}
-use Rattle.im_directory.specs.Slots.{Growth, Kept, Told, build_in, living_in, nothing, slot_at, told, told_at}
+use Rattle.im_directory.specs.Slots.{Growth, Kept, Told, build_in, nothing, slot_at, told, told_at}
 use Rattle.im_directory.specs.Sound.{IsSound}
-use Rattle.im_directory.specs.Steps.{killed_at, slot_in}
+use Rattle.im_directory.specs.Steps.{killed_at}
 use Rattle.im_directory.proofs.EffectLemmas.{killed_again}
-use Rattle.im_directory.proofs.SoundLemmas.{ap_if}
 
 -- a held build, killed where it is of one of the table's extents before this one
 abbrev killed_upto : ℕ → ℕ → ℕ → Held → Held

@@ -1,25 +1,23 @@
 -- What each call leaves, from what it does to the slots and the builds.
-use Rattle.std.proofs.Common.{◌≡◌, ℕ, zero, suc, ◌+◌, ◌-◌, ◌≤◌, ◌<◌, inl, inr, Bool, true, false, ◌==◌, ◌&&◌, nat_lt, List, [], ◌∷◌, ◌++◌, length, map, set, Option, Some, None, is_some, IsSome, if◌then◌else◌, refl, sym, ap, ap₂, subst, ◌∙◌, ⊎_elim, arith, length-set}
+use Rattle.std.proofs.Common.{◌≡◌, ℕ, zero, suc, ◌-◌, ◌≤◌, ◌<◌, inl, inr, Bool, true, false, ◌==◌, ◌&&◌, List, [], ◌∷◌, ◌++◌, length, map, set, Option, Some, None, is_some, IsSome, if◌then◌else◌, refl, sym, ap, ap₂, subst, ◌∙◌, ⊎_elim, arith, length-set}
 use Rattle.std.specs.Prelude.{slice_index_or}
 use Rattle.std.specs.Option.{option_map, ForSome}
 use Rattle.std.specs.declared.alloc.Global.{Global}
 use Rattle.std.specs.declared.sync.Arc.{Arc}
-use Rattle.std.proofs.lemmas.Bool.{false≢true, and_parts, and_from, cases_Bool, cases_eq, cases_lt, eq-eqb, eqb-true, ne_eqb}
-use Rattle.std.proofs.lemmas.List.{ext_get_or, get_or_past, get_or-map, length-map}
-use Rattle.im_journal.specs.Stale.{Note}
+use Rattle.std.proofs.lemmas.Bool.{false≢true, and_parts, and_from, cases_eq, eq-eqb, eqb-true, ne_eqb}
+use Rattle.std.proofs.lemmas.List.{ext_get_or, get_or-map, length-map}
 use Rattle.im_history.specs.declared.change.Change.{Change}
-use Rattle.im_history.specs.declared.entry.What.{What}
 use Rattle.im_history.specs.declared.entry.What.TheVariants.{Evict}
 use Rattle.im_history.specs.declared.look.TableInfo.{TableInfo}
 use Rattle.im_history.specs.declared.task.Held.{Held}
 use Rattle.im_history.specs.Transactions.{or_here}
-use Rattle.im_history.specs.Units.{drops, is_on, killed_by, unless_ended}
+use Rattle.im_history.specs.Units.{drops, is_on, killed_by}
 use Rattle.im_directory.specs.declared.slot.Current.{Current}
 use Rattle.im_directory.specs.declared.slot.Growing.{Growing}
 use Rattle.im_directory.specs.declared.slot.Slot.{Slot}
-use Rattle.im_directory.specs.Effects.{HasRoom, IsBefore, IsBegun, IsCancelled, IsDropped, IsNoted, IsSwitched, NoneBehind, SameTold, grown, notes_for, unless_of}
+use Rattle.im_directory.specs.Effects.{HasRoom, IsBefore, IsBegun, IsCancelled, IsDropped, IsNoted, IsSwitched, NoneBehind, SameTold, grown, unless_of}
 use Rattle.im_directory.specs.Slots.{Growth, Kept, Stock, Told, build_among, build_in, growth, living_in, nothing, slot_at, stock, told, told_at}
-use Rattle.im_directory.specs.Sound.{IsAlive, IsLiving, IsSound}
+use Rattle.im_directory.specs.Sound.{IsSound}
 use Rattle.im_directory.specs.Steps.{AreBefore, AreNoted, HasNotesRoom, HasPlace, KeepsSlots, TellsAlike, builds_killed, current_grown, growing_unless, killed_at, slot_begun, slot_cancelled, slot_dropped, slot_switched, slots_with}
 use Rattle.im_directory.proofs.SlotLemmas.{slot_at-changed, get_or-changed}
 use Rattle.im_directory.proofs.SoundLemmas.{ap_if, on_parts, living_on, living_own, build_some}

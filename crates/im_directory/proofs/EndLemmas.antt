@@ -1,22 +1,21 @@
 -- A directory goes on to agree with a history when a build ends.
-use Rattle.std.proofs.Common.{◌≡◌, ℕ, ◌+◌, ◌-◌, ◌≤◌, ◌==◌, ◌&&◌, Bool, true, false, List, [], ◌∷◌, ◌++◌, length, set, Option, Some, None, is_some, if◌then◌else◌, refl, sym, ap, ap₂, subst, ◌∙◌, arith, length-set}
+use Rattle.std.proofs.Common.{◌≡◌, ℕ, ◌-◌, ◌==◌, Bool, true, false, [], ◌∷◌, ◌++◌, length, set, Option, Some, None, is_some, if◌then◌else◌, refl, sym, ap, ap₂, subst, ◌∙◌, length-set}
 use Rattle.std.specs.Option.{option_map}
-use Rattle.std.proofs.lemmas.Bool.{false≢true, eq-eqb, eqb-true, ne_eqb}
+use Rattle.std.proofs.lemmas.Bool.{false≢true, ne_eqb}
 use Rattle.im_history.specs.declared.entry.Entry.{Entry}
 use Rattle.im_history.specs.declared.entry.What.TheVariants.{Switch, Cancel}
 use Rattle.im_history.specs.declared.task.Held.{Held}
-use Rattle.im_history.specs.Commits.{scn}
 use Rattle.im_history.specs.History.{History}
-use Rattle.im_history.specs.Units.{Content, content_at, held_at, is_on, living, switched, unit as unit_at, unless_ended}
+use Rattle.im_history.specs.Units.{Content, content_at, held_at, is_on, switched, unit as unit_at, unless_ended}
 use Rattle.im_history.proofs.BuildLaws.{held_at-cancel, held_at-switch}
 use Rattle.im_history.proofs.ContentLaws.{content_at-push}
 use Rattle.im_history.proofs.UnitLaws.{builds-push, is_quiet, living-push, unit-push}
 use Rattle.im_directory.specs.Agrees.{Agrees, IsGrowth, IsJournal, IsStock, scn_of}
 use Rattle.im_directory.specs.Effects.{IsCancelled, IsSwitched, grown, unless_of}
-use Rattle.im_directory.specs.Slots.{Growth, Kept, Stock, Told, build_in, living_in, told_at}
-use Rattle.im_directory.proofs.AgreesLemmas.{IsGrowth-quiet, IsStock-quiet, found_by, was_mapped}
+use Rattle.im_directory.specs.Slots.{Growth, Kept, Stock, Told, build_in, told_at}
+use Rattle.im_directory.proofs.AgreesLemmas.{IsGrowth-quiet, IsStock-quiet, was_mapped}
 use Rattle.im_directory.proofs.JournalLemmas.{IsJournal-quiet}
-use Rattle.im_directory.proofs.SoundLemmas.{IsEnding, IsEnding-cancelled, IsEnding-switched, IsSound-ended, ap_if, living_on, living_own, on_parts, some_same}
+use Rattle.im_directory.proofs.SoundLemmas.{IsEnding-cancelled, IsEnding-switched, IsSound-ended, living_on, living_own, on_parts, some_same}
 
 -- a living build that is left is not the one that ended
 left_by : (b : Bool) (id : ℕ) (growth left : Growth) → (growth.id == id) ≡ b → (if b then None else Some growth) ≡ Some left → ((left.id == id) ≡ false) × (Some growth ≡ Some left)

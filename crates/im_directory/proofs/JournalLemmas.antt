@@ -1,12 +1,11 @@
 -- A journal says what commits touched, as the history goes on.
-use Rattle.std.proofs.Common.{◌≡◌, ℕ, ◌+◌, ◌/◌, ◌≤◌, ◌<◌, Bool, true, false, ◌==◌, ◌&&◌, ◌||◌, nat_le, nat_lt, List, [], ◌∷◌, ◌++◌, All, if◌then◌else◌, refl, sym, ap, ap₂, ◌∙◌, arith}
+use Rattle.std.proofs.Common.{◌≡◌, ℕ, ◌+◌, ◌/◌, ◌≤◌, Bool, true, ◌==◌, ◌&&◌, ◌||◌, nat_le, nat_lt, List, [], ◌∷◌, ◌++◌, refl, sym, ap, ap₂, ◌∙◌, arith}
 use Rattle.std.proofs.lemmas.Bool.{and_right, le-leb}
 use Rattle.std.proofs.lemmas.List.Elements.{All-nil, All-weaker}
 use Rattle.im_journal.specs.Stale.{Note}
 use Rattle.im_history.specs.declared.entry.Entry.{Entry}
-use Rattle.im_history.specs.declared.entry.What.{What}
 use Rattle.im_history.specs.declared.entry.What.TheVariants.{Commit}
-use Rattle.im_history.specs.Commits.{moves_clock, scn}
+use Rattle.im_history.specs.Commits.{scn}
 use Rattle.im_history.specs.History.{History}
 use Rattle.im_history.specs.Legal.{Exists}
 use Rattle.im_history.specs.Tables.{tables}
@@ -26,7 +25,7 @@ use Rattle.im_directory.proofs.NoteLemmas.{AreUpTo, is_noted-commit, nat_lt-next
 pub scn-rises : (h : History) (entry : Entry) → scn h ≤ scn (h ++ entry ∷ [])
 scn-rises h entry = let moved = scn-push h entry in omega (arith, moved)
 
-upto-later : (n m : ℕ) (notes : List Note) → n ≤ m → AreUpTo n notes → AreUpTo m notes
+pub upto-later : (n m : ℕ) (notes : List Note) → n ≤ m → AreUpTo n notes → AreUpTo m notes
 upto-later n m notes rises upto = All-weaker (λ (note : Note). note.1 ≤ n) (λ (note : Note). note.1 ≤ m) (λ note below. omega (arith, below, rises)) notes upto
 
 -- an entry that commits no changes leaves each journal as it is

@@ -5,9 +5,11 @@ mod BuildLemmas
 mod DropLemmas
 mod EffectLemmas
 mod EndLemmas
+pub mod ForCallers
 mod JournalLemmas
 mod NoteLemmas
 mod NotingLemmas
 mod PadLemmas
 mod SlotLemmas
 mod SoundLemmas
+mod StaleLemmas

@@ -1,5 +1,5 @@
 -- The changes of a commit, one after another, and what they leave of each extent.
-use Rattle.std.proofs.Common.{◌≡◌, ℕ, zero, suc, ◌+◌, ◌-◌, ◌≤◌, ◌<◌, ◌⊎◌, inr, Bool, true, false, ◌==◌, ◌&&◌, ◌||◌, max, List, [], ◌∷◌, ◌++◌, length, take, map, filter, Option, Some, None, is_some, if◌then◌else◌, refl, sym, ap, ap₂, subst, ◌∙◌, arith}
+use Rattle.std.proofs.Common.{◌≡◌, ℕ, zero, suc, ◌+◌, ◌≤◌, ◌<◌, inr, Bool, true, false, ◌==◌, ◌&&◌, List, [], ◌∷◌, ◌++◌, length, take, map, filter, Option, Some, None, is_some, if◌then◌else◌, refl, sym, ap, ap₂, subst, ◌∙◌, arith}
 use Rattle.std.specs.Prelude.{slice_index_or}
 use Rattle.std.specs.List.{fold}
 use Rattle.std.specs.Option.{option_map, ForSome}
@@ -7,16 +7,16 @@ use Rattle.std.proofs.lemmas.Bool.{false≢true, or_parts, and_from, eq-eqb}
 use Rattle.std.proofs.lemmas.List.{take_all, take_more}
 use Rattle.std.proofs.lemmas.List.Elements.{filter-append}
 use Rattle.std.proofs.lemmas.List.Sums.{fold-append}
-use Rattle.im_journal.specs.Stale.{Note, Notes, noted}
+use Rattle.im_journal.specs.Stale.{Note, Notes}
 use Rattle.im_journal.proofs.ForCallers.{last_scn-noted}
 use Rattle.im_history.specs.declared.change.Change.{Change}
 use Rattle.im_history.specs.declared.look.TableInfo.{TableInfo}
 use Rattle.im_directory.specs.declared.slot.Current.{Current}
 use Rattle.im_directory.specs.declared.slot.Growing.{Growing}
 use Rattle.im_directory.specs.declared.slot.Slot.{Slot}
-use Rattle.im_directory.specs.Effects.{NoneBehind, extent_in, is_in_extent, noted_in, notes_for, notes_of, with_notes}
+use Rattle.im_directory.specs.Effects.{NoneBehind, extent_in, is_in_extent, noted_in, notes_for, with_notes}
 use Rattle.im_directory.specs.Slots.{Growth, Stock, Told, growth, nothing, slot_at, stock, told}
-use Rattle.im_directory.specs.Steps.{AreBefore, AreNoted, HasNotesRoom, HasSlotRoom, IsSlotBefore, MayNote, MayTake, TellsAlike, WentThrough, current_noted, growing_noted, has_journal, slot_counted, slot_noted, slot_roomy, slot_through, slot_uncounted, slots_with, with_note, with_room}
+use Rattle.im_directory.specs.Steps.{AreBefore, AreNoted, HasNotesRoom, HasSlotRoom, IsSlotBefore, MayNote, TellsAlike, WentThrough, current_noted, growing_noted, has_journal, slot_counted, slot_noted, slot_roomy, slot_through, slot_uncounted, slots_with, with_note, with_room}
 use Rattle.im_directory.proofs.SlotLemmas.{slot_at-changed}
 
 -- what holds of an element holds of its image

@@ -1,7 +1,6 @@
 -- Lists that grew by default elements.
-use Rattle.std.proofs.Common.{◌≡◌, ℕ, zero, suc, List, [], ◌∷◌, ◌++◌, refl, ap, ◌∙◌}
+use Rattle.std.proofs.Common.{◌≡◌, ℕ, zero, suc, List, [], ◌∷◌, ◌++◌, refl, ◌∙◌}
 use Rattle.std.specs.Prelude.{slice_index_or}
-use Rattle.im_directory.specs.Slots.{nothing}
 use Rattle.im_directory.specs.Steps.{IsPadded}
 
 slice_index_or-pad : {X : Type 0} (xs : List X) (default : X) (i : ℕ) → slice_index_or (xs ++ default ∷ []) i default ≡ slice_index_or xs i default

@@ -1,5 +1,5 @@
 -- What is kept of each extent, read after one of them changed or more were added.
-use Rattle.std.proofs.Common.{◌≡◌, ◌≢◌, ℕ, ◌<◌, ◌≤◌, ◌⊎◌, inl, inr, Bool, true, false, ◌==◌, ◌&&◌, List, [], length, set, Option, Some, None, if◌then◌else◌, refl, sym, ap, subst, ◌∙◌, ⊎_elim, arith, length-set}
+use Rattle.std.proofs.Common.{◌≡◌, ◌≢◌, ℕ, ◌<◌, ◌≤◌, ◌⊎◌, inl, inr, Bool, true, false, ◌==◌, ◌&&◌, List, [], length, set, Option, if◌then◌else◌, refl, sym, ap, subst, ◌∙◌, ⊎_elim, arith, length-set}
 use Rattle.std.specs.Prelude.{slice_index_or}
 use Rattle.std.specs.List.{slice_get}
 use Rattle.std.specs.Option.{unwrap_or}
@@ -8,8 +8,8 @@ use Rattle.std.proofs.lemmas.Grind.{get_or-set_at}
 use Rattle.std.proofs.lemmas.List.{get_or_past, get_or-set_other}
 use Rattle.std.proofs.lemmas.Option.{unwrap_or-slice_get}
 use Rattle.im_directory.specs.declared.slot.Slot.{Slot}
-use Rattle.im_directory.specs.Slots.{nothing, slot_at, told}
-use Rattle.im_directory.specs.Steps.{HasPlace, IsPadded, KeepsSlots, TellsAlike, TellsSame, shelf_with, slot_in, slots_with}
+use Rattle.im_directory.specs.Slots.{nothing, slot_at}
+use Rattle.im_directory.specs.Steps.{HasPlace, IsPadded, KeepsSlots, shelf_with, slot_in, slots_with}
 
 -- an element of a list changed by a function, if it is there
 pub get_or-changed : {X : Type 0} (f : X → X) (xs : List X) (d : X) (i j : ℕ) → (i < length xs) ⊎ (f d ≡ d) → slice_index_or (set xs i (f (slice_index_or xs i d))) j d ≡ (if i == j then f (slice_index_or xs j d) else slice_index_or xs j d)

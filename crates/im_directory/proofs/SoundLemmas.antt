@@ -1,8 +1,8 @@
 -- Builds stand by their numbers, and those that nothing killed are living, after each call.
-use Rattle.std.proofs.Common.{◌≡◌, ℕ, zero, suc, ◌+◌, ◌-◌, ◌≤◌, ◌<◌, inr, Bool, true, false, ◌==◌, ◌&&◌, List, [], ◌∷◌, ◌++◌, length, map, set, Option, Some, None, is_some, if◌then◌else◌, refl, sym, ap, ap₂, subst, ◌∙◌, ⊎_elim, arith}
+use Rattle.std.proofs.Common.{◌≡◌, ℕ, zero, suc, ◌+◌, ◌-◌, ◌≤◌, ◌<◌, inr, Bool, true, false, ◌==◌, List, [], ◌∷◌, ◌++◌, length, map, set, Option, Some, None, is_some, if◌then◌else◌, refl, sym, ap, ap₂, subst, ◌∙◌, ⊎_elim, arith}
 use Rattle.std.specs.Prelude.{slice_index_or}
 use Rattle.std.specs.Option.{option_map}
-use Rattle.std.proofs.lemmas.Bool.{false≢true, true≢false, and_parts, and_from, cases_Bool, cases_eq, cases_lt, eq-eqb, eqb-true, ne_eqb}
+use Rattle.std.proofs.lemmas.Bool.{false≢true, and_parts, and_from, cases_Bool, cases_eq, cases_lt, eq-eqb, eqb-true, ne_eqb}
 use Rattle.std.proofs.lemmas.List.{get_or_past, get_or-map, get_or_append_left, get_or_push, length_push, length-map}
 use Rattle.im_history.specs.declared.entry.What.{What}
 use Rattle.im_history.specs.declared.task.Held.{Held}
@@ -14,7 +14,7 @@ use Rattle.im_directory.specs.Slots.{Growth, Kept, Told, build_among, build_in, 
 use Rattle.im_directory.specs.declared.slot.Slot.{Slot}
 use Rattle.im_history.specs.declared.change.Change.{Change}
 use Rattle.im_history.specs.declared.look.TableInfo.{TableInfo}
-use Rattle.im_directory.specs.Sound.{IsAlive, IsLiving, IsSound}
+use Rattle.im_directory.specs.Sound.{IsLiving, IsSound}
 use Rattle.im_directory.proofs.SlotLemmas.{get_or-changed, slot_at_past}
 
 pub ap_if : {X Y : Type 0} (f : X → Y) (b : Bool) (x y : X) → f (if b then x else y) ≡ (if b then f x else f y)

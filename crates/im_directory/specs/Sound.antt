@@ -1,5 +1,5 @@
 -- What always holds of what is kept.
-use Rattle.std.specs.Prelude.{◌≡◌, ℕ, true, Option, Some, None}
+use Rattle.std.specs.Prelude.{◌≡◌, ℕ, true, Some, None}
 use Rattle.im_history.specs.declared.task.Held.{Held}
 use Rattle.im_history.specs.Units.{is_on}
 use Rattle.im_directory.specs.Slots.{Kept, build_in, living_in}

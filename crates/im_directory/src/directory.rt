@@ -153,9 +153,7 @@ impl<U: Drop> Directory<U> {
         ensures before { ForSome (build_in self.old id) (λ held. option_map (λ unit. unit.value) result ≡ unit_in self.old held.task.table held.task.extent) }
     {
         let held = self.builds.end(id);
-        let before = self
-            .shelves
-            .switch(held.task.table, held.task.extent, unit);
+        let before = self.shelves.switch(held.task.table, held.task.extent, unit);
         unit_of(before)
     }
 

@@ -1,5 +1,5 @@
 -- What the unit of an extent at an SCN holds, as a history goes on.
-use Rattle.std.proofs.Common.{◌≡◌, ℕ, ◌*◌, ◌≤◌, List, [], ◌∷◌, ◌++◌, map, Option, refl, sym, ap, ap₂, ◌∙◌}
+use Rattle.std.proofs.Common.{◌≡◌, ℕ, ◌*◌, ◌≤◌, List, [], ◌∷◌, ◌++◌, map, Option, refl, ap, ap₂, ◌∙◌}
 use Rattle.im_history.specs.declared.entry.Entry.{Entry}
 use Rattle.im_history.specs.Commits.{scn}
 use Rattle.im_history.specs.History.{History}

@@ -5,6 +5,7 @@ pub mod Laws
 mod MemoryLemmas
 pub mod Replay
 pub mod RowLaws
+pub mod ShapeLaws
 pub mod TableLaws
 pub mod TouchLaws
 pub mod UnitLaws

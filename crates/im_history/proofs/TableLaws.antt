@@ -1,16 +1,15 @@
 -- A table that exists keeps its columns and its shape.
-use Rattle.std.proofs.Common.{◌≡◌, ℕ, zero, suc, ◌+◌, ◌*◌, ◌≤◌, List, [], ◌∷◌, ◌++◌, length, Option, Some, None, is_some, slice_get, refl, sym, ap, ◌∙◌, arith}
+use Rattle.std.proofs.Common.{◌≡◌, ℕ, zero, suc, List, [], ◌∷◌, ◌++◌, length, Option, Some, None, is_some, slice_get, refl, ap, ◌∙◌}
 use Rattle.std.proofs.lemmas.Bool.{false≢true}
-use Rattle.im_values.specs.declared.schema.Column.{Column}
 use Rattle.im_history.specs.declared.entry.Entry.{Entry}
 use Rattle.im_history.specs.declared.entry.Priority.{Priority}
 use Rattle.im_history.specs.declared.entry.What.{What}
 use Rattle.im_history.specs.declared.entry.What.TheVariants.{Create, Memory}
 use Rattle.im_history.specs.declared.look.TableInfo.{TableInfo}
-use Rattle.im_history.specs.Grid.{Grid, per_extent}
+use Rattle.im_history.specs.Grid.{per_extent}
 use Rattle.im_history.specs.History.{History}
 use Rattle.im_history.specs.Legal.{Exists}
-use Rattle.im_history.specs.Tables.{created, remembered, table_among, table_at, tables, with_memory}
+use Rattle.im_history.specs.Tables.{created, table_among, table_at, tables, with_memory}
 use Rattle.im_history.specs.Units.{columns_of}
 use Rattle.im_history.specs.Views.{per_at}
 use Rattle.im_history.proofs.Laws.{tables-push}

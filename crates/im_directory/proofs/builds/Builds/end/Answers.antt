@@ -1,4 +1,4 @@
-use Rattle.std.proofs.Common.{◌≡◌, ◌-◌, None, IsSome, set, ap}
+use Rattle.std.proofs.Common.{◌-◌, IsSome, set, ap}
 use Rattle.im_directory.specs.Slots.{build_among}
 use Rattle.im_directory.proofs.BuildLemmas.{count-end}
 use Rattle.im_directory.proofs.builds.Builds.end.Goals as goal

@@ -1,4 +1,4 @@
-use Rattle.std.proofs.Common.{◌≡◌, ◌<◌, IsSome, arith, length}
+use Rattle.std.proofs.Common.{IsSome, arith}
 use Rattle.im_directory.specs.Slots.{build_among}
 use Rattle.im_directory.proofs.BuildLemmas.{build_inside}
 use Rattle.im_directory.proofs.builds.Builds.kill.Goals as goal

@@ -1,4 +1,4 @@
-use Rattle.im_directory.proofs.SoundLemmas.{IsSound-new, IsSound-told, IsSound-noted, IsSound-ended, IsEnding-switched, IsEnding-cancelled, IsSound-begun, IsKilling-dropped, IsSound-killed}
+use Rattle.im_directory.proofs.SoundLemmas.{IsSound-new}
 use Rattle.im_directory.proofs.directory.Directory.new.Goals as goal
 
 pub invariant_of-result : goal.invariant_of-result

@@ -1,6 +1,5 @@
-use Rattle.std.proofs.Common.{◌≡◌, Some, None, sym, ap, subst, ◌∙◌}
+use Rattle.std.proofs.Common.{◌≡◌, Some, sym, ap, ◌∙◌}
 use Rattle.im_history.specs.declared.task.Held.{Held}
-use Rattle.im_directory.specs.Effects.{IsSwitched}
 use Rattle.im_directory.specs.Slots.{build_among}
 use Rattle.im_directory.proofs.EffectLemmas.{IsSwitched-made, has_growing}
 use Rattle.im_directory.proofs.SoundLemmas.{IsEnding-switched, IsSound-ended, some_same}

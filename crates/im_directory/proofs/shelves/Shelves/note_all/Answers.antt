@@ -1,6 +1,5 @@
-use Rattle.std.proofs.Common.{refl, subst}
-use Rattle.im_directory.specs.Slots.{slot_at}
-use Rattle.im_directory.specs.Steps.{MayNote, slot_noted}
+use Rattle.std.proofs.Common.{refl}
+use Rattle.im_directory.specs.Steps.{slot_noted}
 use Rattle.im_directory.proofs.NotingLemmas.{AreNoted-all, MayNote-next, WentThrough-all, WentThrough-step}
 use Rattle.im_directory.proofs.shelves.Shelves.note_all.Goals as goal
 
