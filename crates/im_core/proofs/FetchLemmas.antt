@@ -22,6 +22,7 @@ use Rattle.im_txn.specs.Agrees.{kept}
 use Rattle.im_txn.specs.Standing.{Standing, activity_at}
 use Rattle.im_txn.proofs.ForCallers.{cursor-by}
 use Rattle.im_history.specs.Units.{Content}
+use Rattle.im_history.proofs.GridLaws.{first_within}
 use Rattle.im_directory.specs.Slots.{Kept}
 use Rattle.im_core.specs.Holds.{Holds}
 use Rattle.im_core.specs.Answers.{cursor_view, view_of, committed_in, rows_in}
@@ -38,14 +39,6 @@ found_has {X} P q (first ∷ xs) x all found = by (q first) refl (All-head P fir
     by : (b : Bool) → q first ≡ b → P first → (find q xs ≡ Some x → P x) → P x
     by true e here rest = subst P (some-inj first (rw e at found)) here
     by false e here rest = rest (rw e at found)
-
--- an extent of a view begins at a row number of it
-pub first_within : (rows per extent : ℕ) → extent < (rows + per - 1) / per → extent * per < rows
-first_within rows zero extent within = let none = div-zero (rows + 0 - 1) in absurd (omega (arith, within, none))
-first_within rows (suc before) extent within =
-    let all : (rows + suc before - 1) / suc before * suc before ≤ rows + suc before - 1 = div-mul-le_self (rows + suc before - 1) (suc before) in
-    let more : suc extent * suc before ≤ (rows + suc before - 1) / suc before * suc before = mul-le-mul_right (suc before) within in
-    omega (arith, all, more)
 
 -- the cursor that a session has open is kept with its view
 pub record HasView (view : View) (extent : ℕ) (cursor : Cursor) : Type 0 where

@@ -98,6 +98,10 @@ module _ {U : Type 0} (content : U → Content) (limits : Limits) (history : Sto
         room = omega (arith, owes, count);
       }
 
+  -- all is told as before of the column store
+  pub Holds-told : (new_kept : Kept U) → Holds content limits history catalog counts weighed beginnings blocks old kept → SameTold kept new_kept → Holds content limits history catalog counts weighed beginnings blocks old new_kept
+  Holds-told new_kept holds told = Holds-roomier blocks new_kept holds (record { versions = λ table rid. refl; room = λ table rid. omega arith }) told
+
   -- more room in the history
   pub Holds-reserved : (reserved : Stored) (room : ℕ) → Holds content limits history catalog counts weighed beginnings blocks old kept → reserved ≡ record history { spare = max history.spare room } → Holds content limits reserved catalog counts weighed beginnings blocks old kept
   Holds-reserved reserved room holds made =

@@ -2,6 +2,7 @@ mod AgreementLemmas
 mod AgreesLemmas
 mod BeginLemmas
 mod BuildLemmas
+pub mod CountLaws
 mod DropLemmas
 mod EffectLemmas
 mod EndLemmas

@@ -38,6 +38,14 @@ impl Builds {
         }
     }
 
+    /// How many builds began.
+    pub fn len(&self) -> u64
+        ensures len { result ≡ length self.now }
+        ensures few { result < 2 ^ 63 }
+    {
+        self.list.len() as u64
+    }
+
     /// How many builds are held.
     pub fn held(&self) -> u64
         ensures held { result ≡ count_by is_some self.now }

@@ -47,6 +47,14 @@ impl<U: Drop> Directory<U> {
         }
     }
 
+    /// How many builds began: the next one has one number more. It takes constant time.
+    pub fn begun(&self) -> u64
+        ensures begun { result ≡ length self.now.builds }
+        ensures few { result < 2 ^ 63 }
+    {
+        self.builds.len()
+    }
+
     /// How many builds are held. It takes constant time.
     pub fn held(&self) -> u64
         ensures held { result ≡ count_by is_some self.now.builds }

@@ -1,6 +1,9 @@
 pub mod BuildLaws
 pub mod ContentLaws
 pub mod FitLaws
+pub mod GivenLaws
+pub mod GridLaws
+pub mod HeldLaws
 pub mod Laws
 mod MemoryLemmas
 pub mod Replay
