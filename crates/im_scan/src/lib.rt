@@ -11,16 +11,23 @@
 #![tactic(auto)]
 
 mod body;
+mod faces;
 mod fault;
 mod listing;
+mod parts;
+mod pinned;
 mod records;
 mod reply;
 mod served;
+mod slots;
 mod task;
 
 pub use body::Body;
+pub use faces::Face;
 pub use fault::Fault;
 pub use listing::Listing;
+pub use parts::part;
+pub use pinned::{face, how};
 pub use records::Records;
 pub use reply::Reply;
 pub use served::{How, Served};

@@ -1,0 +1,1 @@
+-- What callers know of the parts of a scan.

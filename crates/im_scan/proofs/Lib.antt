@@ -1,0 +1,5 @@
+mod SlotLemmas
+mod FitLemmas
+mod PartLemmas
+mod PinLemmas
+pub mod ForCallers
