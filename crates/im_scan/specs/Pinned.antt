@@ -1,5 +1,5 @@
 -- What is known of an extent that was pinned for a view.
-use Rattle.std.specs.Prelude.{◌≡◌, ℕ, ◌*◌, ◌≤◌, List, map, Option, Some, None}
+use Rattle.std.specs.Prelude.{◌≡◌, ℕ, ◌*◌, ◌≤◌, min, List, map, Option, Some, None}
 use Rattle.std.specs.Option.{ForSome}
 use Rattle.im_history.specs.declared.view.View.{View}
 use Rattle.im_history.specs.History.{History}
@@ -32,3 +32,11 @@ pub record IsPinned (history : History) (view : View) (extent : ℕ) (unit : Opt
 -- the rows of an extent that a view sees, each with its number
 abbrev pub seen_in : History → View → ℕ → List Numbered
 seen_in history view extent = present (seen_by history view) (extent * view.per) (rows_in view extent)
+
+-- the rows that it sees in its first extents, so many of them
+abbrev pub seen_to : History → View → ℕ → List Numbered
+seen_to history view extents = present (seen_by history view) 0 (min (extents * view.per) view.rows)
+
+-- the rows that it sees in all
+abbrev pub seen_all : History → View → List Numbered
+seen_all history view = present (seen_by history view) 0 view.rows
