@@ -1,4 +1,5 @@
 mod SlotLemmas
+mod TestLemmas
 mod FitLemmas
 mod PartLemmas
 mod PinLemmas
