@@ -129,6 +129,11 @@ merged-seen bound h view extent before part is and_is =
     ∙ (merged-partial bound (seen_to h view extent) (seen_in h view extent)
     ∙ ap (partial bound) (seen_to-more h view extent)))
 
+-- the same where the extent was pinned later, whatever was added to the history meanwhile
+pub merged-later : (bound : Bound) (h more : History) (view : View) (extent : ℕ) (before part : Parts) → view.scn ≤ scn h → before ≡ partial bound (seen_to h view extent) → part ≡ partial bound (seen_in (h ++ more) view extent) → merged before part ≡ partial bound (seen_to h view (extent + 1))
+merged-later bound h more view extent before part known is and_is =
+    merged-seen bound h view extent before part is (and_is ∙ ap (partial bound) (seen_in-later h more view extent known))
+
 length-optional : (row : Option (ℕ × Row)) (later : List Numbered) (n : ℕ) → length later ≤ n → length (cons_option row later) ≤ n + 1
 length-optional None later n few = omega (arith, few)
 length-optional (Some row) later n few = omega (arith, few)
