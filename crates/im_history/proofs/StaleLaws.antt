@@ -35,7 +35,8 @@ last_false false b c one two none = absurd cc
 -- ---- rows that are not touched
 
 -- changes to other rows leave a row as it is
-pub untouched : (changes : List Change) (table rid : ℕ) (row : Option Row) → touches changes table rid ≡ false → fold (row_after table rid) row changes ≡ row
+pub untouched : (changes : List Change) (table rid : ℕ) (row : Option Row) → touches changes table rid ≡ false
+    → fold (row_after table rid) row changes ≡ row
 untouched [] table rid row none = refl
 untouched (change ∷ changes) table rid row none =
     let here = left_false (is_to table rid change) (touches changes table rid) none in
@@ -54,14 +55,18 @@ keeps-nil : (after to table rid : ℕ) → Keeps after to table rid []
 keeps-nil after to table rid none = rows_past [] table to rid (nothing_yet to) ∙ sym (rows_past [] table after rid (nothing_yet after))
 
 -- an entry that changes no row at either SCN
-keeps-same : (h : History) (entry : Entry) (after to table rid : ℕ) → rows (h ++ entry ∷ []) table to rid ≡ rows h table to rid → rows (h ++ entry ∷ []) table after rid ≡ rows h table after rid → (touched_between h after to table rid ≡ false) → Keeps after to table rid h → rows (h ++ entry ∷ []) table to rid ≡ rows (h ++ entry ∷ []) table after rid
+keeps-same : (h : History) (entry : Entry) (after to table rid : ℕ) → rows (h ++ entry ∷ []) table to rid ≡ rows h table to rid
+    → rows (h ++ entry ∷ []) table after rid ≡ rows h table after rid → (touched_between h after to table rid ≡ false)
+    → Keeps after to table rid h → rows (h ++ entry ∷ []) table to rid ≡ rows (h ++ entry ∷ []) table after rid
 keeps-same h entry after to table rid at_to at_after none so_far = at_to ∙ (so_far none ∙ sym at_after)
 
 abbrev committed : ℕ → Entry
 committed who = record { who = who; what = Commit }
 
 -- a commit between the two SCNs that does not touch the row
-keeps-between : (h : History) (who after to table rid : ℕ) → after ≤ scn h → scn h < to → touches (pending h who) table rid ≡ false → (touched_between h after to table rid ≡ false) → Keeps after to table rid h → rows (h ++ committed who ∷ []) table to rid ≡ rows (h ++ committed who ∷ []) table after rid
+keeps-between : (h : History) (who after to table rid : ℕ) → after ≤ scn h → scn h < to
+    → touches (pending h who) table rid ≡ false → (touched_between h after to table rid ≡ false) → Keeps after to table rid h
+    → rows (h ++ committed who ∷ []) table to rid ≡ rows (h ++ committed who ∷ []) table after rid
 keeps-between h who after to table rid from below none before so_far =
     rows-push_commit h who table to rid below
     ∙ (untouched (pending h who) table rid (rows h table (scn h) rid) none
@@ -69,7 +74,9 @@ keeps-between h who after to table rid from below none before so_far =
     ∙ (so_far before
     ∙ sym (rows-append h (committed who ∷ []) table after rid from))))
 
-keeps-commit : (h : History) (who after to table rid : ℕ) → after ≤ to → (touched_between h after to table rid || ((nat_le after (scn h) && nat_lt (scn h) to) && touches (pending h who) table rid)) ≡ false → Keeps after to table rid h → rows (h ++ committed who ∷ []) table to rid ≡ rows (h ++ committed who ∷ []) table after rid
+keeps-commit : (h : History) (who after to table rid : ℕ) → after ≤ to
+    → (touched_between h after to table rid || ((nat_le after (scn h) && nat_lt (scn h) to) && touches (pending h who) table rid)) ≡ false
+    → Keeps after to table rid h → rows (h ++ committed who ∷ []) table to rid ≡ rows (h ++ committed who ∷ []) table after rid
 keeps-commit h who after to table rid within none so_far =
     let before = left_false (touched_between h after to table rid) ((nat_le after (scn h) && nat_lt (scn h) to) && touches (pending h who) table rid) none in
     let now = right_false (touched_between h after to table rid) ((nat_le after (scn h) && nat_lt (scn h) to) && touches (pending h who) table rid) none in
@@ -85,7 +92,10 @@ keeps-commit h who after to table rid within none so_far =
     (rows-append h (committed who ∷ []) table after rid (omega arith)) before so_far)
     (cases_lt (scn h) to)
 
-keeps-push : (h : History) (who : ℕ) (what : What) (after to table rid : ℕ) → after ≤ to → touched_between_after table rid after to h (touched_between h after to table rid) who what ≡ false → Keeps after to table rid h → rows (h ++ record { who = who; what = what } ∷ []) table to rid ≡ rows (h ++ record { who = who; what = what } ∷ []) table after rid
+keeps-push : (h : History) (who : ℕ) (what : What) (after to table rid : ℕ) → after ≤ to
+    → touched_between_after table rid after to h (touched_between h after to table rid) who what ≡ false
+    → Keeps after to table rid h
+    → rows (h ++ record { who = who; what = what } ∷ []) table to rid ≡ rows (h ++ record { who = who; what = what } ∷ []) table after rid
 keeps-push h who Commit after to table rid within none so_far = keeps-commit h who after to table rid within none so_far
 keeps-push h who (Create name schema grid) after to table rid within none so_far =
     keeps-same h (record { who = who; what = Create name schema grid }) after to table rid (rows-push_create h who name schema grid table to rid) (rows-push_create h who name schema grid table after rid) none so_far
@@ -93,7 +103,8 @@ keeps-push h who what after to table rid within none so_far =
     keeps-same h (record { who = who; what = what }) after to table rid (rows-push_quiet h (record { who = who; what = what }) table to rid refl) (rows-push_quiet h (record { who = who; what = what }) table after rid refl) none so_far
 
 -- a row that no commit behind an SCN and up to a later one touched is the same at both
-pub rows-untouched : (h : History) (after to table rid : ℕ) → after ≤ to → touched_between h after to table rid ≡ false → rows h table to rid ≡ rows h table after rid
+pub rows-untouched : (h : History) (after to table rid : ℕ) → after ≤ to → touched_between h after to table rid ≡ false
+    → rows h table to rid ≡ rows h table after rid
 rows-untouched h after to table rid within =
     each_history (Keeps after to table rid) (keeps-nil after to table rid)
     (λ longer entry so_far none. keeps-push longer entry.who entry.what after to table rid within (sym (touched_between-push longer entry after to table rid) ∙ none) so_far) h
@@ -108,12 +119,14 @@ mended_row h table after to rid = if touched_between h after to table rid then r
 pub rows-mended : (h : History) (table after to rid : ℕ) → after ≤ to → mended_row h table after to rid ≡ rows h table to rid
 rows-mended h table after to rid within = by (touched_between h after to table rid) refl
   where
-    by : (b : Bool) → touched_between h after to table rid ≡ b → (if b then rows h table to rid else rows h table after rid) ≡ rows h table to rid
+    by : (b : Bool) → touched_between h after to table rid ≡ b
+        → (if b then rows h table to rid else rows h table after rid) ≡ rows h table to rid
     by true touched = refl
     by false none = sym (rows-untouched h after to table rid within none)
 
 -- so the rows at the later SCN are those at the earlier one, but at the row numbers that are stale
-pub rows-mended_all : (h : History) (table after to : ℕ) (rids : List ℕ) → after ≤ to → map (mended_row h table after to) rids ≡ map (rows h table to) rids
+pub rows-mended_all : (h : History) (table after to : ℕ) (rids : List ℕ) → after ≤ to
+    → map (mended_row h table after to) rids ≡ map (rows h table to) rids
 rows-mended_all h table after to [] within = refl
 rows-mended_all h table after to (rid ∷ rids) within =
     ap (λ (row : Option Row). row ∷ map (mended_row h table after to) rids) (rows-mended h table after to rid within)

@@ -26,13 +26,15 @@ at-all P [] i d none all = none
 at-all P (x ∷ xs) zero d none all = all.0
 at-all P (x ∷ xs) (suc i) d none all = at-all P xs i d none all.1
 
-all-at : {X : Type 0} (P : X → Type 0) (xs : List X) (d : X) → ((i : ℕ) → i < length xs → P (get_or xs i d)) → AllByRecursion P xs
+all-at : {X : Type 0} (P : X → Type 0) (xs : List X) (d : X) → ((i : ℕ) → i < length xs → P (get_or xs i d))
+    → AllByRecursion P xs
 all-at P [] d each = tt
 all-at P (x ∷ xs) d each = (each 0 (omega arith), all-at P xs d (λ i within. each (suc i) (omega (arith, within))))
 
 -- ---- the row that a scan takes
 
-unit-fits : (bound : Bound) (unit : Option Content) (rid : ℕ) → ForSome unit (λ content. AllByRecursion (MayAsk bound) content.rows) → MayAsk bound (unit_row unit rid)
+unit-fits : (bound : Bound) (unit : Option Content) (rid : ℕ)
+    → ForSome unit (λ content. AllByRecursion (MayAsk bound) content.rows) → MayAsk bound (unit_row unit rid)
 unit-fits bound None rid fits = no_row bound
 unit-fits bound (Some content) rid fits = by (nat_lt rid content.first)
   where
@@ -40,15 +42,19 @@ unit-fits bound (Some content) rid fits = by (nat_lt rid content.first)
     by true = no_row bound
     by false = at-all (MayAsk bound) content.rows (rid - content.first) None (no_row bound) (fits content refl)
 
-one-fits : (bound : Bound) (b : Bool) (new old : Option Row) → MayAsk bound new → MayAsk bound old → MayAsk bound (if b then new else old)
+one-fits : (bound : Bound) (b : Bool) (new old : Option Row) → MayAsk bound new → MayAsk bound old
+    → MayAsk bound (if b then new else old)
 one-fits bound true new old a o = a
 one-fits bound false new old a o = o
 
-fetched-fits : (bound : Bound) (fetched : List (ℕ × Option Row)) (rid : ℕ) (row : Option Row) → AllByRecursion (λ f. MayAsk bound f.1) fetched → MayAsk bound row → MayAsk bound (fold (fetched_after rid) row fetched)
+fetched-fits : (bound : Bound) (fetched : List (ℕ × Option Row)) (rid : ℕ) (row : Option Row)
+    → AllByRecursion (λ f. MayAsk bound f.1) fetched → MayAsk bound row → MayAsk bound (fold (fetched_after rid) row fetched)
 fetched-fits bound [] rid row all fits = fits
 fetched-fits bound (f ∷ fetched) rid row all fits = fetched-fits bound fetched rid (fetched_after rid row f) all.1 (one-fits bound (f.0 == rid) f.1 row all.0 fits)
 
-own-fits : (bound : Bound) (own : List Change) (table rid : ℕ) (row : Option Row) → AllByRecursion (λ change. MayAsk bound change.row) own → MayAsk bound row → MayAsk bound (fold (row_after table rid) row own)
+own-fits : (bound : Bound) (own : List Change) (table rid : ℕ) (row : Option Row)
+    → AllByRecursion (λ change. MayAsk bound change.row) own → MayAsk bound row
+    → MayAsk bound (fold (row_after table rid) row own)
 own-fits bound [] table rid row all fits = fits
 own-fits bound (change ∷ own) table rid row all fits =
     own-fits bound own table rid (row_after table rid row change) all.1 (one-fits bound ((change.table == table) && (change.rid == rid)) change.row row all.0 fits)
@@ -59,28 +65,33 @@ pub record MayScan (bound : Bound) (unit : Option Content) (fetched : List (ℕ 
   pub fetched_fits : AllByRecursion (λ f. MayAsk bound f.1) fetched
   pub own_fits : AllByRecursion (λ change. MayAsk bound change.row) own
 
-taken-fits : (bound : Bound) (unit : Option Content) (fetched : List (ℕ × Option Row)) (view : View) (rid : ℕ) → MayScan bound unit fetched view.own → MayAsk bound (taken_row unit fetched view rid)
+taken-fits : (bound : Bound) (unit : Option Content) (fetched : List (ℕ × Option Row)) (view : View) (rid : ℕ)
+    → MayScan bound unit fetched view.own → MayAsk bound (taken_row unit fetched view rid)
 taken-fits bound unit fetched view rid may =
     own-fits bound view.own view.table rid (fold (fetched_after rid) (unit_row unit rid) fetched) may.own_fits
     (fetched-fits bound fetched rid (unit_row unit rid) may.fetched_fits (unit-fits bound unit rid may.unit_fits))
 
-pub slots-fit : (bound : Bound) (unit : Option Content) (fetched : List (ℕ × Option Row)) (view : View) (first count : ℕ) (slots : List (Option Row)) → MayScan bound unit fetched view.own → AreTaken unit fetched view first count slots → AllByRecursion (MayAsk bound) slots
+pub slots-fit : (bound : Bound) (unit : Option Content) (fetched : List (ℕ × Option Row)) (view : View) (first count : ℕ) (slots : List (Option Row))
+    → MayScan bound unit fetched view.own → AreTaken unit fetched view first count slots → AllByRecursion (MayAsk bound) slots
 slots-fit bound unit fetched view first count slots may taken =
     all-at (MayAsk bound) slots None (λ i within. rw (taken.at i within) (taken-fits bound unit fetched view (first + i) may))
 
 -- one of the rows that are lent
-pub lent-fits : (bound : Bound) (slots : List (Option (Bor Row))) (i : ℕ) (row : Option (Bor Row)) → i < length slots → row ≡ get_or slots i row → AllByRecursion (MayAsk bound) (lent slots) → MayAsk bound (option_copied row)
+pub lent-fits : (bound : Bound) (slots : List (Option (Bor Row))) (i : ℕ) (row : Option (Bor Row)) → i < length slots
+    → row ≡ get_or slots i row → AllByRecursion (MayAsk bound) (lent slots) → MayAsk bound (option_copied row)
 lent-fits bound slots i row within is all =
     let fits = at-all (MayAsk bound) (lent slots) i None (no_row bound) all in
     rw (get_or-map option_copied slots i row None within ∙ ap option_copied (sym is)) at fits
 
 -- ---- rows that are kept, and kept again
 
-numbered-fits : (bound : Bound) (rid : ℕ) (slot : Option Row) (later : List Numbered) → MayAsk bound slot → AllByRecursion (λ r. BoundFits r.1 bound) later → AllByRecursion (λ r. BoundFits r.1 bound) (numbered rid slot ++ later)
+numbered-fits : (bound : Bound) (rid : ℕ) (slot : Option Row) (later : List Numbered) → MayAsk bound slot
+    → AllByRecursion (λ r. BoundFits r.1 bound) later → AllByRecursion (λ r. BoundFits r.1 bound) (numbered rid slot ++ later)
 numbered-fits bound rid None later fits rest = rest
 numbered-fits bound rid (Some row) later fits rest = (fits row refl, rest)
 
-numbered_from-fits : (bound : Bound) (first : ℕ) (slots : List (Option Row)) → AllByRecursion (MayAsk bound) slots → AllByRecursion (λ r. BoundFits r.1 bound) (numbered_from first slots)
+numbered_from-fits : (bound : Bound) (first : ℕ) (slots : List (Option Row)) → AllByRecursion (MayAsk bound) slots
+    → AllByRecursion (λ r. BoundFits r.1 bound) (numbered_from first slots)
 numbered_from-fits bound first [] all = tt
 numbered_from-fits bound first (slot ∷ slots) all = numbered-fits bound first slot (numbered_from (first + 1) slots) all.0 (numbered_from-fits bound (first + 1) slots all.1)
 
@@ -92,14 +103,17 @@ filter-fits {X} P p (x ∷ xs) all = by (p x) (filter-fits P p xs all.1)
     by true rest = (all.0, rest)
     by false rest = rest
 
-pub kept-fits : (bound : Bound) (first : ℕ) (slots : List (Option Row)) (rows : List Numbered) → AllByRecursion (MayAsk bound) slots → rows ≡ kept bound (numbered_from first slots) → AllByRecursion (λ r. BoundFits r.1 bound) rows
+pub kept-fits : (bound : Bound) (first : ℕ) (slots : List (Option Row)) (rows : List Numbered)
+    → AllByRecursion (MayAsk bound) slots → rows ≡ kept bound (numbered_from first slots)
+    → AllByRecursion (λ r. BoundFits r.1 bound) rows
 kept-fits bound first slots rows all is = rw is (filter-fits (λ r. BoundFits r.1 bound) (λ r. keeps bound.filter r.1) (numbered_from first slots) (numbered_from-fits bound first slots all))
 
 filter-twice : {X : Type 0} (p : X → Bool) (xs : List X) → filter p (filter p xs) ≡ filter p xs
 filter-twice p [] = refl
 filter-twice {X} p (x ∷ xs) = by (p x) refl (filter-twice p xs)
   where
-    by : (b : Bool) → p x ≡ b → filter p (filter p xs) ≡ filter p xs → filter p (if b then x ∷ filter p xs else filter p xs) ≡ (if b then x ∷ filter p xs else filter p xs)
+    by : (b : Bool) → p x ≡ b → filter p (filter p xs) ≡ filter p xs
+        → filter p (if b then x ∷ filter p xs else filter p xs) ≡ (if b then x ∷ filter p xs else filter p xs)
     by true e rest = rw e (ap (λ (l : List X). x ∷ l) rest)
     by false e rest = rest
 

@@ -18,7 +18,8 @@ use Rattle.im_scan.proofs.SlotLemmas.{are_taken, gathered-present}
 use Rattle.im_scan.proofs.FitLemmas.{MayScan, kept-fits, partial-kept, slots-fit}
 
 -- an extent of a view, whose row numbers are cut into extents, begins at a row number of it
-pub begins : (view : View) (extent : ℕ) → view.extents ≡ extents_for view.rows view.per → extent < view.extents → extent * view.per < view.rows
+pub begins : (view : View) (extent : ℕ) → view.extents ≡ extents_for view.rows view.per → extent < view.extents
+    → extent * view.per < view.rows
 begins view extent cut within = first_within view.rows view.per extent (rw cut at within)
 
 module _ (unit : Option Content) (fetched : List (ℕ × Option Row)) (view : View) (first count : ℕ) where
@@ -26,21 +27,28 @@ module _ (unit : Option Content) (fetched : List (ℕ × Option Row)) (view : Vi
   pub record AreGathered (slots : List (Option (Bor Row))) : Type 0 where
     pub is : lent slots ≡ gathered unit fetched view first count
 
-  pub slots-within : (slots : List (Option (Bor Row))) → AreGathered slots → first + count < 2 ^ 64 → first + length slots < 2 ^ 64
+  pub slots-within : (slots : List (Option (Bor Row))) → AreGathered slots → first + count < 2 ^ 64
+      → first + length slots < 2 ^ 64
   slots-within slots are within =
       let long : length slots ≡ count = sym (length-map slots option_copied) ∙ (ap length are.is ∙ (are_taken unit fetched view first count).long) in
       omega (arith, within, long)
 
   module _ (bound : Bound) where
-    pub slots-may : (slots : List (Option (Bor Row))) → MayScan bound unit fetched view.own → AreGathered slots → AllByRecursion (MayAsk bound) (lent slots)
+    pub slots-may : (slots : List (Option (Bor Row))) → MayScan bound unit fetched view.own → AreGathered slots
+        → AllByRecursion (MayAsk bound) (lent slots)
     slots-may slots may are = rw are.is (slots-fit bound unit fetched view first count (gathered unit fetched view first count) may (are_taken unit fetched view first count))
 
-    pub rows-may : (slots : List (Option (Bor Row))) (rows : List Numbered) → MayScan bound unit fetched view.own → AreGathered slots → rows ≡ kept bound (numbered_from first (lent slots)) → AllByRecursion (λ r. BoundFits r.1 bound) rows
+    pub rows-may : (slots : List (Option (Bor Row))) (rows : List Numbered) → MayScan bound unit fetched view.own
+        → AreGathered slots → rows ≡ kept bound (numbered_from first (lent slots))
+        → AllByRecursion (λ r. BoundFits r.1 bound) rows
     rows-may slots rows may are keeps = kept-fits bound first (lent slots) rows (slots-may slots may are) keeps
 
-    pub rows-are : (slots : List (Option (Bor Row))) (rows : List Numbered) → AreGathered slots → rows ≡ kept bound (numbered_from first (lent slots)) → rows ≡ kept bound (present (taken_row unit fetched view) first count)
+    pub rows-are : (slots : List (Option (Bor Row))) (rows : List Numbered) → AreGathered slots
+        → rows ≡ kept bound (numbered_from first (lent slots))
+        → rows ≡ kept bound (present (taken_row unit fetched view) first count)
     rows-are slots rows are keeps = keeps ∙ ap (kept bound) (ap (numbered_from first) are.is ∙ gathered-present unit fetched view first count)
 
 -- the rows that a query keeps give it what all of them do
-pub part-is : (bound : Bound) (rows all : List Numbered) (answer : Parts) → answer ≡ partial bound rows → rows ≡ kept bound all → answer ≡ partial bound all
+pub part-is : (bound : Bound) (rows all : List Numbered) (answer : Parts) → answer ≡ partial bound rows → rows ≡ kept bound all
+    → answer ≡ partial bound all
 part-is bound rows all answer is keeps = is ∙ (ap (partial bound) keeps ∙ partial-kept bound all)

@@ -19,10 +19,11 @@ unit_row (Some content) rid = row_of content rid
 abbrev pub fetched_after : ℕ → Option Row → ℕ × Option Row → Option Row
 fetched_after rid row fetched = if fetched.0 == rid then fetched.1 else row
 
--- the row that a scan takes at a row number: what was fetched of it, else what the unit has, and then changed by the view's own
--- changes, in order
+-- the row that a scan takes at a row number: what was fetched of it, else what the unit has, and then changed by the view's
+-- own changes, in order
 abbrev pub taken_row : Option Content → List (ℕ × Option Row) → View → ℕ → Option Row
-taken_row unit fetched view rid = fold (row_after view.table rid) (fold (fetched_after rid) (unit_row unit rid) fetched) view.own
+taken_row unit fetched view rid =
+    fold (row_after view.table rid) (fold (fetched_after rid) (unit_row unit rid) fetched) view.own
 
 -- the rows that a scan takes of an extent: those at the row numbers of the extent that the view has
 abbrev pub taken_rows : Option Content → List (ℕ × Option Row) → View → ℕ → List Numbered

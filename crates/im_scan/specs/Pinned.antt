@@ -16,7 +16,8 @@ pub record Serves (history : History) (view : View) (extent : ℕ) (content : Co
 
 -- the row numbers that a unit's journal calls stale at the view's SCN, each with the row committed at that SCN
 abbrev pub stale_in : History → View → ℕ → Content → List (ℕ × Option Row)
-stale_in history view extent content = map (λ rid. (rid, rows history view.table view.scn rid)) (stale history view.table extent content.scn view.scn)
+stale_in history view extent content =
+    map (λ rid. (rid, rows history view.table view.scn rid)) (stale history view.table extent content.scn view.scn)
 
 -- what is fetched from the versions: the stale rows beside a unit, and else all rows of the extent
 abbrev pub fetched_in : History → View → ℕ → Option Content → List (ℕ × Option Row)
@@ -24,7 +25,8 @@ fetched_in history view extent None = committed_in history view extent
 fetched_in history view extent (Some content) = stale_in history view extent content
 
 -- an extent was pinned for a view at this history: a unit was lent that serves the view, or none, and this was fetched
-pub record IsPinned (history : History) (view : View) (extent : ℕ) (unit : Option Content) (fetched : List (ℕ × Option Row)) : Type 0 where
+pub record IsPinned (history : History) (view : View) (extent : ℕ) (unit : Option Content) (fetched : List (ℕ × Option Row))
+    : Type 0 where
   pub per : view.per ≡ per_at history view.table
   pub serves : ForSome unit (Serves history view extent)
   pub is : fetched ≡ fetched_in history view extent unit

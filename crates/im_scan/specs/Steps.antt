@@ -36,7 +36,8 @@ with_changes table first slots changes = fold (with_change table first) slots ch
 
 -- what is gathered for a scan: what the unit has, then what was fetched, then the view's own changes
 abbrev pub gathered : Option Content → List (ℕ × Option Row) → View → ℕ → ℕ → List (Option Row)
-gathered unit fetched view first count = with_changes view.table first (with_fetched first (unit_rows unit first count) fetched) view.own
+gathered unit fetched view first count =
+    with_changes view.table first (with_fetched first (unit_rows unit first count) fetched) view.own
 
 -- a row, where there is one, with its number
 abbrev pub numbered : ℕ → Option Row → List Numbered

@@ -92,7 +92,8 @@ fn put_all<'a>(
     fetched: &'a [(u64, Option<Row>)],
     view: &'a View,
 )
-    ensures { lent slots.new ≡ with_changes view.now.table first (with_fetched first (lent slots.old) fetched.now) view.now.own }
+    ensures { lent slots.new
+        ≡ with_changes view.now.table first (with_fetched first (lent slots.old) fetched.now) view.now.own }
 {
     put_fetched(slots, first, fetched);
     put_changes(slots, view.table, first, view.own.as_slice());
