@@ -52,7 +52,8 @@ unfolding commits replay
 nothing_yet n = omega arith
 
 keeps-nil : (after to table rid : ℕ) → Keeps after to table rid []
-keeps-nil after to table rid none = rows_past [] table to rid (nothing_yet to) ∙ sym (rows_past [] table after rid (nothing_yet after))
+keeps-nil after to table rid none =
+    rows_past [] table to rid (nothing_yet to) ∙ sym (rows_past [] table after rid (nothing_yet after))
 
 -- an entry that changes no row at either SCN
 keeps-same : (h : History) (entry : Entry) (after to table rid : ℕ) → rows (h ++ entry ∷ []) table to rid ≡ rows h table to rid
@@ -75,16 +76,20 @@ keeps-between h who after to table rid from below none before so_far =
     ∙ sym (rows-append h (committed who ∷ []) table after rid from))))
 
 keeps-commit : (h : History) (who after to table rid : ℕ) → after ≤ to
-    → (touched_between h after to table rid || ((nat_le after (scn h) && nat_lt (scn h) to) && touches (pending h who) table rid)) ≡ false
+    → (touched_between h after to table rid ||
+    ((nat_le after (scn h) && nat_lt (scn h) to) && touches (pending h who) table rid)) ≡ false
     → Keeps after to table rid h → rows (h ++ committed who ∷ []) table to rid ≡ rows (h ++ committed who ∷ []) table after rid
 keeps-commit h who after to table rid within none so_far =
-    let before = left_false (touched_between h after to table rid) ((nat_le after (scn h) && nat_lt (scn h) to) && touches (pending h who) table rid) none in
-    let now = right_false (touched_between h after to table rid) ((nat_le after (scn h) && nat_lt (scn h) to) && touches (pending h who) table rid) none in
+    let before = left_false (touched_between h after to table rid)
+    ((nat_le after (scn h) && nat_lt (scn h) to) && touches (pending h who) table rid) none in
+    let now = right_false (touched_between h after to table rid)
+    ((nat_le after (scn h) && nat_lt (scn h) to) && touches (pending h who) table rid) none in
     ⊎_elim
     (λ (below : scn h < to). ⊎_elim
     (λ (newer : scn h < after). rows-push_commit h who table to rid below ∙ sym (rows-push_commit h who table after rid newer))
     (λ (from : after ≤ scn h). keeps-between h who after to table rid from below
-    (last_false (nat_le after (scn h)) (nat_lt (scn h) to) (touches (pending h who) table rid) (grind (arith, nat_tests)) (grind (arith, nat_tests)) now)
+    (last_false (nat_le after (scn h)) (nat_lt (scn h) to) (touches (pending h who) table rid) (grind (arith, nat_tests))
+    (grind (arith, nat_tests)) now)
     before so_far)
     (cases_lt (scn h) after))
     (λ (past : to ≤ scn h). keeps-same h (committed who) after to table rid
@@ -95,19 +100,25 @@ keeps-commit h who after to table rid within none so_far =
 keeps-push : (h : History) (who : ℕ) (what : What) (after to table rid : ℕ) → after ≤ to
     → touched_between_after table rid after to h (touched_between h after to table rid) who what ≡ false
     → Keeps after to table rid h
-    → rows (h ++ record { who = who; what = what } ∷ []) table to rid ≡ rows (h ++ record { who = who; what = what } ∷ []) table after rid
+    → rows (h ++ record { who = who; what = what } ∷ []) table to rid ≡ rows (h ++ record { who = who; what = what } ∷ []) table
+    after rid
 keeps-push h who Commit after to table rid within none so_far = keeps-commit h who after to table rid within none so_far
 keeps-push h who (Create name schema grid) after to table rid within none so_far =
-    keeps-same h (record { who = who; what = Create name schema grid }) after to table rid (rows-push_create h who name schema grid table to rid) (rows-push_create h who name schema grid table after rid) none so_far
+    keeps-same h (record { who = who; what = Create name schema grid }) after to table rid
+    (rows-push_create h who name schema grid table to rid) (rows-push_create h who name schema grid table after rid) none
+    so_far
 keeps-push h who what after to table rid within none so_far =
-    keeps-same h (record { who = who; what = what }) after to table rid (rows-push_quiet h (record { who = who; what = what }) table to rid refl) (rows-push_quiet h (record { who = who; what = what }) table after rid refl) none so_far
+    keeps-same h (record { who = who; what = what }) after to table rid
+    (rows-push_quiet h (record { who = who; what = what }) table to rid refl)
+    (rows-push_quiet h (record { who = who; what = what }) table after rid refl) none so_far
 
 -- a row that no commit behind an SCN and up to a later one touched is the same at both
 pub rows-untouched : (h : History) (after to table rid : ℕ) → after ≤ to → touched_between h after to table rid ≡ false
     → rows h table to rid ≡ rows h table after rid
 rows-untouched h after to table rid within =
     each_history (Keeps after to table rid) (keeps-nil after to table rid)
-    (λ longer entry so_far none. keeps-push longer entry.who entry.what after to table rid within (sym (touched_between-push longer entry after to table rid) ∙ none) so_far) h
+    (λ longer entry so_far none. keeps-push longer entry.who entry.what after to table rid within
+    (sym (touched_between-push longer entry after to table rid) ∙ none) so_far) h
 
 -- ---- the rows of a unit with its stale rows replaced
 

@@ -50,14 +50,16 @@ one-fits bound false new old a o = o
 fetched-fits : (bound : Bound) (fetched : List (ℕ × Option Row)) (rid : ℕ) (row : Option Row)
     → AllByRecursion (λ f. MayAsk bound f.1) fetched → MayAsk bound row → MayAsk bound (fold (fetched_after rid) row fetched)
 fetched-fits bound [] rid row all fits = fits
-fetched-fits bound (f ∷ fetched) rid row all fits = fetched-fits bound fetched rid (fetched_after rid row f) all.1 (one-fits bound (f.0 == rid) f.1 row all.0 fits)
+fetched-fits bound (f ∷ fetched) rid row all fits =
+    fetched-fits bound fetched rid (fetched_after rid row f) all.1 (one-fits bound (f.0 == rid) f.1 row all.0 fits)
 
 own-fits : (bound : Bound) (own : List Change) (table rid : ℕ) (row : Option Row)
     → AllByRecursion (λ change. MayAsk bound change.row) own → MayAsk bound row
     → MayAsk bound (fold (row_after table rid) row own)
 own-fits bound [] table rid row all fits = fits
 own-fits bound (change ∷ own) table rid row all fits =
-    own-fits bound own table rid (row_after table rid row change) all.1 (one-fits bound ((change.table == table) && (change.rid == rid)) change.row row all.0 fits)
+    own-fits bound own table rid (row_after table rid row change) all.1
+    (one-fits bound ((change.table == table) && (change.rid == rid)) change.row row all.0 fits)
 
 -- a query may be asked of what the unit has, of what was fetched and of what the own changes put
 pub record MayScan (bound : Bound) (unit : Option Content) (fetched : List (ℕ × Option Row)) (own : List Change) : Type 0 where
@@ -71,7 +73,8 @@ taken-fits bound unit fetched view rid may =
     own-fits bound view.own view.table rid (fold (fetched_after rid) (unit_row unit rid) fetched) may.own_fits
     (fetched-fits bound fetched rid (unit_row unit rid) may.fetched_fits (unit-fits bound unit rid may.unit_fits))
 
-pub slots-fit : (bound : Bound) (unit : Option Content) (fetched : List (ℕ × Option Row)) (view : View) (first count : ℕ) (slots : List (Option Row))
+pub slots-fit : (bound : Bound) (unit : Option Content) (fetched : List (ℕ × Option Row)) (view : View) (first count : ℕ)
+    (slots : List (Option Row))
     → MayScan bound unit fetched view.own → AreTaken unit fetched view first count slots → AllByRecursion (MayAsk bound) slots
 slots-fit bound unit fetched view first count slots may taken =
     all-at (MayAsk bound) slots None (λ i within. rw (taken.at i within) (taken-fits bound unit fetched view (first + i) may))
@@ -93,7 +96,8 @@ numbered-fits bound rid (Some row) later fits rest = (fits row refl, rest)
 numbered_from-fits : (bound : Bound) (first : ℕ) (slots : List (Option Row)) → AllByRecursion (MayAsk bound) slots
     → AllByRecursion (λ r. BoundFits r.1 bound) (numbered_from first slots)
 numbered_from-fits bound first [] all = tt
-numbered_from-fits bound first (slot ∷ slots) all = numbered-fits bound first slot (numbered_from (first + 1) slots) all.0 (numbered_from-fits bound (first + 1) slots all.1)
+numbered_from-fits bound first (slot ∷ slots) all =
+    numbered-fits bound first slot (numbered_from (first + 1) slots) all.0 (numbered_from-fits bound (first + 1) slots all.1)
 
 filter-fits : {X : Type 0} (P : X → Type 0) (p : X → Bool) (xs : List X) → AllByRecursion P xs → AllByRecursion P (filter p xs)
 filter-fits P p [] all = tt
@@ -106,7 +110,9 @@ filter-fits {X} P p (x ∷ xs) all = by (p x) (filter-fits P p xs all.1)
 pub kept-fits : (bound : Bound) (first : ℕ) (slots : List (Option Row)) (rows : List Numbered)
     → AllByRecursion (MayAsk bound) slots → rows ≡ kept bound (numbered_from first slots)
     → AllByRecursion (λ r. BoundFits r.1 bound) rows
-kept-fits bound first slots rows all is = rw is (filter-fits (λ r. BoundFits r.1 bound) (λ r. keeps bound.filter r.1) (numbered_from first slots) (numbered_from-fits bound first slots all))
+kept-fits bound first slots rows all is =
+    rw is (filter-fits (λ r. BoundFits r.1 bound) (λ r. keeps bound.filter r.1) (numbered_from first slots)
+    (numbered_from-fits bound first slots all))
 
 filter-twice : {X : Type 0} (p : X → Bool) (xs : List X) → filter p (filter p xs) ≡ filter p xs
 filter-twice p [] = refl
@@ -121,5 +127,6 @@ filter-twice {X} p (x ∷ xs) = by (p x) refl (filter-twice p xs)
 pub partial-kept : (bound : Bound) (rows : List Numbered) → partial bound (kept bound rows) ≡ partial bound rows
 partial-kept bound rows =
     ap {A = List Numbered} {B = Parts}
-    (λ keeps_these. if bound.grouped then record { rows = []; groups = groups_of bound (map (λ r. r.1) keeps_these) } else record { rows = keeps_these; groups = map_of.empty })
+    (λ keeps_these. if bound.grouped then record { rows = []; groups = groups_of bound (map (λ r. r.1) keeps_these) } else
+    record { rows = keeps_these; groups = map_of.empty })
     (filter-twice (λ (r : Numbered). keeps bound.filter r.1) rows)

@@ -43,20 +43,25 @@ each-fetched bound row_at [] each = tt
 each-fetched bound row_at (rid ∷ rids) each = (each rid, each-fetched bound row_at rids each)
 
 -- it may then be asked of each row of a unit that was lent
-pub unit-may : (bound : Bound) (h : History) (view : View) (extent : ℕ) (unit : Option Content) (fetched : List (ℕ × Option Row))
+pub unit-may : (bound : Bound) (h : History) (view : View) (extent : ℕ) (unit : Option Content)
+    (fetched : List (ℕ × Option Row))
     → IsPinned h view extent unit fetched → MayAskOf bound h view.table
     → ForSome unit (λ content. AllByRecursion (MayAsk bound) content.rows)
 unit-may bound h view extent unit fetched pinned may content is =
     let serves = pinned.serves content is in
-    rw serves.holds (each-mapped bound (rows h view.table content.scn) (rows_of_extent (per_at h view.table) extent) (may.each content.scn))
+    rw serves.holds (each-mapped bound (rows h view.table content.scn) (rows_of_extent (per_at h view.table) extent)
+    (may.each content.scn))
 
 -- and of each row that was fetched
-pub fetched-may : (bound : Bound) (h : History) (view : View) (extent : ℕ) (unit : Option Content) (fetched : List (ℕ × Option Row))
+pub fetched-may : (bound : Bound) (h : History) (view : View) (extent : ℕ) (unit : Option Content)
+    (fetched : List (ℕ × Option Row))
     → IsPinned h view extent unit fetched → MayAskOf bound h view.table → AllByRecursion (λ row. MayAsk bound row.1) fetched
 fetched-may bound h view extent None fetched pinned may =
-    rw pinned.is (each-fetched bound (rows h view.table view.scn) (range_with_len (extent * view.per) (rows_in view extent)) (may.each view.scn))
+    rw pinned.is (each-fetched bound (rows h view.table view.scn) (range_with_len (extent * view.per) (rows_in view extent))
+    (may.each view.scn))
 fetched-may bound h view extent (Some content) fetched pinned may =
-    rw pinned.is (each-fetched bound (rows h view.table view.scn) (stale h view.table extent content.scn view.scn) (may.each view.scn))
+    rw pinned.is (each-fetched bound (rows h view.table view.scn) (stale h view.table extent content.scn view.scn)
+    (may.each view.scn))
 
 -- ---- later histories
 
@@ -64,12 +69,14 @@ fetched-may bound h view extent (Some content) fetched pinned may =
 pub seen_by-later : (h more : History) (view : View) (rid : ℕ) → view.scn ≤ scn h
     → seen_by (h ++ more) view rid ≡ seen_by h view rid
 unfolding seen
-seen_by-later h more view rid known = ap (λ (row : Option Row). fold (row_after view.table rid) row view.own) (rows-append h more view.table view.scn rid known)
+seen_by-later h more view rid known =
+    ap (λ (row : Option Row). fold (row_after view.table rid) row view.own) (rows-append h more view.table view.scn rid known)
 
 pub seen_in-later : (h more : History) (view : View) (extent : ℕ) → view.scn ≤ scn h
     → seen_in (h ++ more) view extent ≡ seen_in h view extent
 seen_in-later h more view extent known =
-    present-same (seen_by (h ++ more) view) (seen_by h view) (extent * view.per) (rows_in view extent) (λ rid from below. seen_by-later h more view rid known)
+    present-same (seen_by (h ++ more) view) (seen_by h view) (extent * view.per) (rows_in view extent)
+    (λ rid from below. seen_by-later h more view rid known)
 
 -- ---- the first extents, and one more
 
@@ -78,14 +85,16 @@ ranges first zero m = ap (λ (k : ℕ). range_with_len k m) (omega arith) ∙ ap
 ranges first (suc n) m =
     let past : first + suc n ≡ first + 1 + n = omega arith in
     let more : suc (n + m) ≡ suc n + m = omega arith in
-    ap (λ (l : List ℕ). first ∷ l) (ap (λ (k : ℕ). range_with_len (first + 1) n ++ range_with_len k m) past ∙ ranges (first + 1) n m)
+    ap (λ (l : List ℕ). first ∷ l)
+    (ap (λ (k : ℕ). range_with_len (first + 1) n ++ range_with_len k m) past ∙ ranges (first + 1) n m)
     ∙ ap (range_with_len first) more
 
 present-append : (row_at : ℕ → Option Row) (first n m next : ℕ) → first + n ≡ next
     → present row_at first n ++ present row_at next m ≡ present row_at first (n + m)
 present-append row_at first n m next is =
     ap (λ (k : ℕ). present row_at first n ++ present row_at k m) (sym is)
-    ∙ (sym (filter_map-append (λ rid. option_map (λ row. (rid, row)) (row_at rid)) (range_with_len first n) (range_with_len (first + n) m))
+    ∙ (sym (filter_map-append (λ rid. option_map (λ row. (rid, row)) (row_at rid)) (range_with_len first n)
+    (range_with_len (first + n) m))
     ∙ ap (filter_map (λ rid. option_map (λ row. (rid, row)) (row_at rid))) (ranges first n m))
 
 -- nothing is added, whatever row number it would begin at
@@ -116,12 +125,14 @@ seen_to-none h view = ap (present (seen_by h view) 0) (let none : min (0 * view.
 
 pub seen_to-more : (h : History) (view : View) (extent : ℕ)
     → seen_to h view extent ++ seen_in h view extent ≡ seen_to h view (extent + 1)
-seen_to-more h view extent = one-more (seen_by h view) (extent * view.per) ((extent + 1) * view.per) view.rows view.per (omega arith)
+seen_to-more h view extent =
+    one-more (seen_by h view) (extent * view.per) ((extent + 1) * view.per) view.rows view.per (omega arith)
 
 all-rows : (given per : ℕ) → 1 ≤ per → min (extents_for given per * per) given ≡ given
 all-rows given per some =
     let below : given + per - 1 < per * ((given + per - 1) / per + 1) = lt-mul-div-succ (given + per - 1) some in
-    let spread : per * ((given + per - 1) / per + 1) ≡ (given + per - 1) / per * per + per = spreads per ((given + per - 1) / per) in
+    let spread : per * ((given + per - 1) / per + 1) ≡ (given + per - 1) / per * per + per = spreads per
+    ((given + per - 1) / per) in
     omega (arith, below, spread, some)
   where
     spreads : (p q : ℕ) → p * (q + 1) ≡ q * p + p
@@ -159,14 +170,18 @@ length-optional (Some row) later n few = omega (arith, few)
 length-present : (row_at : ℕ → Option Row) (first n : ℕ) → length (present row_at first n) ≤ n
 length-present row_at first zero = omega arith
 length-present row_at first (suc n) =
-    let few = length-optional (option_map (λ row. (first, row)) (row_at first)) (present row_at (first + 1) n) n (length-present row_at (first + 1) n) in
+    let few = length-optional (option_map (λ row. (first, row)) (row_at first)) (present row_at (first + 1) n) n
+    (length-present row_at (first + 1) n) in
     omega (arith, few)
 
 -- they may be merged
 pub can-merge-seen : (bound : Bound) (h : History) (view : View) (extent : ℕ) (before part : Parts) → view.rows < 2 ^ 64
     → before ≡ partial bound (seen_to h view extent) → part ≡ partial bound (seen_in h view extent) → CanMerge before part
 can-merge-seen bound h view extent before part few is and_is =
-    rw (is, and_is) (CanMerge-partial bound (seen_to h view extent) (seen_in h view extent) (both (extent * view.per) view.rows view.per (length (seen_to h view extent)) (length (seen_in h view extent)) few (length-present (seen_by h view) 0 (min (extent * view.per) view.rows)) (length-present (seen_by h view) (extent * view.per) (rows_in view extent))))
+    rw (is, and_is) (CanMerge-partial bound (seen_to h view extent) (seen_in h view extent)
+    (both (extent * view.per) view.rows view.per (length (seen_to h view extent)) (length (seen_in h view extent)) few
+    (length-present (seen_by h view) 0 (min (extent * view.per) view.rows))
+    (length-present (seen_by h view) (extent * view.per) (rows_in view extent))))
   where
     both : (begin given per front back : ℕ) → given < 2 ^ 64 → front ≤ min begin given → back ≤ min per (given - begin)
         → front + back < 2 ^ 64

@@ -30,13 +30,16 @@ module _ (unit : Option Content) (fetched : List (ℕ × Option Row)) (view : Vi
   pub slots-within : (slots : List (Option (Bor Row))) → AreGathered slots → first + count < 2 ^ 64
       → first + length slots < 2 ^ 64
   slots-within slots are within =
-      let long : length slots ≡ count = sym (length-map slots option_copied) ∙ (ap length are.is ∙ (are_taken unit fetched view first count).long) in
+      let long : length slots ≡ count = sym (length-map slots option_copied) ∙
+      (ap length are.is ∙ (are_taken unit fetched view first count).long) in
       omega (arith, within, long)
 
   module _ (bound : Bound) where
     pub slots-may : (slots : List (Option (Bor Row))) → MayScan bound unit fetched view.own → AreGathered slots
         → AllByRecursion (MayAsk bound) (lent slots)
-    slots-may slots may are = rw are.is (slots-fit bound unit fetched view first count (gathered unit fetched view first count) may (are_taken unit fetched view first count))
+    slots-may slots may are =
+        rw are.is (slots-fit bound unit fetched view first count (gathered unit fetched view first count) may
+        (are_taken unit fetched view first count))
 
     pub rows-may : (slots : List (Option (Bor Row))) (rows : List Numbered) → MayScan bound unit fetched view.own
         → AreGathered slots → rows ≡ kept bound (numbered_from first (lent slots))
@@ -46,7 +49,8 @@ module _ (unit : Option Content) (fetched : List (ℕ × Option Row)) (view : Vi
     pub rows-are : (slots : List (Option (Bor Row))) (rows : List Numbered) → AreGathered slots
         → rows ≡ kept bound (numbered_from first (lent slots))
         → rows ≡ kept bound (present (taken_row unit fetched view) first count)
-    rows-are slots rows are keeps = keeps ∙ ap (kept bound) (ap (numbered_from first) are.is ∙ gathered-present unit fetched view first count)
+    rows-are slots rows are keeps =
+        keeps ∙ ap (kept bound) (ap (numbered_from first) are.is ∙ gathered-present unit fetched view first count)
 
 -- the rows that a query keeps give it what all of them do
 pub part-is : (bound : Bound) (rows all : List Numbered) (answer : Parts) → answer ≡ partial bound rows → rows ≡ kept bound all

@@ -26,7 +26,8 @@ same_number n m e = grind (arith, nat_tests, e)
 looked-up : (f : ℕ → Option Row) (rids : List ℕ) (rid : ℕ) (row : Option Row)
     → fold (fetched_after rid) row (map (λ r. (r, f r)) rids) ≡ (if list_any (λ r. r == rid) rids then f rid else row)
 looked-up f [] rid row = refl
-looked-up f (r ∷ rids) rid row = looked-up f rids rid (if r == rid then f r else row) ∙ by (r == rid) (list_any (λ k. k == rid) rids) refl
+looked-up f (r ∷ rids) rid row =
+    looked-up f rids rid (if r == rid then f r else row) ∙ by (r == rid) (list_any (λ k. k == rid) rids) refl
   where
     by : (here later : Bool) → (r == rid) ≡ here
         → (if later then f rid else (if here then f r else row)) ≡ (if here || later then f rid else row)
@@ -38,7 +39,8 @@ looked-up f (r ∷ rids) rid row = looked-up f rids rid (if r == rid then f r el
 among-range : (first count rid : ℕ) → first ≤ rid → rid < first + count
     → list_any (λ r. r == rid) (range_with_len first count) ≡ true
 among-range first zero rid from below = absurd (omega (arith, from, below))
-among-range first (suc count) rid from below = by (first == rid) refl (λ next. among-range (first + 1) count rid next (omega (arith, below)))
+among-range first (suc count) rid from below =
+    by (first == rid) refl (λ next. among-range (first + 1) count rid next (omega (arith, below)))
   where
     by : (b : Bool) → (first == rid) ≡ b
         → (first + 1 ≤ rid → list_any (λ r. r == rid) (range_with_len (first + 1) count) ≡ true)
@@ -63,18 +65,22 @@ fetched-committed : (h : History) (view : View) (extent rid : ℕ) → extent * 
     → fold (fetched_after rid) None (committed_in h view extent) ≡ rows h view.table view.scn rid
 fetched-committed h view extent rid from below =
     looked-up (rows h view.table view.scn) (range_with_len (extent * view.per) (rows_in view extent)) rid None
-    ∙ ap (λ (b : Bool). if b then rows h view.table view.scn rid else None) (among-range (extent * view.per) (rows_in view extent) rid from below)
+    ∙ ap (λ (b : Bool). if b then rows h view.table view.scn rid else None)
+    (among-range (extent * view.per) (rows_in view extent) rid from below)
 
 content-row : (h : History) (table extent n rid : ℕ) → extent * per_at h table ≤ rid
     → rid < extent * per_at h table + per_at h table → row_of (content_at h table extent n) rid ≡ rows h table n rid
 content-row h table extent n rid from below =
     let inside : nat_lt rid (extent * per_at h table) ≡ false = grind (arith, nat_tests) in
-    ap (λ (b : Bool). if b then None else get_or (map (rows h table n) (rows_of_extent (per_at h table) extent)) (rid - extent * per_at h table) None) inside
-    ∙ get_or-map-range_with_len (rows h table n) (extent * per_at h table) (per_at h table) (rid - extent * per_at h table) rid None (omega (arith, from, below)) (omega (arith, from))
+    ap (λ (b : Bool). if b then None else get_or (map (rows h table n) (rows_of_extent (per_at h table) extent))
+    (rid - extent * per_at h table) None) inside
+    ∙ get_or-map-range_with_len (rows h table n) (extent * per_at h table) (per_at h table) (rid - extent * per_at h table) rid
+    None (omega (arith, from, below)) (omega (arith, from))
 
 fetched-stale : (h : History) (view : View) (extent rid : ℕ) (content : Content) (row : Option Row)
     → extent * per_at h view.table ≤ rid → rid < extent * per_at h view.table + per_at h view.table
-    → fold (fetched_after rid) row (stale_in h view extent content) ≡ (if touched_between h content.scn view.scn view.table rid then rows h view.table view.scn rid else row)
+    → fold (fetched_after rid) row (stale_in h view extent content) ≡
+    (if touched_between h content.scn view.scn view.table rid then rows h view.table view.scn rid else row)
 fetched-stale h view extent rid content row from below =
     looked-up (rows h view.table view.scn) (stale h view.table extent content.scn view.scn) rid row
     ∙ ap (λ (b : Bool). if b then rows h view.table view.scn rid else row)
@@ -86,7 +92,8 @@ served-row : (h : History) (view : View) (extent rid : ℕ) (content : Content) 
     → fold (fetched_after rid) (row_of content rid) (stale_in h view extent content) ≡ rows h view.table view.scn rid
 served-row h view extent rid content serves from below =
     fetched-stale h view extent rid content (row_of content rid) from below
-    ∙ (ap (λ (row : Option Row). if touched_between h content.scn view.scn view.table rid then rows h view.table view.scn rid else row)
+    ∙ (ap (λ (row : Option Row). if touched_between h content.scn view.scn view.table rid then rows h view.table view.scn rid
+    else row)
     (ap (λ (c : Content). row_of c rid) serves.holds ∙ content-row h view.table extent content.scn rid from below)
     ∙ rows-mended h view.table content.scn view.scn rid serves.old)
 
@@ -112,13 +119,15 @@ taken-seen : (h : History) (view : View) (extent rid : ℕ) (unit : Option Conte
     → taken_row unit fetched view rid ≡ seen_by h view rid
 unfolding seen
 taken-seen h view extent rid unit fetched pinned from below =
-    ap (λ (row : Option Row). fold (row_after view.table rid) row view.own) (committed-row h view extent rid unit fetched pinned from below)
+    ap (λ (row : Option Row). fold (row_after view.table rid) row view.own)
+    (committed-row h view extent rid unit fetched pinned from below)
 
 pub present-same : (f g : ℕ → Option Row) (first count : ℕ) → ((rid : ℕ) → first ≤ rid → rid < first + count → f rid ≡ g rid)
     → present f first count ≡ present g first count
 present-same f g first zero same = refl
 present-same f g first (suc count) same =
-    ap (λ (row : Option Row). cons_option (option_map (λ r. (first, r)) row) (present f (first + 1) count)) (same first (omega arith) (omega arith))
+    ap (λ (row : Option Row). cons_option (option_map (λ r. (first, r)) row) (present f (first + 1) count))
+    (same first (omega arith) (omega arith))
     ∙ ap (cons_option (option_map (λ (r : Row). (first, r)) (g first)))
     (present-same f g (first + 1) count (λ rid from below. same rid (omega (arith, from)) (omega (arith, below))))
 

@@ -84,13 +84,15 @@ unit_rows-more unit first rid row slots longer from so_far is pushed =
 pub length-with_fetched : (first : ℕ) (slots : List (Option Row)) (fetched : List (ℕ × Option Row))
     → length (with_fetched first slots fetched) ≡ length slots
 length-with_fetched first slots [] = refl
-length-with_fetched first slots (f ∷ fetched) = length-with_fetched first (put_at first slots f.0 f.1) fetched ∙ length-put_at first slots f.0 f.1
+length-with_fetched first slots (f ∷ fetched) =
+    length-with_fetched first (put_at first slots f.0 f.1) fetched ∙ length-put_at first slots f.0 f.1
 
 at-with_fetched : (first : ℕ) (slots : List (Option Row)) (fetched : List (ℕ × Option Row)) (i : ℕ) → i < length slots
     → get_or (with_fetched first slots fetched) i None ≡ fold (fetched_after (first + i)) (get_or slots i None) fetched
 at-with_fetched first slots [] i within = refl
 at-with_fetched first slots (f ∷ fetched) i within =
-    at-with_fetched first (put_at first slots f.0 f.1) fetched i (let same = length-put_at first slots f.0 f.1 in omega (arith, same, within))
+    at-with_fetched first (put_at first slots f.0 f.1) fetched i
+    (let same = length-put_at first slots f.0 f.1 in omega (arith, same, within))
     ∙ ap (λ (row : Option Row). fold (fetched_after (first + i)) row fetched) (at-put_at first slots f.0 i f.1 within)
 
 length-with_change : (table first : ℕ) (slots : List (Option Row)) (change : Change)
@@ -106,26 +108,31 @@ at-with_change : (table first : ℕ) (slots : List (Option Row)) (change : Chang
 at-with_change table first slots change i within = by (change.table == table)
   where
     by : (b : Bool)
-        → get_or (if b then put_at first slots change.rid change.row else slots) i None ≡ (if b && (change.rid == first + i) then change.row else get_or slots i None)
+        → get_or (if b then put_at first slots change.rid change.row else slots) i None ≡
+        (if b && (change.rid == first + i) then change.row else get_or slots i None)
     by true = at-put_at first slots change.rid i change.row within
     by false = refl
 
 pub length-with_changes : (table first : ℕ) (slots : List (Option Row)) (changes : List Change)
     → length (with_changes table first slots changes) ≡ length slots
 length-with_changes table first slots [] = refl
-length-with_changes table first slots (change ∷ changes) = length-with_changes table first (with_change table first slots change) changes ∙ length-with_change table first slots change
+length-with_changes table first slots (change ∷ changes) =
+    length-with_changes table first (with_change table first slots change) changes ∙ length-with_change table first slots change
 
 at-with_changes : (table first : ℕ) (slots : List (Option Row)) (changes : List Change) (i : ℕ) → i < length slots
     → get_or (with_changes table first slots changes) i None ≡ fold (row_after table (first + i)) (get_or slots i None) changes
 at-with_changes table first slots [] i within = refl
 at-with_changes table first slots (change ∷ changes) i within =
-    at-with_changes table first (with_change table first slots change) changes i (let same = length-with_change table first slots change in omega (arith, same, within))
-    ∙ ap (λ (row : Option Row). fold (row_after table (first + i)) row changes) (at-with_change table first slots change i within)
+    at-with_changes table first (with_change table first slots change) changes i
+    (let same = length-with_change table first slots change in omega (arith, same, within))
+    ∙ ap (λ (row : Option Row). fold (row_after table (first + i)) row changes)
+    (at-with_change table first slots change i within)
 
 -- ---- what is gathered
 
 -- the slots are those that a scan takes at so many row numbers from the first on
-pub record AreTaken (unit : Option Content) (fetched : List (ℕ × Option Row)) (view : View) (first count : ℕ) (slots : List (Option Row)) : Type 0 where
+pub record AreTaken (unit : Option Content) (fetched : List (ℕ × Option Row)) (view : View) (first count : ℕ)
+    (slots : List (Option Row)) : Type 0 where
   pub long : length slots ≡ count
   pub at : (i : ℕ) → i < length slots → get_or slots i None ≡ taken_row unit fetched view (first + i)
 
@@ -154,7 +161,8 @@ are_taken unit fetched view first count = record {
         at-with_changes view.table first (with_fetched first shown fetched) view.own i (omega (arith, inside, fetched_long))
         ∙ ap (λ (row : Option Row). fold (row_after view.table (first + i)) row view.own)
         (at-with_fetched first shown fetched i (omega (arith, inside, shown_long))
-        ∙ ap (λ (row : Option Row). fold (fetched_after (first + i)) row fetched) (get_or-map-range_with_len (unit_row unit) first count i (first + i) None inside refl))
+        ∙ ap (λ (row : Option Row). fold (fetched_after (first + i)) row fetched)
+        (get_or-map-range_with_len (unit_row unit) first count i (first + i) None inside refl))
 
 -- a vector after a call that changed its slice, keeping its length
 written_back : {X : Type 0} (n : ℕ) (xs ys : List X) → n ≡ length ys → length xs ≡ length ys
@@ -163,7 +171,8 @@ written_back n xs ys n_is long =
     let none : drop (length xs) ys ≡ [] = drop_all (length xs) ys (omega (arith, long)) in
     rw (none, append-nil xs) (take_all n xs (omega (arith, n_is, long)))
 
-pub gathered-back : (unit : Option Content) (fetched : List (ℕ × Option Row)) (view : View) (first count n : ℕ) (slots new : List (Option (Bor Row)))
+pub gathered-back : (unit : Option Content) (fetched : List (ℕ × Option Row)) (view : View) (first count n : ℕ)
+    (slots new : List (Option (Bor Row)))
     → n ≡ length slots → lent slots ≡ unit_rows unit first count
     → lent new ≡ with_changes view.table first (with_fetched first (lent slots) fetched) view.own
     → lent (take n (new ++ drop (length new) slots)) ≡ gathered unit fetched view first count
@@ -190,7 +199,9 @@ pub numbered_from-present : (row_at : ℕ → Option Row) (first : ℕ) (slots :
 numbered_from-present row_at first [] each = refl
 numbered_from-present row_at first (slot ∷ slots) each =
     let head : slot ≡ row_at first = each 0 (omega arith) ∙ ap row_at (omega arith) in
-    ap (λ (l : List Numbered). numbered first slot ++ l) (numbered_from-present row_at (first + 1) slots (λ i within. each (suc i) (omega (arith, within)) ∙ ap row_at (omega arith)))
+    ap (λ (l : List Numbered). numbered first slot ++ l)
+    (numbered_from-present row_at (first + 1) slots
+    (λ i within. each (suc i) (omega (arith, within)) ∙ ap row_at (omega arith)))
     ∙ by slot head
   where
     later : List Numbered
@@ -212,7 +223,8 @@ gathered-present unit fetched view first count =
 
 numbered_from-push : (first : ℕ) (slots : List (Option Row)) (slot : Option Row) (rid : ℕ) → first + length slots ≡ rid
     → numbered_from first (slots ++ slot ∷ []) ≡ numbered_from first slots ++ numbered rid slot
-numbered_from-push first [] slot rid is = ap (λ (n : ℕ). numbered n slot ++ []) (omega (arith, is)) ∙ nothing (numbered rid slot)
+numbered_from-push first [] slot rid is =
+    ap (λ (n : ℕ). numbered n slot ++ []) (omega (arith, is)) ∙ nothing (numbered rid slot)
   where
     nothing : (rows : List Numbered) → rows ++ [] ≡ rows
     nothing [] = refl
@@ -221,16 +233,20 @@ numbered_from-push first (s ∷ slots) slot rid is =
     ap (λ (l : List Numbered). numbered first s ++ l) (numbered_from-push (first + 1) slots slot rid (omega (arith, is)))
     ∙ sym (append_assoc (numbered first s) (numbered_from (first + 1) slots) (numbered rid slot))
 
-pub kept-more : (bound : Bound) (first : ℕ) (slots : List (Option (Bor Row))) (i : ℕ) (row : Option (Bor Row)) (rows longer : List Numbered)
+pub kept-more : (bound : Bound) (first : ℕ) (slots : List (Option (Bor Row))) (i : ℕ) (row : Option (Bor Row))
+    (rows longer : List Numbered)
     → i < length slots → row ≡ get_or slots i row → rows ≡ kept bound (numbered_from first (lent (take i slots)))
     → longer ≡ rows ++ kept bound (numbered (first + i) (option_copied row))
     → longer ≡ kept bound (numbered_from first (lent (take (i + 1) slots)))
 kept-more bound first slots i row rows longer within is so_far pushed =
     pushed
     ∙ (ap (λ (l : List Numbered). l ++ kept bound (numbered (first + i) (option_copied row))) so_far
-    ∙ (sym (filter-append (λ r. keeps bound.filter r.1) (numbered_from first (lent (take i slots))) (numbered (first + i) (option_copied row)))
+    ∙ (sym (filter-append (λ r. keeps bound.filter r.1) (numbered_from first (lent (take i slots)))
+    (numbered (first + i) (option_copied row)))
     ∙ (ap (kept bound) (sym (numbered_from-push first (lent (take i slots)) (option_copied row) (first + i) long))
-    ∙ ap (λ (l : List (Option Row)). kept bound (numbered_from first l)) (sym (map_more option_copied slots i row within ∙ ap (λ (r : Option (Bor Row)). lent (take i slots) ++ option_copied r ∷ []) (sym is))))))
+    ∙ ap (λ (l : List (Option Row)). kept bound (numbered_from first l))
+    (sym (map_more option_copied slots i row within ∙ ap
+    (λ (r : Option (Bor Row)). lent (take i slots) ++ option_copied r ∷ []) (sym is))))))
   where
     long : first + length (lent (take i slots)) ≡ first + i
     long = ap (λ (n : ℕ). first + n) (length-map (take i slots) option_copied ∙ length-take-le i slots (omega (arith, within)))

@@ -21,12 +21,20 @@ returns c =
     let rows =
     c.as_slice.ensures.value
     ∙ (c.in_ok-kept.ensures.rows
-    ∙ ap (λ count. kept c.args.bound.now (present (taken_row (unit_of c.args.face) c.args.fetched.now c.args.view.now) (c.args.extent * c.args.view.now.per) count)) c.min-count.ensures) in
+    ∙ ap (λ count. kept c.args.bound.now
+    (present (taken_row (unit_of c.args.face) c.args.fetched.now c.args.view.now) (c.args.extent * c.args.view.now.per)
+    count)) c.min-count.ensures) in
     record {
-      taken = IfOk-weaker c.of_rows.result _ _ (λ answer is. part-is c.args.bound.now c.as_slice.result.now (taken_rows (unit_of c.args.face) c.args.fetched.now c.args.view.now c.args.extent) answer is rows) c.of_rows.ensures;
+      taken =
+          IfOk-weaker c.of_rows.result _ _
+          (λ answer is. part-is c.args.bound.now c.as_slice.result.now
+          (taken_rows (unit_of c.args.face) c.args.fetched.now c.args.view.now c.args.extent) answer is rows)
+          c.of_rows.ensures;
       seen = IfOk-weaker c.of_rows.result _ _
           (λ answer is history pinned.
-          part-is c.args.bound.now c.as_slice.result.now (taken_rows (unit_of c.args.face) c.args.fetched.now c.args.view.now c.args.extent) answer is rows
-          ∙ ap (partial c.args.bound.now) (taken-rows_seen history c.args.view.now c.args.extent (unit_of c.args.face) c.args.fetched.now pinned))
+          part-is c.args.bound.now c.as_slice.result.now
+          (taken_rows (unit_of c.args.face) c.args.fetched.now c.args.view.now c.args.extent) answer is rows
+          ∙ ap (partial c.args.bound.now)
+          (taken-rows_seen history c.args.view.now c.args.extent (unit_of c.args.face) c.args.fetched.now pinned))
           c.of_rows.ensures;
     }

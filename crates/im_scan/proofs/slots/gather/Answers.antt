@@ -6,5 +6,7 @@ use Rattle.im_scan.proofs.slots.gather.Goals as goal
 
 pub returns : goal.returns
 returns c =
-    gathered-back (unit_of c.args.face) c.args.fetched.now c.args.view.now c.args.first c.args.count c.in_ok-slots.slots.len c.in_ok-slots.slots.items c.put_all.new.slots c.in_ok-slots.slots.ok.0 c.in_ok-slots.ensures
-    (c.put_all.ensures ∙ ap (λ slots. with_changes c.args.view.now.table c.args.first (with_fetched c.args.first (lent slots) c.args.fetched.now) c.args.view.now.own) c.as_mut_slice.ensures.value)
+    gathered-back (unit_of c.args.face) c.args.fetched.now c.args.view.now c.args.first c.args.count c.in_ok-slots.slots.len
+    c.in_ok-slots.slots.items c.put_all.new.slots c.in_ok-slots.slots.ok.0 c.in_ok-slots.ensures
+    (c.put_all.ensures ∙ ap (λ slots. with_changes c.args.view.now.table c.args.first
+    (with_fetched c.args.first (lent slots) c.args.fetched.now) c.args.view.now.own) c.as_mut_slice.ensures.value)

@@ -4,4 +4,5 @@ use Rattle.im_scan.proofs.slots.put_fetched.Given as goal
 
 -- what is left makes of the rows so far what all makes of the first ones
 abbrev pub invariant-loop-rid : goal.invariant-loop-rid
-invariant-loop-rid l = with_fetched l.first (lent l.slots) (drop l.rid-index l.fetched) ≡ with_fetched l.first (lent l.fn.slots) l.fetched
+invariant-loop-rid l =
+    with_fetched l.first (lent l.slots) (drop l.rid-index l.fetched) ≡ with_fetched l.first (lent l.fn.slots) l.fetched
