@@ -52,7 +52,8 @@ impl<U: UnitLike> Core<U> {
     {
         let view = self.view(who, table)?;
         self.sessions.reserve_cursor(who)?;
-        self.history.reserve(owed(&self.sessions, &self.directory) + 2)?;
+        self.history
+            .reserve(owed(&self.sessions, &self.directory) + 2)?;
         self.sessions.open_cursor(
             who,
             Cursor {

@@ -64,7 +64,8 @@ impl<U: UnitLike> Core<U> {
         let shape = shape.known();
         let table = table_info(self.alloc, &name, &schema, shape)?;
         let catalog = self.catalog.with(self.alloc, table)?;
-        self.history.reserve(owed(&self.sessions, &self.directory) + 1)?;
+        self.history
+            .reserve(owed(&self.sessions, &self.directory) + 1)?;
         let made = Made {
             place: self.history.len(),
             table: self.catalog.tables().len() as u32 + 1,

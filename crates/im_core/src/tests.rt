@@ -2,6 +2,8 @@ ghost use Rattle.std.specs.Prelude.{◌≡◌, ◌<◌, ◌≤◌, ◌++◌, [],
 ghost use Rattle.std.specs.Bool.{OnTrue};
 ghost use Rattle.im_history.specs.Legal.{MayInsert};
 
+mod builds;
+
 use crate::{Core, Fetched, Made};
 use im_history::{Change, Limits, Mode, Refused, Shape, UnitLike, Why};
 use im_values::{Column, Kind, Name, NoMemory, Row, Schema, Steps, Value, clone_row, fits};

@@ -37,7 +37,8 @@ impl<U: UnitLike> Core<U> {
         ensures begun { IfOk result (λ begun. begun ≡ record { place = length self.old.log; scn = scn self.old.log }) }
         ensures err { OnErr result (self.new ≡ self.old) }
     {
-        self.history.reserve(owed(&self.sessions, &self.directory) + 2)?;
+        self.history
+            .reserve(owed(&self.sessions, &self.directory) + 2)?;
         let begun = Begun {
             place: self.history.len(),
             scn: self.history.scn(),
@@ -74,7 +75,8 @@ impl<U: UnitLike> Core<U> {
         self.blocks.reserve(self.sessions.pending(who))?;
         self.directory
             .reserve(&self.catalog, self.sessions.pending(who))?;
-        self.history.reserve(owed(&self.sessions, &self.directory) + 1)?;
+        self.history
+            .reserve(owed(&self.sessions, &self.directory) + 1)?;
         let committed = Committed {
             place: self.history.len(),
             scn: self.history.scn() + 1,

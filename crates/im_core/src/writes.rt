@@ -104,7 +104,8 @@ impl<U: UnitLike> Core<U> {
         let beginning = self.beginning(who);
         let kept = copies(self.alloc, changes.as_slice())?;
         self.sessions.reserve_write(who, changes.as_slice())?;
-        self.history.reserve(owed(&self.sessions, &self.directory) + 2)?;
+        self.history
+            .reserve(owed(&self.sessions, &self.directory) + 2)?;
         let place = self.history.len();
         self.weight += weight;
         self.given[table as usize - 1] = count;

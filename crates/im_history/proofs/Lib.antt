@@ -9,6 +9,7 @@ mod MemoryLemmas
 pub mod Replay
 pub mod RowLaws
 pub mod ShapeLaws
+pub mod StaleLaws
 pub mod TableLaws
 pub mod TouchLaws
 pub mod UnitLaws
