@@ -1,5 +1,6 @@
 mod AgreementLemmas
 mod AgreesLemmas
+mod BeforeLemmas
 mod BeginLemmas
 mod BuildLemmas
 pub mod CountLaws
