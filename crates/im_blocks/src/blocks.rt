@@ -1,6 +1,6 @@
 ghost use Rattle.std.specs.Prelude.{◌≡◌, ◌+◌, ◌^◌, ◌<◌, ◌≤◌, [], length, unwrap_or, option_copied, IfOk, OnOk};
 ghost use Rattle.im_versions.specs.Versions.{row_at};
-ghost use Rattle.im_blocks.specs.Chains.{no_chain, chain_of, versions_at, newest_scn, rows_at};
+ghost use Rattle.im_blocks.specs.Chains.{no_chain, chain_of, versions_at, newest_scn, rows_among, rows_at};
 ghost use Rattle.im_blocks.specs.Handing.{IsPadded, MayTake, blocks_after};
 ghost use Rattle.im_blocks.specs.Transitions.{SameVersions, HasRoom, IsBefore, Applied};
 
@@ -80,6 +80,27 @@ impl Blocks {
         ensures few { steps.new ≤ steps.old + 1 }
     {
         self.chain(table, rid)?.at(scn, steps)
+    }
+
+    /// The rows of these row numbers of a table at an SCN: a copy of each, or None where there is none.
+    ///
+    /// Each is one step.
+    pub fn rows_of<L: Ledger>(
+        &self,
+        alloc: Global,
+        table: u32,
+        rids: &[u64],
+        scn: u64,
+        steps: &mut Steps<L>,
+    ) -> Result<Vec<(u64, Option<Row>)>, NoMemory>
+        ensures rows { IfOk result (λ rows. rows.items ≡ rows_among self.now table rids.now scn) }
+        ensures few { steps.new ≤ steps.old + length rids.now }
+    {
+        let mut rows = Vec::with_capacity(alloc, rids.len())?;
+        for rid in rids {
+            rows.push((*rid, copied(alloc, self.at(table, *rid, scn, steps))?))?;
+        }
+        Ok(rows)
     }
 
     /// The SCN of the newest version of a row, 0 where it has none.

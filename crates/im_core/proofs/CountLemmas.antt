@@ -1,19 +1,20 @@
 -- The tables, the row numbers given and the weight, one entry on.
-use Rattle.std.proofs.Common.{◌≡◌, ℕ, zero, suc, ◌+◌, ◌≢◌, ◌-◌, ◌*◌, ◌<◌, ◌≤◌, ◌==◌, Bool, true, false, if◌then◌else◌, max, List, [], ◌∷◌, ◌++◌, length, get_or, set, Some, None, refl, sym, ap, ◌∙◌, arith, All}
+use Rattle.std.proofs.Common.{◌≡◌, ℕ, zero, suc, ◌+◌, ◌≢◌, ◌-◌, ◌*◌, ◌<◌, ◌≤◌, ◌==◌, Bool, true, false, if◌then◌else◌, max, List, [], ◌∷◌, ◌++◌, length, get_or, set, Option, Some, None, refl, sym, ap, ◌∙◌, arith, All}
 use Rattle.std.proofs.lemmas.Bool.Decides.{nat_tests}
 use Rattle.std.proofs.lemmas.List.Elements.{All-head, All-tail, All-nil, All-cons}
 use Rattle.std.proofs.lemmas.List.{length_push, length-set, get_or-set_same, get_or-set_other}
 use Rattle.im_history.specs.declared.change.Change.{Change}
 use Rattle.im_history.specs.declared.entry.Entry.{Entry}
 use Rattle.im_history.specs.declared.entry.Mode.{Mode}
+use Rattle.im_history.specs.declared.entry.Priority.{Priority}
 use Rattle.im_history.specs.declared.entry.What.{What}
-use Rattle.im_history.specs.declared.entry.What.TheVariants.{Create, Begin, Open, Shut, Write, Commit, Rollback}
+use Rattle.im_history.specs.declared.entry.What.TheVariants.{Create, Memory, Begin, Open, Shut, Write, Commit, Rollback, Build, Switch, Cancel, Evict}
 use Rattle.im_history.specs.declared.look.TableInfo.{TableInfo}
 use Rattle.im_history.specs.Grid.{Grid}
 use Rattle.im_history.specs.History.{History}
 use Rattle.im_history.specs.Legal.{put_from}
 use Rattle.im_history.specs.Rows.{Row}
-use Rattle.im_history.specs.Tables.{tables, created, given, given_by, given_after}
+use Rattle.im_history.specs.Tables.{tables, created, given, given_by, given_after, remembered, with_memory}
 use Rattle.im_history.specs.Weights.{weight, weight_after, changes_weight}
 use Rattle.im_history.proofs.Laws.{tables-push, given-push, weight-push}
 use Rattle.im_values.specs.declared.schema.Column.{Column}
@@ -39,6 +40,18 @@ light-commit = record { tables = λ ts. refl; given = λ t n. refl; weight = λ 
 
 pub light-rollback : IsLight Rollback
 light-rollback = record { tables = λ ts. refl; given = λ t n. refl; weight = λ n. refl }
+
+pub light-build : (id table extent : ℕ) (trickle : Bool) → IsLight (Build id table extent trickle)
+light-build id table extent trickle = record { tables = λ ts. refl; given = λ t n. refl; weight = λ n. refl }
+
+pub light-switch : (id : ℕ) → IsLight (Switch id)
+light-switch id = record { tables = λ ts. refl; given = λ t n. refl; weight = λ n. refl }
+
+pub light-cancel : (id : ℕ) (full : Bool) → IsLight (Cancel id full)
+light-cancel id full = record { tables = λ ts. refl; given = λ t n. refl; weight = λ n. refl }
+
+pub light-evict : (table extent : ℕ) → IsLight (Evict table extent)
+light-evict table extent = record { tables = λ ts. refl; given = λ t n. refl; weight = λ n. refl }
 
 pub given-light : (h : History) (entry : Entry) (table : ℕ) → IsLight entry.what → given (h ++ entry ∷ []) table ≡ given h table
 given-light h entry table light = given-push h entry table ∙ light.given table (given h table)
@@ -84,6 +97,29 @@ Counts-create h who name schema grid catalog counts weighed room c = record {
     get_or-zero [] (suc i) = refl
     get_or-zero (x ∷ xs) zero = refl
     get_or-zero (x ∷ xs) (suc i) = get_or-zero xs i
+
+-- a table joins the column store or leaves it
+length-with_memory : (place : ℕ) (priority : Option Priority) (ts : List TableInfo) → length (with_memory place priority ts) ≡ length ts
+length-with_memory place priority [] = refl
+length-with_memory zero priority (t ∷ ts) = refl
+length-with_memory (suc place) priority (t ∷ ts) = ap suc (length-with_memory place priority ts)
+
+length-remembered : (table : ℕ) (priority : Option Priority) (ts : List TableInfo) → length (remembered table priority ts) ≡ length ts
+length-remembered zero priority ts = refl
+length-remembered (suc place) priority ts = length-with_memory place priority ts
+
+pub Counts-memory : (h : History) (who table : ℕ) (priority : Option Priority) (catalog : List TableInfo) (counts : List ℕ) (weighed : ℕ) → Counts h catalog counts weighed → Counts (h ++ record { who = who; what = Memory table priority } ∷ []) (remembered table priority catalog) counts weighed
+Counts-memory h who table priority catalog counts weighed c = record {
+  tables = ap (remembered table priority) c.tables ∙ sym (tables-push h entry);
+  few = let same = length-remembered table priority catalog in let few = c.few in omega (arith, same, few);
+  long = c.long ∙ sym (length-remembered table priority catalog);
+  gives = λ place. c.gives place ∙ sym (given-push h entry (place + 1));
+  weighs = c.weighs ∙ sym (weight-push h entry);
+  light = λ t. rw (given-push h entry t, weight-push h entry) (c.light t);
+}
+  where
+    entry : Entry
+    entry = record { who = who; what = Memory table priority }
 
 -- an insert's changes weigh 64 each at least, and give the next row numbers
 put_from-weight : (table first : ℕ) (rows : List Row) → length rows * 64 ≤ changes_weight (put_from table first rows)

@@ -21,6 +21,9 @@ use Rattle.im_txn.specs.Activity.{cursor_in}
 use Rattle.im_txn.specs.Agrees.{kept}
 use Rattle.im_txn.specs.Standing.{Standing, activity_at}
 use Rattle.im_txn.proofs.ForCallers.{cursor-by}
+use Rattle.im_history.specs.Units.{Content}
+use Rattle.im_history.proofs.GridLaws.{first_within}
+use Rattle.im_directory.specs.Slots.{Kept}
 use Rattle.im_core.specs.Holds.{Holds}
 use Rattle.im_core.specs.Answers.{cursor_view, view_of, committed_in, rows_in}
 use Rattle.im_core.specs.Kept.{IsView, Views}
@@ -36,14 +39,6 @@ found_has {X} P q (first ∷ xs) x all found = by (q first) refl (All-head P fir
     by : (b : Bool) → q first ≡ b → P first → (find q xs ≡ Some x → P x) → P x
     by true e here rest = subst P (some-inj first (rw e at found)) here
     by false e here rest = rest (rw e at found)
-
--- an extent of a view begins at a row number of it
-pub first_within : (rows per extent : ℕ) → extent < (rows + per - 1) / per → extent * per < rows
-first_within rows zero extent within = let none = div-zero (rows + 0 - 1) in absurd (omega (arith, within, none))
-first_within rows (suc before) extent within =
-    let all : (rows + suc before - 1) / suc before * suc before ≤ rows + suc before - 1 = div-mul-le_self (rows + suc before - 1) (suc before) in
-    let more : suc extent * suc before ≤ (rows + suc before - 1) / suc before * suc before = mul-le-mul_right (suc before) within in
-    omega (arith, all, more)
 
 -- the cursor that a session has open is kept with its view
 pub record HasView (view : View) (extent : ℕ) (cursor : Cursor) : Type 0 where
@@ -90,14 +85,14 @@ pub rows_in_is : (view : View) (extent count : ℕ) (cursor : Cursor) → HasVie
 rows_in_is view extent count cursor has count_is = count_is ∙ rw (has.rows, has.per) refl
 
 -- what a store gave is few row numbers
-pub given_few : (limits : Limits) (history : Stored) (catalog : List TableInfo) (counts : List ℕ) (weighed : ℕ) (beginnings : List ℕ) (blocks : List (List Versions)) (standing : Standing) → Holds limits history catalog counts weighed beginnings blocks standing → (table : ℕ) → given history.entries table * 64 ≤ 536870912
-given_few limits history catalog counts weighed beginnings blocks standing holds table =
+pub given_few : {U : Type 0} (content : U → Content) (limits : Limits) (history : Stored) (catalog : List TableInfo) (counts : List ℕ) (weighed : ℕ) (beginnings : List ℕ) (blocks : List (List Versions)) (standing : Standing) (kept : Kept U) → Holds content limits history catalog counts weighed beginnings blocks standing kept → (table : ℕ) → given history.entries table * 64 ≤ 536870912
+given_few content limits history catalog counts weighed beginnings blocks standing kept holds table =
     let light = holds.tables.light table in
     let within = holds.within in
     let store = holds.small.store in
     omega (arith, light, within, store)
 
 -- the view that an open cursor of a store has
-pub store_view : (limits : Limits) (history : Stored) (catalog : List TableInfo) (counts : List ℕ) (weighed : ℕ) (beginnings : List ℕ) (blocks : List (List Versions)) (standing : Standing) (who cursor extent : ℕ) → Holds limits history catalog counts weighed beginnings blocks standing → extent < (cursor_view history.entries who cursor).extents → FindsView (cursor_view history.entries who cursor) extent (cursor_in (activity_at standing who) cursor)
-store_view limits history catalog counts weighed beginnings blocks standing who cursor extent holds within =
-    finds_view history.entries who cursor extent (cursor_in (activity_at standing who) cursor) holds.views (given_few limits history catalog counts weighed beginnings blocks standing holds) (cursor-by history.entries standing who cursor holds.sessions) within
+pub store_view : {U : Type 0} (content : U → Content) (limits : Limits) (history : Stored) (catalog : List TableInfo) (counts : List ℕ) (weighed : ℕ) (beginnings : List ℕ) (blocks : List (List Versions)) (standing : Standing) (kept : Kept U) (who cursor extent : ℕ) → Holds content limits history catalog counts weighed beginnings blocks standing kept → extent < (cursor_view history.entries who cursor).extents → FindsView (cursor_view history.entries who cursor) extent (cursor_in (activity_at standing who) cursor)
+store_view content limits history catalog counts weighed beginnings blocks standing kept who cursor extent holds within =
+    finds_view history.entries who cursor extent (cursor_in (activity_at standing who) cursor) holds.views (given_few content limits history catalog counts weighed beginnings blocks standing kept holds) (cursor-by history.entries standing who cursor holds.sessions) within

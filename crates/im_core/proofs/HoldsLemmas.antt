@@ -1,5 +1,5 @@
 -- What is kept agrees with the history, one entry on.
-use Rattle.std.proofs.Common.{◌≡◌, ℕ, ◌+◌, ◌-◌, ◌<◌, ◌≤◌, Bool, true, false, max, List, [], ◌∷◌, ◌++◌, length, set, replicate, Option, Some, None, refl, ap, ◌∙◌, arith}
+use Rattle.std.proofs.Common.{◌≡◌, ℕ, ◌+◌, ◌-◌, ◌<◌, ◌≤◌, Bool, true, false, max, List, [], ◌∷◌, ◌++◌, length, set, replicate, count_by, is_some, Option, Some, None, refl, ap, ◌∙◌, arith}
 use Rattle.std.proofs.lemmas.List.{length-replicate}
 use Rattle.std.specs.Option.{option_map}
 use Rattle.im_values.specs.declared.schema.Column.{Column}
@@ -20,6 +20,7 @@ use Rattle.im_history.specs.Refusals.{begin_refusal, open_refusal}
 use Rattle.im_history.specs.Stored.{Stored}
 use Rattle.im_history.specs.Tables.{tables, given}
 use Rattle.im_history.specs.Transactions.{begun, is_open, pending}
+use Rattle.im_history.specs.Units.{Content}
 use Rattle.im_history.specs.Weights.{weight, changes_weight}
 use Rattle.im_history.proofs.Laws.{IsLegal-push, weight-push}
 use Rattle.im_blocks.specs.Kept.{IsKept}
@@ -29,7 +30,11 @@ use Rattle.im_txn.specs.Agrees.{Agrees, cursor_of}
 use Rattle.im_txn.specs.Effects.{IsIdle, IsBegun, IsOpened, IsShut, IsWritten, IsEnded, IsGrown}
 use Rattle.im_txn.specs.Standing.{Standing, IsFree}
 use Rattle.im_txn.proofs.ForCallers.{Agrees-nil, Agrees-begin, Agrees-open, Agrees-shut, Agrees-write, Agrees-commit, Agrees-rollback, Agrees-apart, Agrees-grown, owed-open, owed-cursor, owed-begun, owed-write-most, owed-opened, owed-shut, owed-ended, owed-ended-none}
-use Rattle.im_core.specs.Holds.{Holds}
+use Rattle.im_directory.specs.Agrees.{Agrees as IsOf}
+use Rattle.im_directory.specs.Effects.{IsNew, IsNoted, SameTold}
+use Rattle.im_directory.specs.Slots.{Kept}
+use Rattle.im_directory.proofs.ForCallers.{Agrees-new as units-new, Agrees-told as units-told, Agrees-apart as units-apart, Agrees-commit as units-commit}
+use Rattle.im_core.specs.Holds.{Holds, owed}
 use Rattle.im_core.specs.Kept.{Began, Gives, beginning_at}
 use Rattle.im_core.proofs.BeginLemmas.{as_it_was, ended, Began-kept, Began-begun, Began-set}
 use Rattle.im_core.proofs.CountLemmas.{IsLight, light-begin, light-open, light-shut, light-commit, light-rollback, weight-light, Counts-light, Counts-create, Counts-write}
@@ -59,9 +64,9 @@ grew-spare history after entry some added = record {
 pub grew-write : (history after : Stored) (who room : ℕ) (kept changes : List Change) → kept ≡ changes → Grew history after (record { who = who; what = Write kept }) room → Grew history after (record { who = who; what = Write changes }) room
 grew-write history after who room kept changes same grew = rw same at grew
 
-module _ (limits : Limits) (history : Stored) (catalog : List TableInfo) (counts : List ℕ) (weighed : ℕ) (beginnings : List ℕ) (blocks : List (List Versions)) (old : Standing) where
+module _ {U : Type 0} (content : U → Content) (limits : Limits) (history : Stored) (catalog : List TableInfo) (counts : List ℕ) (weighed : ℕ) (beginnings : List ℕ) (blocks : List (List Versions)) (old : Standing) (kept : Kept U) where
   -- more room for sessions
-  pub Holds-grown : (new : Standing) → Holds limits history catalog counts weighed beginnings blocks old → IsGrown old new → Holds limits history catalog counts weighed beginnings blocks new
+  pub Holds-grown : (new : Standing) → Holds content limits history catalog counts weighed beginnings blocks old kept → IsGrown old new → Holds content limits history catalog counts weighed beginnings blocks new kept
   Holds-grown new holds grown = record {
     small = holds.small;
     legal = holds.legal;
@@ -71,11 +76,34 @@ module _ (limits : Limits) (history : Stored) (catalog : List TableInfo) (counts
     views = holds.views;
     rows = holds.rows;
     sessions = Agrees-grown history.entries old new holds.sessions grown;
+    units = holds.units;
     room = rw (grown.owed) holds.room;
   }
 
+  -- more room for what a commit applies and notes
+  pub Holds-roomier : (new_blocks : List (List Versions)) (new_kept : Kept U) → Holds content limits history catalog counts weighed beginnings blocks old kept → SameVersions blocks new_blocks → SameTold kept new_kept → Holds content limits history catalog counts weighed beginnings new_blocks old new_kept
+  Holds-roomier new_blocks new_kept holds same told =
+      let count : count_by is_some new_kept.builds ≡ count_by is_some kept.builds = ap (count_by is_some) told.builds in
+      let owes = holds.room in
+      record {
+        small = holds.small;
+        legal = holds.legal;
+        within = holds.within;
+        tables = holds.tables;
+        began = holds.began;
+        views = holds.views;
+        rows = IsKept-same history.entries blocks new_blocks same holds.rows;
+        sessions = holds.sessions;
+        units = units-told content history.entries kept new_kept holds.units told;
+        room = omega (arith, owes, count);
+      }
+
+  -- all is told as before of the column store
+  pub Holds-told : (new_kept : Kept U) → Holds content limits history catalog counts weighed beginnings blocks old kept → SameTold kept new_kept → Holds content limits history catalog counts weighed beginnings blocks old new_kept
+  Holds-told new_kept holds told = Holds-roomier blocks new_kept holds (record { versions = λ table rid. refl; room = λ table rid. omega arith }) told
+
   -- more room in the history
-  pub Holds-reserved : (reserved : Stored) (room : ℕ) → Holds limits history catalog counts weighed beginnings blocks old → reserved ≡ record history { spare = max history.spare room } → Holds limits reserved catalog counts weighed beginnings blocks old
+  pub Holds-reserved : (reserved : Stored) (room : ℕ) → Holds content limits history catalog counts weighed beginnings blocks old kept → reserved ≡ record history { spare = max history.spare room } → Holds content limits reserved catalog counts weighed beginnings blocks old kept
   Holds-reserved reserved room holds made =
       let owes = holds.room in
       rw made (record {
@@ -87,12 +115,13 @@ module _ (limits : Limits) (history : Stored) (catalog : List TableInfo) (counts
         views = holds.views;
         rows = holds.rows;
         sessions = holds.sessions;
+        units = holds.units;
         room = omega (arith, owes);
       })
 
   -- an entry that is light, and leaves the rows
-  light_step : (after : Stored) (entry : Entry) (room : ℕ) (new_beginnings : List ℕ) (new_blocks : List (List Versions)) (new : Standing) → Holds limits history catalog counts weighed beginnings blocks old → Grew history after entry room → IsLight entry.what → IsAllowed limits history.entries entry.who entry.what → Began (history.entries ++ entry ∷ []) new_beginnings → IsKept (history.entries ++ entry ∷ []) new_blocks → Agrees (history.entries ++ entry ∷ []) new → new.owed + 1 ≤ room → Holds limits after catalog counts weighed new_beginnings new_blocks new
-  light_step after entry room new_beginnings new_blocks new holds grew light allowed began rows sessions owed = record {
+  light_step : (after : Stored) (entry : Entry) (room : ℕ) (new_beginnings : List ℕ) (new_blocks : List (List Versions)) (new : Standing) (new_kept : Kept U) → Holds content limits history catalog counts weighed beginnings blocks old kept → Grew history after entry room → IsLight entry.what → IsAllowed limits history.entries entry.who entry.what → Began (history.entries ++ entry ∷ []) new_beginnings → IsKept (history.entries ++ entry ∷ []) new_blocks → Agrees (history.entries ++ entry ∷ []) new → IsOf content (history.entries ++ entry ∷ []) new_kept → owed new new_kept + 1 ≤ room → Holds content limits after catalog counts weighed new_beginnings new_blocks new new_kept
+  light_step after entry room new_beginnings new_blocks new new_kept holds grew light allowed began rows sessions units few = record {
     small = holds.small;
     legal = rw grew.entries (IsLegal-push limits history.entries entry holds.legal allowed);
     within = rw (grew.entries, weight-light history.entries entry light) holds.within;
@@ -101,42 +130,46 @@ module _ (limits : Limits) (history : Stored) (catalog : List TableInfo) (counts
     views = rw grew.entries (Views-push history.entries entry holds.views);
     rows = rw grew.entries rows;
     sessions = rw grew.entries sessions;
-    room = let more = grew.spare in omega (arith, more, owed);
+    units = rw grew.entries units;
+    room = let more = grew.spare in omega (arith, more, few);
   }
 
-  pub Holds-begin : (after : Stored) (who place : ℕ) (mode : Mode) (s : ℕ) (new : Standing) → Holds limits history catalog counts weighed beginnings blocks old → who < 25 → begin_refusal history.entries who ≡ None → place ≡ length history.entries → s ≡ scn history.entries → Grew history after (record { who = who; what = Begin mode }) (old.owed + 2) → IsBegun old new who place mode → Holds limits after catalog counts weighed (set beginnings who s) blocks new
+  pub Holds-begin : (after : Stored) (who place : ℕ) (mode : Mode) (s : ℕ) (new : Standing) → Holds content limits history catalog counts weighed beginnings blocks old kept → who < 25 → begin_refusal history.entries who ≡ None → place ≡ length history.entries → s ≡ scn history.entries → Grew history after (record { who = who; what = Begin mode }) (owed old kept + 2) → IsBegun old new who place mode → Holds content limits after catalog counts weighed (set beginnings who s) blocks new kept
   Holds-begin after who place mode s new holds known allowed place_is s_is grew is =
       let none : begun history.entries who ≡ None = none_begun (begun history.entries who) allowed in
       let idle : is_open history.entries who ≡ false = rw none refl in
       let one = owed-begun history.entries who place mode old new holds.sessions idle is in
-      rw s_is (light_step after (record { who = who; what = Begin mode }) (old.owed + 2) (set beginnings who (scn history.entries)) blocks new holds grew (light-begin mode) allowed
+      rw s_is (light_step after (record { who = who; what = Begin mode }) (owed old kept + 2) (set beginnings who (scn history.entries)) blocks new kept holds grew (light-begin mode) allowed
       (Began-begun history.entries (record { who = who; what = Begin mode }) beginnings known none holds.began)
       (IsKept-quiet history.entries (record { who = who; what = Begin mode }) blocks refl holds.rows)
       (Agrees-begin history.entries who mode old new holds.sessions known (rw place_is at is))
+      (units-apart content history.entries who (Begin mode) kept refl holds.units)
       (omega (arith, one)))
     where
       none_begun : (o : Option ℕ) → option_map (λ p. TransactionOpen p) o ≡ None → o ≡ None
       none_begun None e = refl
       none_begun (Some p) e = cc
 
-  pub Holds-open : (after : Stored) (who cursor table : ℕ) (mid new : Standing) → Holds limits history catalog counts weighed beginnings blocks old → who < 25 → Exists history.entries table → open_refusal history.entries who cursor ≡ None → is_cursor_open history.entries who cursor ≡ false → IsGrown old mid → Grew history after (record { who = who; what = Open cursor table }) (mid.owed + 2) → IsOpened mid new who (cursor_of history.entries who cursor table) → Holds limits after catalog counts weighed beginnings blocks new
+  pub Holds-open : (after : Stored) (who cursor table : ℕ) (mid new : Standing) → Holds content limits history catalog counts weighed beginnings blocks old kept → who < 25 → Exists history.entries table → open_refusal history.entries who cursor ≡ None → is_cursor_open history.entries who cursor ≡ false → IsGrown old mid → Grew history after (record { who = who; what = Open cursor table }) (owed mid kept + 2) → IsOpened mid new who (cursor_of history.entries who cursor table) → Holds content limits after catalog counts weighed beginnings blocks new kept
   Holds-open after who cursor table mid new holds known exists allowed shut grown grew is =
       let one = owed-opened who (cursor_of history.entries who cursor table) mid new is in
-      light_step after (record { who = who; what = Open cursor table }) (mid.owed + 2) beginnings blocks new holds grew (light-open cursor table) (record { exists = exists; allowed = allowed })
+      light_step after (record { who = who; what = Open cursor table }) (owed mid kept + 2) beginnings blocks new kept holds grew (light-open cursor table) (record { exists = exists; allowed = allowed })
       (Began-kept history.entries (record { who = who; what = Open cursor table }) beginnings (as_it_was refl) holds.began)
       (IsKept-quiet history.entries (record { who = who; what = Open cursor table }) blocks refl holds.rows)
       (Agrees-open history.entries who cursor table mid new (Agrees-grown history.entries old mid holds.sessions grown) known shut is)
+      (units-apart content history.entries who (Open cursor table) kept refl holds.units)
       (omega (arith, one))
 
-  pub Holds-shut : (after : Stored) (who cursor : ℕ) (new : Standing) → Holds limits history catalog counts weighed beginnings blocks old → who < 25 → is_cursor_open history.entries who cursor ≡ true → after ≡ record { entries = history.entries ++ record { who = who; what = Shut cursor } ∷ []; spare = history.spare - 1 } → IsShut old new who cursor → Holds limits after catalog counts weighed beginnings blocks new
+  pub Holds-shut : (after : Stored) (who cursor : ℕ) (new : Standing) → Holds content limits history catalog counts weighed beginnings blocks old kept → who < 25 → is_cursor_open history.entries who cursor ≡ true → after ≡ record { entries = history.entries ++ record { who = who; what = Shut cursor } ∷ []; spare = history.spare - 1 } → IsShut old new who cursor → Holds content limits after catalog counts weighed beginnings blocks new kept
   Holds-shut after who cursor new holds known opened added is =
       let fewer = owed-shut history.entries who cursor old new holds.sessions opened is in
       let some : 1 ≤ history.spare = let owes = owed-cursor history.entries old who cursor holds.sessions known opened in let room = holds.room in omega (arith, owes, room) in
       let room = holds.room in
-      light_step after (record { who = who; what = Shut cursor }) history.spare beginnings blocks new holds (grew-spare history after (record { who = who; what = Shut cursor }) some added) (light-shut cursor) opened
+      light_step after (record { who = who; what = Shut cursor }) history.spare beginnings blocks new kept holds (grew-spare history after (record { who = who; what = Shut cursor }) some added) (light-shut cursor) opened
       (Began-kept history.entries (record { who = who; what = Shut cursor }) beginnings (as_it_was refl) holds.began)
       (IsKept-quiet history.entries (record { who = who; what = Shut cursor }) blocks refl holds.rows)
       (Agrees-shut history.entries who cursor old new holds.sessions known is)
+      (units-apart content history.entries who (Shut cursor) kept refl holds.units)
       (omega (arith, fewer, room))
 
   -- what is owed does not rise when a transaction ends
@@ -144,27 +177,31 @@ module _ (limits : Limits) (history : Stored) (catalog : List TableInfo) (counts
   owed_after who new true e agrees is = let fewer = owed-ended history.entries who old new agrees e is in omega (arith, fewer)
   owed_after who new false e agrees is = let same = owed-ended-none history.entries who old new agrees e is in omega (arith, same)
 
-  pub Holds-commit : (after : Stored) (who s : ℕ) (changes : List Change) (mid_blocks new_blocks : List (List Versions)) (new : Standing) → Holds limits history catalog counts weighed beginnings blocks old → who < 25 → s ≡ scn history.entries → SameVersions blocks mid_blocks → Grew history after (record { who = who; what = Commit }) (old.owed + 1) → changes ≡ pending history.entries who → IsEnded old new who → Applied mid_blocks new_blocks (s + 1) changes → Holds limits after catalog counts weighed beginnings new_blocks new
-  Holds-commit after who s changes mid_blocks new_blocks new holds known s_is same grew changes_are is applied =
+  pub Holds-commit : (after : Stored) (who s : ℕ) (changes : List Change) (mid_blocks new_blocks : List (List Versions)) (new : Standing) (mid_kept new_kept : Kept U) → Holds content limits history catalog counts weighed beginnings blocks old kept → who < 25 → s ≡ scn history.entries → SameVersions blocks mid_blocks → Grew history after (record { who = who; what = Commit }) (owed old mid_kept + 1) → changes ≡ pending history.entries who → IsEnded old new who → Applied mid_blocks new_blocks (s + 1) changes → SameTold kept mid_kept → IsNoted mid_kept new_kept catalog (s + 1) changes → Holds content limits after catalog counts weighed beginnings new_blocks new new_kept
+  Holds-commit after who s changes mid_blocks new_blocks new mid_kept new_kept holds known s_is same grew changes_are is applied told noted =
+      let noted_is : IsNoted mid_kept new_kept (tables history.entries) (scn history.entries + 1) (pending history.entries who) = rw (← holds.tables.tables, ← s_is, ← changes_are) noted in
+      let count : count_by is_some new_kept.builds ≡ count_by is_some mid_kept.builds = ap (count_by is_some) noted.builds in
       let fewer = owed_after who new (is_open history.entries who) refl holds.sessions is in
-      light_step after (record { who = who; what = Commit }) (old.owed + 1) beginnings new_blocks new holds grew light-commit tt
+      light_step after (record { who = who; what = Commit }) (owed old mid_kept + 1) beginnings new_blocks new new_kept holds grew light-commit tt
       (Began-kept history.entries (record { who = who; what = Commit }) beginnings (ended refl) holds.began)
       (IsKept-commit history.entries who mid_blocks new_blocks (rw (s_is, changes_are) at applied) (IsKept-same history.entries blocks mid_blocks same holds.rows))
       (Agrees-commit history.entries who old new holds.sessions known is)
-      (omega (arith, fewer))
+      (units-commit content history.entries who mid_kept new_kept (units-told content history.entries kept mid_kept holds.units told) noted_is)
+      (omega (arith, fewer, count))
 
-  pub Holds-rollback : (after : Stored) (who : ℕ) (new : Standing) → Holds limits history catalog counts weighed beginnings blocks old → who < 25 → is_open history.entries who ≡ true → after ≡ record { entries = history.entries ++ record { who = who; what = Rollback } ∷ []; spare = history.spare - 1 } → IsEnded old new who → Holds limits after catalog counts weighed beginnings blocks new
+  pub Holds-rollback : (after : Stored) (who : ℕ) (new : Standing) → Holds content limits history catalog counts weighed beginnings blocks old kept → who < 25 → is_open history.entries who ≡ true → after ≡ record { entries = history.entries ++ record { who = who; what = Rollback } ∷ []; spare = history.spare - 1 } → IsEnded old new who → Holds content limits after catalog counts weighed beginnings blocks new kept
   Holds-rollback after who new holds known opened added is =
       let fewer = owed-ended history.entries who old new holds.sessions opened is in
       let room = holds.room in
       let some : 1 ≤ history.spare = let owes = owed-open history.entries old who holds.sessions known opened in omega (arith, owes, room) in
-      light_step after (record { who = who; what = Rollback }) history.spare beginnings blocks new holds (grew-spare history after (record { who = who; what = Rollback }) some added) light-rollback opened
+      light_step after (record { who = who; what = Rollback }) history.spare beginnings blocks new kept holds (grew-spare history after (record { who = who; what = Rollback }) some added) light-rollback opened
       (Began-kept history.entries (record { who = who; what = Rollback }) beginnings (ended refl) holds.began)
       (IsKept-quiet history.entries (record { who = who; what = Rollback }) blocks refl holds.rows)
       (Agrees-rollback history.entries who old new holds.sessions known is)
+      (units-apart content history.entries who Rollback kept refl holds.units)
       (omega (arith, fewer, room))
 
-  pub Holds-create : (after : Stored) (who : ℕ) (name : List ℕ) (schema : List Column) (grid : Grid) → Holds limits history catalog counts weighed beginnings blocks old → MayCreate history.entries who name schema grid → length catalog < 64 → Grew history after (record { who = who; what = Create name schema grid }) (old.owed + 1) → Holds limits after (catalog ++ record { name = name; schema = schema; shape = grid; memory = None } ∷ []) (counts ++ 0 ∷ []) weighed beginnings blocks old
+  pub Holds-create : (after : Stored) (who : ℕ) (name : List ℕ) (schema : List Column) (grid : Grid) → Holds content limits history catalog counts weighed beginnings blocks old kept → MayCreate history.entries who name schema grid → length catalog < 64 → Grew history after (record { who = who; what = Create name schema grid }) (owed old kept + 1) → Holds content limits after (catalog ++ record { name = name; schema = schema; shape = grid; memory = None } ∷ []) (counts ++ 0 ∷ []) weighed beginnings blocks old kept
   Holds-create after who name schema grid holds may room grew =
       let h = history.entries in
       let entry : Entry = record { who = who; what = Create name schema grid } in
@@ -177,14 +214,15 @@ module _ (limits : Limits) (history : Stored) (catalog : List TableInfo) (counts
         views = rw grew.entries (Views-push h entry holds.views);
         rows = rw grew.entries (IsKept-create h who name schema grid blocks holds.rows);
         sessions = rw grew.entries (Agrees-apart h who (Create name schema grid) old refl holds.sessions);
+        units = rw grew.entries (units-apart content h who (Create name schema grid) kept refl holds.units);
         room = let more = grew.spare in omega (arith, more);
       }
 
-  pub Holds-made : (after : Stored) (who : ℕ) (name : List ℕ) (schema : List Column) (grid : Grid) (info : TableInfo) (new_catalog : List TableInfo) (new_counts : List ℕ) → Holds limits history catalog counts weighed beginnings blocks old → MayCreate history.entries who name schema grid → length catalog < 64 → Grew history after (record { who = who; what = Create name schema grid }) (old.owed + 1) → info ≡ record { name = name; schema = schema; shape = grid; memory = None } → new_catalog ≡ catalog ++ info ∷ [] → new_counts ≡ counts ++ 0 ∷ [] → Holds limits after new_catalog new_counts weighed beginnings blocks old
+  pub Holds-made : (after : Stored) (who : ℕ) (name : List ℕ) (schema : List Column) (grid : Grid) (info : TableInfo) (new_catalog : List TableInfo) (new_counts : List ℕ) → Holds content limits history catalog counts weighed beginnings blocks old kept → MayCreate history.entries who name schema grid → length catalog < 64 → Grew history after (record { who = who; what = Create name schema grid }) (owed old kept + 1) → info ≡ record { name = name; schema = schema; shape = grid; memory = None } → new_catalog ≡ catalog ++ info ∷ [] → new_counts ≡ counts ++ 0 ∷ [] → Holds content limits after new_catalog new_counts weighed beginnings blocks old kept
   Holds-made after who name schema grid info new_catalog new_counts holds may room grew info_is catalog_is counts_are =
       rw (catalog_is, counts_are, info_is) (Holds-create after who name schema grid holds may room grew)
 
-  pub Holds-write : (after : Stored) (who place table count begins weight_now : ℕ) (changes : List Change) (mid new : Standing) → Holds limits history catalog counts weighed beginnings blocks old → who < 25 → 1 ≤ table → table ≤ length counts → IsAllowed limits history.entries who (Write changes) → Gives history.entries table changes count → place ≡ length history.entries → begins ≡ beginning_at history.entries who → weight_now ≡ changes_weight changes → IsGrown old mid → IsFree mid who changes → Grew history after (record { who = who; what = Write changes }) (mid.owed + 2) → IsWritten mid new who place changes → Holds limits after catalog (set counts (table - 1) count) (weighed + weight_now) (set beginnings who begins) blocks new
+  pub Holds-write : (after : Stored) (who place table count begins weight_now : ℕ) (changes : List Change) (mid new : Standing) → Holds content limits history catalog counts weighed beginnings blocks old kept → who < 25 → 1 ≤ table → table ≤ length counts → IsAllowed limits history.entries who (Write changes) → Gives history.entries table changes count → place ≡ length history.entries → begins ≡ beginning_at history.entries who → weight_now ≡ changes_weight changes → IsGrown old mid → IsFree mid who changes → Grew history after (record { who = who; what = Write changes }) (owed mid kept + 2) → IsWritten mid new who place changes → Holds content limits after catalog (set counts (table - 1) count) (weighed + weight_now) (set beginnings who begins) blocks new kept
   Holds-write after who place table count begins weight_now changes mid new holds known first last allowed gives place_is begins_is weight_is grown free grew is =
       let h = history.entries in
       let entry : Entry = record { who = who; what = Write changes } in
@@ -198,13 +236,14 @@ module _ (limits : Limits) (history : Stored) (catalog : List TableInfo) (counts
         views = rw grew.entries (Views-push h entry holds.views);
         rows = rw grew.entries (IsKept-quiet h entry blocks refl holds.rows);
         sessions = rw grew.entries (Agrees-write h who changes mid new (Agrees-grown h old mid holds.sessions grown) known free (rw place_is at is));
+        units = rw grew.entries (units-apart content h who (Write changes) kept refl holds.units);
         room = let more = grew.spare in omega (arith, more, most);
       }
 
 -- nothing has happened
-pub Holds-nil : (limits : Limits) (standing : Standing) → limits.store ≤ 536870912 → limits.changes ≤ 65536 → IsIdle standing → Holds limits (record { entries = []; spare = 0 }) [] [] 0 (replicate 25 0) [] standing
+pub Holds-nil : {U : Type 0} (content : U → Content) (limits : Limits) (standing : Standing) (kept : Kept U) → limits.store ≤ 536870912 → limits.changes ≤ 65536 → IsIdle standing → IsNew kept → Holds content limits (record { entries = []; spare = 0 }) [] [] 0 (replicate 25 0) [] standing kept
 unfolding tables given weight begun replay
-Holds-nil limits standing store changes idle = record {
+Holds-nil content limits standing kept store changes idle fresh = record {
   small = record { store = store; changes = changes };
   legal = record { each = tt };
   within = omega arith;
@@ -213,7 +252,8 @@ Holds-nil limits standing store changes idle = record {
   views = Views-nil;
   rows = IsKept-nil;
   sessions = Agrees-nil standing idle;
-  room = let none = idle.owed in omega (arith, none);
+  units = units-new content kept fresh;
+  room = let none = idle.owed in let empty : count_by is_some kept.builds ≡ 0 = ap (count_by is_some) fresh.builds in omega (arith, none, empty);
 }
   where
     no : (place : ℕ) → None ≡ Some place → ⊥

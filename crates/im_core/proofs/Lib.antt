@@ -5,6 +5,8 @@ mod HoldsLemmas
 mod OpeningLemmas
 mod RefusalLemmas
 mod RewriteLemmas
+mod TaskLemmas
+mod UnitLemmas
 mod ViewLemmas
 mod WeightLemmas
 mod WriteLemmas

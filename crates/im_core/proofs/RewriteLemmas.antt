@@ -20,6 +20,8 @@ use Rattle.im_txn.specs.Agrees.{Agrees, kept}
 use Rattle.im_txn.specs.Standing.{Standing, activity_at}
 use Rattle.im_txn.proofs.ForCallers.{cursor-by}
 use Rattle.im_core.specs.Answers.{cursor_view, view_of}
+use Rattle.im_history.specs.Units.{Content}
+use Rattle.im_directory.specs.Slots.{Kept}
 use Rattle.im_core.specs.Holds.{Holds}
 use Rattle.im_core.specs.Kept.{IsView, Gives}
 use Rattle.im_core.proofs.CountLemmas.{Gives-rewrite}
@@ -55,8 +57,8 @@ kept_of limits h who cursor changes may view light = record {
 pub kept_is : (h : History) (standing : Standing) (who cursor : ℕ) (opened_one : Opened) → Agrees h standing → cursor_at h who cursor ≡ Some opened_one → cursor_in (activity_at standing who) cursor ≡ Some (kept opened_one)
 kept_is h standing who cursor opened_one agrees is = cursor-by h standing who cursor agrees ∙ ap (option_map kept) is
 
-pub rewrites : (limits : Limits) (history : Stored) (catalog : List TableInfo) (counts : List ℕ) (weighed : ℕ) (beginnings : List ℕ) (blocks : List (List Versions)) (standing : Standing) (who cursor : ℕ) (changes : List Change) (view : Cursor) → Holds limits history catalog counts weighed beginnings blocks standing → MayWrite history.entries who cursor changes → cursor_in (activity_at standing who) cursor ≡ Some view → Rewrites limits history.entries who cursor changes view
-rewrites limits history catalog counts weighed beginnings blocks standing who cursor changes view holds may found =
+pub rewrites : {U : Type 0} (content : U → Content) (limits : Limits) (history : Stored) (catalog : List TableInfo) (counts : List ℕ) (weighed : ℕ) (beginnings : List ℕ) (blocks : List (List Versions)) (standing : Standing) (units : Kept U) (who cursor : ℕ) (changes : List Change) (view : Cursor) → Holds content limits history catalog counts weighed beginnings blocks standing units → MayWrite history.entries who cursor changes → cursor_in (activity_at standing who) cursor ≡ Some view → Rewrites limits history.entries who cursor changes view
+rewrites content limits history catalog counts weighed beginnings blocks standing units who cursor changes view holds may found =
     let is = kept_is history.entries standing who cursor may.opened holds.sessions may.is in
     let seen : IsView history.entries may.opened.view = found_has (λ (o : Opened). IsView history.entries o.view) (is_cursor cursor) (opened history.entries who) may.opened (holds.views.each who) may.is in
     subst (Rewrites limits history.entries who cursor changes) (some-inj (sym is ∙ found)) (kept_of limits history.entries who cursor changes may seen (holds.tables.light may.opened.view.table))

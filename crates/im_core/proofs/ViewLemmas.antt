@@ -9,23 +9,9 @@ use Rattle.im_history.specs.Cursors.{Opened, opened, opened_after, is_cursor}
 use Rattle.im_history.specs.History.{History, replay}
 use Rattle.im_history.specs.Tables.{given, given_by, given_after}
 use Rattle.im_history.specs.Views.{view_at}
-use Rattle.im_history.proofs.Laws.{given-push, opened-push}
+use Rattle.im_history.proofs.GivenLaws.{given-grows}
+use Rattle.im_history.proofs.Laws.{opened-push}
 use Rattle.im_core.specs.Kept.{IsView, Views}
-
-given_by-grows : (table n : ℕ) (changes : List Change) → n ≤ given_by table n changes
-given_by-grows table n [] = omega arith
-given_by-grows table n (change ∷ changes) = by (change.table == table) (given_by-grows table n changes) (given_by-grows table (max n (change.rid + 1)) changes)
-  where
-    by : (b : Bool) → n ≤ given_by table n changes → max n (change.rid + 1) ≤ given_by table (max n (change.rid + 1)) changes → n ≤ given_by table (if b then max n (change.rid + 1) else n) changes
-    by true same more = omega (arith, more)
-    by false same more = same
-
-given_after-grows : (table n : ℕ) (what : What) → n ≤ given_after table n what
-given_after-grows table n (Write changes) = given_by-grows table n changes
-given_after-grows table n _ = omega arith
-
-pub given-grows : (h : History) (entry : Entry) (table : ℕ) → given h table ≤ given (h ++ entry ∷ []) table
-given-grows h entry table = rw (given-push h entry table) (given_after-grows table (given h table) entry.what)
 
 -- the cursor's view is one
 abbrev Within : History → Opened → Type 0

@@ -1,4 +1,5 @@
 use crate::fetched::Fetched;
+use im_history::Task;
 use std::sync::Arc;
 
 /// A table was created.
@@ -49,4 +50,59 @@ pub struct Pin<U> {
     /// The rows that the unit does not serve, in rising order of row numbers: each with the row committed at the SCN of
     /// the scan, or None where there is none.
     pub fetched: Fetched,
+}
+
+/// A build was asked for.
+#[derive(Debug, Drop)]
+pub enum Offer {
+    /// It began.
+    Task(Task),
+    /// There was nothing to build.
+    Idle {
+        /// The place of the reading.
+        place: u64,
+        /// How many sessions had ended.
+        left: u32,
+    },
+}
+
+/// A finished build was to become current.
+#[derive(Drop)]
+pub enum Switched<U> {
+    /// Its unit is current.
+    Done {
+        /// The place of the entry.
+        place: u64,
+        /// How much of the area is used then.
+        used: u64,
+        /// The unit that was current before.
+        old: Option<Arc<U>>,
+    },
+    /// The area has no room for its unit. The build is cancelled.
+    AreaFull {
+        /// The place of the entry.
+        place: u64,
+        /// How much its unit takes.
+        need: u64,
+        /// How much of the area was left.
+        free: u64,
+    },
+    /// The build was dead. It is cancelled.
+    Cancelled {
+        /// The place of the entry.
+        place: u64,
+        /// The place of the entry that killed it.
+        at: u64,
+    },
+}
+
+/// A unit was evicted.
+#[derive(Drop)]
+pub struct Evicted<U> {
+    /// The place of the entry.
+    pub place: u64,
+    /// How much of the area is used then.
+    pub used: u64,
+    /// The unit.
+    pub old: Arc<U>,
 }

@@ -11,7 +11,7 @@ ghost use Rattle.im_core.specs.Seen.{Adds};
 
 use crate::answers::Pin;
 use crate::fetched::Fetched;
-use crate::store::{Core, NUMBERS};
+use crate::store::{Core, NUMBERS, owed};
 use im_history::{Entry, Mode, Refused, UnitLike, View, What, Why};
 use im_txn::Cursor;
 use im_values::{NoMemory, Steps};
@@ -52,7 +52,8 @@ impl<U: UnitLike> Core<U> {
     {
         let view = self.view(who, table)?;
         self.sessions.reserve_cursor(who)?;
-        self.history.reserve(self.sessions.owed() + 2)?;
+        self.history
+            .reserve(owed(&self.sessions, &self.directory) + 2)?;
         self.sessions.open_cursor(
             who,
             Cursor {

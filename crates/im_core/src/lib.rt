@@ -19,12 +19,13 @@ mod refusals;
 mod store;
 mod tables;
 mod transactions;
+mod units;
 mod weights;
 mod writes;
 
-pub use answers::{Begun, Committed, Made, Pin, Wrote};
+pub use answers::{Begun, Committed, Evicted, Made, Offer, Pin, Switched, Wrote};
 pub use fetched::Fetched;
-pub use store::Core;
+pub use store::{Core, NUMBERS};
 
 #[cfg(test)]
 mod tests;

@@ -1,14 +1,16 @@
-ghost use Rattle.std.specs.Prelude.{◌≡◌, ◌<◌, ◌≤◌, [], length, IfOk, IfErr, OnErr, None};
+ghost use Rattle.std.specs.Prelude.{◌≡◌, ◌+◌, ◌^◌, ◌<◌, ◌≤◌, [], length, IfOk, IfErr, OnErr, None};
 ghost use Rattle.im_history.specs.Legal.{IsLegal};
 ghost use Rattle.im_history.specs.Views.{look_at};
 ghost use Rattle.im_core.specs.Answers.{IsRefusal};
+ghost use Rattle.im_core.specs.Holds.{owed as owed_by};
 
 use im_blocks::Blocks;
+use im_directory::Directory;
 use im_history::{Catalog, History, Limits, Look, Refused, UnitLike, Why};
 use im_txn::Sessions;
 use im_values::NoMemory;
 use std::alloc::Global;
-use std::marker::{Model, PhantomData};
+use std::marker::Model;
 
 /// Sessions and workers have numbers below this.
 pub const NUMBERS: u32 = 25;
@@ -23,7 +25,7 @@ pub const MOST_CHANGES: u64 = 65_536;
 ///
 /// Contracts see its limits and its history. Everything else is kept beside the history, so that no call reads it again.
 #[derive(Drop)]
-pub struct Core<U> {
+pub struct Core<U: UnitLike> {
     pub(crate) alloc: Global,
     pub(crate) limits: Limits,
     pub(crate) history: History,
@@ -36,10 +38,10 @@ pub struct Core<U> {
     pub(crate) beginnings: [u64; NUMBERS as usize],
     pub(crate) blocks: Blocks,
     pub(crate) sessions: Sessions,
-    units: PhantomData<U>,
+    pub(crate) directory: Directory<U>,
 }
 
-impl<U> Model for Core<U> {
+impl<U: UnitLike> Model for Core<U> {
     ghost use Rattle.im_core.specs.Seen.{Seen};
 
     ghost Value = { Seen };
@@ -48,7 +50,7 @@ impl<U> Model for Core<U> {
 
     ghost view = { λ c. record { limits = c.limits; log = c.history.entries } };
 
-    ghost invariant = { λ c. Holds c.limits c.history c.catalog c.given.items c.weight c.beginnings c.blocks c.sessions };
+    ghost invariant = { λ c. Holds U.content c.limits c.history c.catalog c.given.items c.weight c.beginnings c.blocks c.sessions c.directory };
 }
 
 impl<U: UnitLike> Core<U> {
@@ -83,7 +85,7 @@ impl<U: UnitLike> Core<U> {
             beginnings: [0; NUMBERS as usize],
             blocks: Blocks::new(alloc),
             sessions: Sessions::new(alloc)?,
-            units: PhantomData,
+            directory: Directory::new(alloc),
         })
     }
 
@@ -134,4 +136,13 @@ impl<U: UnitLike> Core<U> {
             why,
         }
     }
+}
+
+/// How many entries will be needed without fail: a Rollback for each open transaction, a Shut for each open cursor, and a
+/// Switch or a Cancel for each held build.
+pub(crate) fn owed<U: Drop>(sessions: &Sessions, directory: &Directory<U>) -> u64
+    ensures owed { result ≡ owed_by sessions.now directory.now }
+    ensures few { result + 2 < 2 ^ 64 }
+{
+    sessions.owed() + directory.held()
 }

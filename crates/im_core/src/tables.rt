@@ -8,7 +8,7 @@ ghost use Rattle.im_core.specs.Answers.{IsRefusal};
 ghost use Rattle.im_core.specs.Seen.{Adds};
 
 use crate::answers::Made;
-use crate::store::{Core, NUMBERS};
+use crate::store::{Core, NUMBERS, owed};
 use im_history::{Entry, Refused, Shape, TableInfo, UnitLike, What, Why};
 use im_values::{Name, NoMemory, Schema};
 use std::alloc::Global;
@@ -64,7 +64,8 @@ impl<U: UnitLike> Core<U> {
         let shape = shape.known();
         let table = table_info(self.alloc, &name, &schema, shape)?;
         let catalog = self.catalog.with(self.alloc, table)?;
-        self.history.reserve(self.sessions.owed() + 1)?;
+        self.history
+            .reserve(owed(&self.sessions, &self.directory) + 1)?;
         let made = Made {
             place: self.history.len(),
             table: self.catalog.tables().len() as u32 + 1,

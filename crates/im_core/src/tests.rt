@@ -2,6 +2,8 @@ ghost use Rattle.std.specs.Prelude.{◌≡◌, ◌<◌, ◌≤◌, ◌++◌, [],
 ghost use Rattle.std.specs.Bool.{OnTrue};
 ghost use Rattle.im_history.specs.Legal.{MayInsert};
 
+mod builds;
+
 use crate::{Core, Fetched, Made};
 use im_history::{Change, Limits, Mode, Refused, Shape, UnitLike, Why};
 use im_values::{Column, Kind, Name, NoMemory, Row, Schema, Steps, Value, clone_row, fits};
@@ -15,7 +17,7 @@ use std::test::Fail;
 struct NoUnit;
 
 impl UnitLike for NoUnit {
-    ghost at = { λ u. 0 };
+    ghost content = { λ u. record { scn = 0; first = 0; columns = 0; rows = [] } };
 
     fn scn(&self) -> u64 {
         0

@@ -7,7 +7,7 @@ ghost use Rattle.im_core.specs.Answers.{IsRefusal};
 ghost use Rattle.im_core.specs.Seen.{Adds};
 
 use crate::answers::{Begun, Committed};
-use crate::store::{Core, NUMBERS};
+use crate::store::{Core, NUMBERS, owed};
 use im_history::{Entry, Mode, Refused, UnitLike, What, Why};
 use im_values::NoMemory;
 
@@ -37,7 +37,8 @@ impl<U: UnitLike> Core<U> {
         ensures begun { IfOk result (λ begun. begun ≡ record { place = length self.old.log; scn = scn self.old.log }) }
         ensures err { OnErr result (self.new ≡ self.old) }
     {
-        self.history.reserve(self.sessions.owed() + 2)?;
+        self.history
+            .reserve(owed(&self.sessions, &self.directory) + 2)?;
         let begun = Begun {
             place: self.history.len(),
             scn: self.history.scn(),
@@ -72,12 +73,17 @@ impl<U: UnitLike> Core<U> {
         ensures err { OnErr result (self.new ≡ self.old) }
     {
         self.blocks.reserve(self.sessions.pending(who))?;
-        self.history.reserve(self.sessions.owed() + 1)?;
+        self.directory
+            .reserve(&self.catalog, self.sessions.pending(who))?;
+        self.history
+            .reserve(owed(&self.sessions, &self.directory) + 1)?;
         let committed = Committed {
             place: self.history.len(),
             scn: self.history.scn() + 1,
         };
         let changes = self.sessions.clear(who);
+        self.directory
+            .note(&self.catalog, committed.scn, changes.as_slice());
         self.blocks.apply(committed.scn, changes.into_list());
         self.history.append(Entry {
             who,

@@ -8,7 +8,7 @@ ghost use Rattle.im_core.specs.Kept.{Gives};
 ghost use Rattle.im_core.specs.Seen.{Adds};
 
 use crate::answers::Wrote;
-use crate::store::{Core, NUMBERS};
+use crate::store::{Core, NUMBERS, owed};
 use crate::weights::weight_of;
 use im_history::{Change, Changes, Entry, Refused, UnitLike, What, Why};
 use im_values::{NoMemory, Row};
@@ -104,7 +104,8 @@ impl<U: UnitLike> Core<U> {
         let beginning = self.beginning(who);
         let kept = copies(self.alloc, changes.as_slice())?;
         self.sessions.reserve_write(who, changes.as_slice())?;
-        self.history.reserve(self.sessions.owed() + 2)?;
+        self.history
+            .reserve(owed(&self.sessions, &self.directory) + 2)?;
         let place = self.history.len();
         self.weight += weight;
         self.given[table as usize - 1] = count;

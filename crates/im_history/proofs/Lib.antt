@@ -1,4 +1,15 @@
+pub mod BuildLaws
+pub mod ContentLaws
 pub mod FitLaws
+pub mod GivenLaws
+pub mod GridLaws
+pub mod HeldLaws
 pub mod Laws
+mod MemoryLemmas
 pub mod Replay
 pub mod RowLaws
+pub mod ShapeLaws
+pub mod StaleLaws
+pub mod TableLaws
+pub mod TouchLaws
+pub mod UnitLaws

@@ -5,9 +5,10 @@ use Rattle.im_values.specs.declared.schema.Column.{Column}
 use Rattle.im_values.specs.Fits.{fits}
 use Rattle.im_history.specs.declared.change.Change.{Change}
 use Rattle.im_history.specs.declared.entry.What.{What}
-use Rattle.im_history.specs.declared.entry.What.TheVariants.{Create, Begin, Open, Shut, Write, Commit, Rollback}
+use Rattle.im_history.specs.declared.entry.What.TheVariants.{Create, Memory, Begin, Open, Shut, Write, Commit, Rollback, Build, Switch, Cancel, Evict}
 use Rattle.im_history.specs.declared.limits.Limits.{Limits}
 use Rattle.im_history.specs.declared.look.TableInfo.{TableInfo}
+use Rattle.im_history.specs.declared.task.Held.{Held}
 use Rattle.im_history.specs.Cursors.{Opened, cursor_at, is_cursor_open}
 use Rattle.im_history.specs.Grid.{Grid, IsInRange}
 use Rattle.im_history.specs.History.{History}
@@ -15,6 +16,7 @@ use Rattle.im_history.specs.Refusals.{create_refusal, begin_refusal, open_refusa
 use Rattle.im_history.specs.Rows.{Row, row_after}
 use Rattle.im_history.specs.Tables.{table_at, given}
 use Rattle.im_history.specs.Transactions.{is_open, pending}
+use Rattle.im_history.specs.Units.{builds, held_at, may_populate, unit}
 use Rattle.im_history.specs.Views.{seen_by}
 
 -- a table may be created: the session has no open transaction, nothing refuses it, and it has 1 to 16 columns and a shape
@@ -84,6 +86,28 @@ pub record IsRewrite (limits : Limits) (history : History) (who : ℕ) (changes 
   pub may : MayWrite history who cursor changes
   pub allowed : write_refusal limits history who may.opened.view.scn changes ≡ None
 
+-- a table may join the column store, change its priority there or leave it: it exists, and the session has no open transaction
+pub record MaySetMemory (history : History) (who table : ℕ) : Type 0 where
+  pub exists : Exists history table
+  pub idle : is_open history who ≡ false
+
+-- a build may begin: its table exists, its extent may be populated, and it has the next number
+pub record MayBuild (history : History) (id table extent : ℕ) : Type 0 where
+  pub exists : Exists history table
+  pub may : may_populate history table extent ≡ true
+  pub next : id ≡ builds history + 1
+
+-- a build may end: whoever ends it began it, and it is held
+pub record MayEnd (history : History) (who id : ℕ) : Type 0 where
+  pub held : Held
+  pub is : held_at history id ≡ Some held
+  pub mine : held.who ≡ who
+
+-- its unit may become current: nothing killed the build
+pub record MaySwitch (history : History) (who id : ℕ) : Type 0 where
+  pub may : MayEnd history who id
+  pub lives : may.held.killed ≡ None
+
 -- the entry is allowed after this history; entries of the kinds that are not listed are not made yet
 abbrev pub IsAllowed : Limits → History → ℕ → What → Type 0
 IsAllowed limits history who (Create name schema grid) = MayCreate history who name schema grid
@@ -93,6 +117,11 @@ IsAllowed limits history who (Shut cursor) = IsTrue (is_cursor_open history who 
 IsAllowed limits history who (Write changes) = IsInsert limits history who changes ⊎ IsRewrite limits history who changes
 IsAllowed limits history who Commit = Unit {0}
 IsAllowed limits history who Rollback = IsTrue (is_open history who)
+IsAllowed limits history who (Memory table priority) = MaySetMemory history who table
+IsAllowed limits history who (Build id table extent trickle) = MayBuild history id table extent
+IsAllowed limits history who (Switch id) = MaySwitch history who id
+IsAllowed limits history who (Cancel id full) = MayEnd history who id × (full ≡ false)
+IsAllowed limits history who (Evict table extent) = IsTrue (is_some (unit history table extent))
 IsAllowed limits history who _ = ⊥
 
 -- each of these entries is allowed after those before it

@@ -9,5 +9,6 @@ pub mod Stored
 pub mod Tables
 pub mod Touched
 pub mod Transactions
+pub mod Units
 pub mod Views
 pub mod Weights

@@ -31,10 +31,14 @@ created tables _ = tables
 unfoldable pub tables : History → List TableInfo
 tables history = replay (λ before so_far entry. created so_far entry.what) [] history
 
+-- the table of this number among tables that are numbered from 1
+abbrev pub table_among : List TableInfo → ℕ → Option TableInfo
+table_among tables zero = None
+table_among tables (suc before) = slice_get tables before
+
 -- the table of this number; none has the number 0
 abbrev pub table_at : History → ℕ → Option TableInfo
-table_at history zero = None
-table_at history (suc before) = slice_get (tables history) before
+table_at history table = table_among (tables history) table
 
 -- a table has this name
 abbrev pub is_named : List ℕ → TableInfo → Bool

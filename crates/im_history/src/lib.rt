@@ -17,6 +17,7 @@ mod look;
 mod refused;
 mod shape;
 mod stored;
+mod task;
 mod unit;
 mod view;
 
@@ -27,6 +28,7 @@ pub use look::{Catalog, Look, TableInfo};
 pub use refused::{Refused, Why};
 pub use shape::Shape;
 pub use stored::History;
+pub use task::{Held, Task};
 pub use unit::UnitLike;
 pub use view::View;
 

@@ -1,6 +1,6 @@
 ghost use Rattle.std.specs.Prelude.{◌≡◌, ◌<◌, ◌≤◌, [], ◌∷◌, ◌++◌, length, IfOk, IfSome};
 ghost use Rattle.std.specs.List.{position};
-ghost use Rattle.im_history.specs.Tables.{is_named, number_among};
+ghost use Rattle.im_history.specs.Tables.{is_named, number_among, remembered};
 
 use crate::entry::{Mode, Priority};
 use crate::shape::Shape;
@@ -94,14 +94,47 @@ impl Catalog {
         requires { length self.now < 64 }
         ensures { IfOk result (λ catalog. catalog ≡ self.now ++ table ∷ []) }
     {
-        let mut tables = Vec::with_capacity(alloc, self.tables().len() + 1)?;
-        for table in self.tables() {
-            tables.push(table.copy(alloc)?)?;
-        }
+        let mut tables = copied(alloc, self.tables())?;
         tables.push(table)?;
         Ok(Catalog {
             tables: Arc::new(alloc, tables)?,
         })
+    }
+
+    /// A list of these tables, the one of this number having joined the column store with a priority, or left it where none
+    /// is given. It copies them all.
+    pub fn with_memory(
+        &self,
+        alloc: Global,
+        table: u32,
+        priority: Option<Priority>,
+    ) -> Result<Catalog, NoMemory>
+        ensures { IfOk result (λ catalog. catalog ≡ remembered table priority self.now) }
+    {
+        let mut tables = copied(alloc, self.tables())?;
+        remember(tables.as_mut_slice(), table, priority);
+        Ok(Catalog {
+            tables: Arc::new(alloc, tables)?,
+        })
+    }
+}
+
+fn copied(alloc: Global, tables: &[TableInfo]) -> Result<Vec<TableInfo>, NoMemory>
+    ensures { IfOk result (λ copies. copies.items ≡ tables.now) }
+{
+    let mut copies = Vec::with_capacity(alloc, tables.len())?;
+    for table in tables {
+        copies.push(table.copy(alloc)?)?;
+    }
+    Ok(copies)
+}
+
+/// Lets the table of a number join the column store with a priority, or leave it.
+fn remember(tables: &mut [TableInfo], table: u32, priority: Option<Priority>)
+    ensures { tables.new ≡ remembered table priority tables.old }
+{
+    if table > 0 && table as usize <= tables.len() {
+        tables[table as usize - 1].memory = priority;
     }
 }
 

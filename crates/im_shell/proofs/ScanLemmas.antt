@@ -10,7 +10,7 @@ use Rattle.std.specs.List.{find, cons_option, fold, range_with_len}
 use Rattle.std.specs.Option.{option_map}
 use Rattle.std.specs.Prelude.{slice_set}
 use Rattle.im_core.specs.Answers.{cursor_view, view_of, committed_in}
-use Rattle.im_core.proofs.FetchLemmas.{first_within}
+use Rattle.im_history.proofs.GridLaws.{first_within}
 use Rattle.im_history.specs.declared.change.Change.{Change}
 use Rattle.im_history.specs.declared.view.View.{View}
 use Rattle.im_history.specs.declared.entry.What.TheVariants.{Open}

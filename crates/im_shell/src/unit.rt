@@ -1,3 +1,5 @@
+ghost use Rattle.std.specs.Prelude.{[]};
+
 use im_history::UnitLike;
 
 /// A column unit. None is made yet.
@@ -7,7 +9,7 @@ pub struct NoUnit {
 }
 
 impl UnitLike for NoUnit {
-    ghost at = { λ u. u.scn };
+    ghost content = { λ u. record { scn = u.scn; first = 0; columns = 0; rows = [] } };
 
     fn scn(&self) -> u64 {
         self.scn

@@ -10,5 +10,5 @@ pub invariant_of-self-2 : goal.invariant_of-self-2
 invariant_of-self-2 g c =
     let made = ap (λ (s : Stored). s.entries) c.in_ok-reserve.ensures.ok in
     let allowed = subst (λ (s : Seen). begin_refusal s.log c.args.who ≡ None) (sym c.self.view_is) c.requires.allowed in
-    Holds-begin _ c.self.inside.history _ _ _ _ _ _ _ c.args.who _ c.args.mode _ _ c.self.invariant c.requires.session allowed (c.len.ensures ∙ ap length made) (c.scn.ensures.scn ∙ ap scn made)
+    Holds-begin _ _ c.self.inside.history _ _ _ _ _ _ _ _ c.args.who _ c.args.mode _ _ c.self.invariant c.requires.session allowed (c.len.ensures ∙ ap length made) (c.scn.ensures.scn ∙ ap scn made)
     (grew-reserved c.self.inside.history c.reserve.new.self _ _ _ (rw c.owed.ensures.owed at c.in_ok-reserve.ensures.ok) c.append.ensures.added) c.begin.ensures

@@ -22,5 +22,5 @@ invariant_of-self-2 g c =
       columns = subst (λ (columns : List Column). (1 ≤ length columns) × (length columns ≤ 16)) c.schema.view_is c.schema.invariant;
       shape = rw c.known-shape.ensures.same (c.known-shape.ensures.block, c.known-shape.ensures.extent);
     } in
-    Holds-made _ c.self.inside.history _ _ _ _ _ _ _ c.args.who c.args.name c.args.schema c.known-shape.result _ _ _ c.self.invariant may room
+    Holds-made _ _ c.self.inside.history _ _ _ _ _ _ _ _ c.args.who c.args.name c.args.schema c.known-shape.result _ _ _ c.self.invariant may room
     (grew-reserved c.self.inside.history c.reserve.new.self _ _ _ (rw c.owed.ensures.owed at c.in_ok-reserve.ensures.ok) c.append.ensures.added) c.in_ok-table.ensures c.in_ok-catalog.ensures c.in_ok-push.ensures.items

@@ -1,0 +1,308 @@
+ghost use Rattle.std.specs.Prelude.{◌≡◌, ◌+◌, ◌≤◌, ◌<◌, length, true, false, Some, None, IfOk, IfErr, OnOk, OnErr};
+ghost use Rattle.im_history.specs.declared.entry.What.TheVariants as what;
+ghost use Rattle.im_history.specs.Legal.{Exists, MaySetMemory};
+ghost use Rattle.im_history.specs.Units.{IsOwn, builds, content_at, held_at, may_populate, task_at};
+ghost use Rattle.im_core.specs.Answers.{IsEvicted, IsOffer, IsRefusal, IsHeld, IsSwitch, evict_refusal, killed_of, task_fetched, task_rows};
+ghost use Rattle.im_core.specs.Seen.{Adds};
+
+use crate::answers::{Evicted, Offer, Pin, Switched};
+use crate::fetched::Fetched;
+use crate::store::{Core, NUMBERS, owed};
+use im_history::{Entry, Held, Priority, Refused, Task, UnitLike, What, Why};
+use im_values::{NoMemory, Steps};
+use std::sync::Arc;
+use std::sync::ledger::Ledger;
+
+impl<U: UnitLike> Core<U> {
+    /// Lets a table join the column store with a priority, or leave it where none is given: then the units of its extents
+    /// are gone, and its living builds are killed. It answers the place of the entry.
+    pub fn set_memory(
+        &mut self,
+        who: u32,
+        table: u32,
+        priority: Option<Priority>,
+    ) -> Result<u64, Refused>
+        requires session { who < NUMBERS }
+        requires may { MaySetMemory self.old.log who table }
+        ensures ok { OnOk result (Adds self.old who (what.Memory table priority) self.new) }
+        ensures place { IfOk result (λ place. place ≡ length self.old.log) }
+        ensures err { OnErr result (self.new ≡ self.old) }
+        ensures refused { IfErr result (λ why. IsRefusal self.old.log None why) }
+    {
+        let set = match priority {
+            Some(level) => self.record_joined(who, table, level),
+            None => self.record_left(who, table),
+        };
+        match set {
+            Ok(place) => Ok(place),
+            Err(NoMemory) => Err(self.refused(Why::NoMemory)),
+        }
+    }
+
+    fn record_joined(&mut self, who: u32, table: u32, level: Priority) -> Result<u64, NoMemory>
+        requires session { who < NUMBERS }
+        requires may { MaySetMemory self.old.log who table }
+        ensures ok { OnOk result (Adds self.old who (what.Memory table (Some level)) self.new) }
+        ensures place { IfOk result (λ place. place ≡ length self.old.log) }
+        ensures err { OnErr result (self.new ≡ self.old) }
+    {
+        let priority = Some(level);
+        let catalog = self.catalog.with_memory(self.alloc, table, priority)?;
+        self.history
+            .reserve(owed(&self.sessions, &self.directory) + 1)?;
+        let place = self.history.len();
+        self.catalog = catalog;
+        self.history.append(Entry {
+            who,
+            what: What::Memory { table, priority },
+        });
+        Ok(place)
+    }
+
+    fn record_left(&mut self, who: u32, table: u32) -> Result<u64, NoMemory>
+        requires session { who < NUMBERS }
+        requires may { MaySetMemory self.old.log who table }
+        ensures ok { OnOk result (Adds self.old who (what.Memory table None) self.new) }
+        ensures place { IfOk result (λ place. place ≡ length self.old.log) }
+        ensures err { OnErr result (self.new ≡ self.old) }
+    {
+        let priority = None;
+        let catalog = self.catalog.with_memory(self.alloc, table, priority)?;
+        self.history
+            .reserve(owed(&self.sessions, &self.directory) + 1)?;
+        let place = self.history.len();
+        self.catalog = catalog;
+        self.directory.drop_table(place, table);
+        self.history.append(Entry {
+            who,
+            what: What::Memory { table, priority },
+        });
+        Ok(place)
+    }
+
+    /// Begins a build of an extent: of a table in the column store, which has a row number and no living build. Where it
+    /// is none of these there is nothing to build.
+    pub fn build_of(
+        &mut self,
+        who: u32,
+        table: u32,
+        extent: u64,
+        trickle: bool,
+    ) -> Result<Offer, Refused>
+        requires session { who < NUMBERS }
+        requires exists { Exists self.old.log table }
+        ensures ok { IfOk result (λ offer. IsOffer self.old who table extent trickle offer self.new) }
+        ensures err { OnErr result (self.new ≡ self.old) }
+        ensures refused { IfErr result (λ why. IsRefusal self.old.log None why) }
+    {
+        if !self.may_populate(table, extent) {
+            return Ok(Offer::Idle {
+                place: self.len(),
+                left: 0,
+            });
+        }
+        match self.record_build(who, table, extent, trickle) {
+            Ok(offer) => Ok(offer),
+            Err(NoMemory) => Err(self.refused(Why::NoMemory)),
+        }
+    }
+
+    fn may_populate(&self, table: u32, extent: u64) -> bool
+        requires exists { Exists self.now.log table }
+        ensures { result ≡ may_populate self.now.log table extent }
+    {
+        let made = &self.catalog.tables()[table as usize - 1];
+        let per = made.shape.per_extent();
+        let extents = (self.given_of(table) + per - 1) / per;
+        made.memory.is_some() && extent < extents && self.directory.living(table, extent).is_none()
+    }
+
+    /// The build of an extent that would begin now.
+    fn next_task(&self, table: u32, extent: u64, trickle: bool) -> Task
+        requires exists { Exists self.now.log table }
+        ensures { result ≡ task_at self.now.log (builds self.now.log + 1) table extent trickle }
+    {
+        let made = &self.catalog.tables()[table as usize - 1];
+        Task {
+            id: self.directory.begun() + 1,
+            table,
+            extent,
+            scn: self.history.scn(),
+            per: made.shape.per_extent(),
+            columns: made.schema.columns().len() as u32,
+            trickle,
+        }
+    }
+
+    fn record_build(
+        &mut self,
+        who: u32,
+        table: u32,
+        extent: u64,
+        trickle: bool,
+    ) -> Result<Offer, NoMemory>
+        requires session { who < NUMBERS }
+        requires exists { Exists self.old.log table }
+        requires may { may_populate self.old.log table extent ≡ true }
+        ensures ok { IfOk result (λ offer. IsOffer self.old who table extent trickle offer self.new) }
+        ensures err { OnErr result (self.new ≡ self.old) }
+    {
+        let given = self.given_of(table);
+        let task = self.next_task(table, extent, trickle);
+        let held = self.next_task(table, extent, trickle);
+        self.history
+            .reserve(owed(&self.sessions, &self.directory) + 2)?;
+        self.directory.begin(Held {
+            who,
+            task: held,
+            given,
+            killed: None,
+        })?;
+        self.history.append(Entry {
+            who,
+            what: What::Build {
+                id: task.id,
+                table,
+                extent,
+                trickle,
+            },
+        });
+        Ok(Offer::Task(task))
+    }
+
+    /// Evicts an extent's unit, and kills its living build. It is refused where there is no unit.
+    pub fn evict(&mut self, who: u32, table: u32, extent: u64) -> Result<Evicted<U>, Refused>
+        requires session { who < NUMBERS }
+        requires exists { Exists self.old.log table }
+        ensures ok { IfOk result (λ evicted. IsEvicted U.content self.old who table extent evicted self.new) }
+        ensures err { OnErr result (self.new ≡ self.old) }
+        ensures refused { IfErr result (λ why. IsRefusal self.old.log (evict_refusal self.old.log table extent) why) }
+    {
+        if self.directory.unit(table, extent).is_none() {
+            return Err(self.refused(Why::NoUnit));
+        }
+        match self.record_evict(who, table, extent) {
+            Ok(evicted) => Ok(evicted),
+            Err(NoMemory) => Err(self.refused(Why::NoMemory)),
+        }
+    }
+
+    fn record_evict(&mut self, who: u32, table: u32, extent: u64) -> Result<Evicted<U>, NoMemory>
+        requires session { who < NUMBERS }
+        requires allowed { evict_refusal self.old.log table extent ≡ None }
+        ensures ok { IfOk result (λ evicted. IsEvicted U.content self.old who table extent evicted self.new) }
+        ensures err { OnErr result (self.new ≡ self.old) }
+    {
+        self.history
+            .reserve(owed(&self.sessions, &self.directory) + 1)?;
+        let place = self.history.len();
+        let old = self.directory.evict(place, table, extent).unwrap();
+        self.history.append(Entry {
+            who,
+            what: What::Evict { table, extent },
+        });
+        Ok(Evicted {
+            place,
+            used: 0,
+            old,
+        })
+    }
+
+    /// Reads what a build's unit will hold: the rows of its extent that were committed at its SCN. It adds no entry.
+    ///
+    /// Each row number of the extent that was given when the build began is one step at most.
+    pub fn read_task<L: Ledger>(
+        &mut self,
+        who: u32,
+        task: &Task,
+        steps: &mut Steps<L>,
+    ) -> Result<Pin<U>, Refused>
+        requires own { IsOwn self.old.log who task.now }
+        ensures same { self.new ≡ self.old }
+        ensures place { IfOk result (λ pin. pin.place ≡ length self.old.log) }
+        ensures unit { IfOk result (λ pin. pin.unit ≡ None) }
+        ensures fetched { IfOk result (λ pin. pin.fetched ≡ task_fetched self.old.log task.now) }
+        ensures steps { steps.new ≤ steps.old + task_rows self.old.log task.now }
+        ensures err { IfErr result (λ why. IsRefusal self.old.log None why) }
+    {
+        let _ = who;
+        match self.fetch_task(task, steps) {
+            Ok(fetched) => Ok(Pin {
+                place: self.len(),
+                unit: None,
+                fetched,
+            }),
+            Err(NoMemory) => Err(self.refused(Why::NoMemory)),
+        }
+    }
+
+    fn fetch_task<L: Ledger>(&self, task: &Task, steps: &mut Steps<L>) -> Result<Fetched, NoMemory>
+        requires held { IsHeld self.now.log task.now }
+        ensures fetched { IfOk result (λ fetched. fetched ≡ task_fetched self.now.log task.now) }
+        ensures steps { steps.new ≤ steps.old + task_rows self.now.log task.now }
+    {
+        let given = self.directory.build(task.id).unwrap().given;
+        let first = task.extent * task.per;
+        let count = task.per.min(given - first);
+        let rows = self
+            .blocks
+            .extent_rows(self.alloc, task.table, first, count, task.scn, steps)?;
+        Ok(Fetched::of(rows))
+    }
+
+    /// Makes the unit of a finished build current: with the journal of what was touched since the build began. A build
+    /// that was killed is cancelled. It takes no memory.
+    pub fn switch(&mut self, who: u32, task: Task, unit: Arc<U>) -> Switched<U>
+        requires session { who < NUMBERS }
+        requires own { IsOwn self.old.log who task }
+        requires holds { U.content unit.value ≡ content_at self.old.log task.table task.extent task.scn }
+        ensures { IsSwitch U.content self.old who task result self.new }
+    {
+        match self.directory.build(task.id).unwrap().killed {
+            None => self.record_switch(who, task, unit),
+            Some(at) => {
+                let place = self.cancel(who, task);
+                Switched::Cancelled { place, at }
+            }
+        }
+    }
+
+    fn record_switch(&mut self, who: u32, task: Task, unit: Arc<U>) -> Switched<U>
+        requires session { who < NUMBERS }
+        requires own { IsOwn self.old.log who task }
+        requires lives { killed_of (held_at self.old.log task.id) ≡ None }
+        requires holds { U.content unit.value ≡ content_at self.old.log task.table task.extent task.scn }
+        ensures { IsSwitch U.content self.old who task result self.new }
+    {
+        let place = self.history.len();
+        let old = self.directory.switch(task.id, unit);
+        self.history.append(Entry {
+            who,
+            what: What::Switch { id: task.id },
+        });
+        Switched::Done {
+            place,
+            used: 0,
+            old,
+        }
+    }
+
+    /// Cancels a build, and answers the place of the entry. It takes no memory.
+    pub fn cancel(&mut self, who: u32, task: Task) -> u64
+        requires session { who < NUMBERS }
+        requires own { IsOwn self.old.log who task }
+        ensures added { Adds self.old who (what.Cancel task.id false) self.new }
+        ensures place { result ≡ length self.old.log }
+    {
+        let place = self.history.len();
+        self.directory.cancel(task.id);
+        self.history.append(Entry {
+            who,
+            what: What::Cancel {
+                id: task.id,
+                full: false,
+            },
+        });
+        place
+    }
+}

@@ -1,0 +1,17 @@
+mod AgreementLemmas
+mod AgreesLemmas
+mod BeforeLemmas
+mod BeginLemmas
+mod BuildLemmas
+pub mod CountLaws
+mod DropLemmas
+mod EffectLemmas
+mod EndLemmas
+pub mod ForCallers
+mod JournalLemmas
+mod NoteLemmas
+mod NotingLemmas
+mod PadLemmas
+mod SlotLemmas
+mod SoundLemmas
+mod StaleLemmas

@@ -1,0 +1,10 @@
+use Rattle.im_directory.proofs.EffectLemmas.{AreBefore-from, IsNoted-made}
+use Rattle.im_directory.proofs.SoundLemmas.{IsSound-noted}
+use Rattle.im_directory.proofs.directory.Directory.note.Goals as goal
+
+pub note_all-requires-clause-later : goal.note_all-requires-clause-later
+note_all-requires-clause-later g c = rw (← c.self.view_is) at (AreBefore-from c.args.self.now c.args.scn c.requires.later)
+
+pub invariant_of-self : goal.invariant_of-self
+invariant_of-self g c =
+    IsSound-noted _ _ c.args.tables.now c.args.scn c.args.changes.now (IsNoted-made _ _ c.self.inside.builds c.args.tables.now c.args.scn c.args.changes.now c.note_all.ensures) c.self.invariant

@@ -1,0 +1,6 @@
+pub mod Agreement
+pub mod Agrees
+pub mod Effects
+pub mod Slots
+pub mod Sound
+pub mod Steps

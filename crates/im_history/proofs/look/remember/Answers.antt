@@ -1,0 +1,14 @@
+use Rattle.std.proofs.Common.{arith}
+use Rattle.im_history.proofs.MemoryLemmas.{set-remembered, past-remembered}
+use Rattle.im_history.proofs.look.remember.Goals as goal
+use Rattle.im_history.proofs.look.remember.Goals.{else-table-gt0-via-then-table-gt0+else-table-tables, else-table-gt0-via-else-table-gt0}
+
+pub returns-then-table-tables : goal.returns-then-table-tables
+returns-then-table-tables c = set-remembered c.args.table c.args.priority c.args.tables.now _ c.if-table-gt0.true c.if-table-tables.true
+
+pub returns-else-table-gt0 : goal.returns-else-table-gt0
+returns-else-table-gt0 c = elim c.else-table-gt0.branch [
+    else-table-gt0-via-then-table-gt0+else-table-tables w ↦
+        let past = w.if-table-tables.false in past-remembered c.args.table c.args.priority c.args.tables.now (λ some. omega (arith, past))
+  | else-table-gt0-via-else-table-gt0 w ↦
+        let none = w.if-table-gt0.false in past-remembered c.args.table c.args.priority c.args.tables.now (λ some. omega (arith, none, some)) ]

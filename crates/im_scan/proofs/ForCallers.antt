@@ -1,0 +1,188 @@
+-- What callers know of the parts of a scan: what each may be asked, how they are merged, and what all of them are.
+use Rattle.std.proofs.Common.{◌≡◌, ℕ, zero, suc, ◌+◌, ◌-◌, ◌*◌, ◌/◌, ◌<◌, ◌≤◌, ◌^◌, min, List, [], ◌∷◌, ◌++◌, length, map, Option, Some, None, sym, ap, ◌∙◌, ⊎_elim, arith, append-nil}
+use Rattle.std.specs.List.{AllByRecursion, fold, range_with_len, filter_map, cons_option}
+use Rattle.std.specs.Option.{ForSome, option_map}
+use Rattle.std.proofs.Math.Nat.{lt-mul-div-succ}
+use Rattle.std.proofs.lemmas.Bool.{cases_lt}
+use Rattle.std.proofs.lemmas.List.Elements.{filter_map-append}
+use Rattle.im_syntax.specs.declared.bound.Bound.{Bound}
+use Rattle.im_history.specs.declared.view.View.{View}
+use Rattle.im_history.specs.Commits.{scn}
+use Rattle.im_history.specs.Grid.{extents_for}
+use Rattle.im_history.specs.History.{History}
+use Rattle.im_history.specs.Rows.{Row, rows, row_after, seen, present}
+use Rattle.im_history.specs.Units.{Content, rows_of_extent, stale}
+use Rattle.im_history.specs.Views.{per_at, seen_by}
+use Rattle.im_history.proofs.RowLaws.{rows-append}
+use Rattle.im_core.specs.Answers.{rows_in, committed_in}
+use Rattle.im_group.specs.Partials.{Numbered, Parts, partial, merged, CanMerge}
+use Rattle.im_group.proofs.ForCallers.{merged-partial, CanMerge-partial}
+use Rattle.im_scan.specs.Parts.{MayAsk}
+use Rattle.im_scan.specs.Pinned.{IsPinned, seen_in, seen_to, seen_all}
+use Rattle.im_scan.proofs.PinLemmas.{present-same}
+
+-- ---- what was pinned
+
+-- an extent without a unit, all of which was fetched
+pub pinned-blocks : (h : History) (view : View) (extent : ℕ) (fetched : List (ℕ × Option Row)) → view.per ≡ per_at h view.table
+    → fetched ≡ committed_in h view extent → IsPinned h view extent None fetched
+pinned-blocks h view extent fetched per is = record { per = per; serves = λ content some. absurd cc; is = is }
+
+-- a query may be asked of each row that was ever committed to a table
+pub record MayAskOf (bound : Bound) (history : History) (table : ℕ) : Type 0 where
+  pub each : (n rid : ℕ) → MayAsk bound (rows history table n rid)
+
+each-mapped : (bound : Bound) (row_at : ℕ → Option Row) (rids : List ℕ) → ((rid : ℕ) → MayAsk bound (row_at rid))
+    → AllByRecursion (MayAsk bound) (map row_at rids)
+each-mapped bound row_at [] each = tt
+each-mapped bound row_at (rid ∷ rids) each = (each rid, each-mapped bound row_at rids each)
+
+each-fetched : (bound : Bound) (row_at : ℕ → Option Row) (rids : List ℕ) → ((rid : ℕ) → MayAsk bound (row_at rid))
+    → AllByRecursion (λ (row : ℕ × Option Row). MayAsk bound row.1) (map (λ rid. (rid, row_at rid)) rids)
+each-fetched bound row_at [] each = tt
+each-fetched bound row_at (rid ∷ rids) each = (each rid, each-fetched bound row_at rids each)
+
+-- it may then be asked of each row of a unit that was lent
+pub unit-may : (bound : Bound) (h : History) (view : View) (extent : ℕ) (unit : Option Content)
+    (fetched : List (ℕ × Option Row))
+    → IsPinned h view extent unit fetched → MayAskOf bound h view.table
+    → ForSome unit (λ content. AllByRecursion (MayAsk bound) content.rows)
+unit-may bound h view extent unit fetched pinned may content is =
+    let serves = pinned.serves content is in
+    rw serves.holds (each-mapped bound (rows h view.table content.scn) (rows_of_extent (per_at h view.table) extent)
+    (may.each content.scn))
+
+-- and of each row that was fetched
+pub fetched-may : (bound : Bound) (h : History) (view : View) (extent : ℕ) (unit : Option Content)
+    (fetched : List (ℕ × Option Row))
+    → IsPinned h view extent unit fetched → MayAskOf bound h view.table → AllByRecursion (λ row. MayAsk bound row.1) fetched
+fetched-may bound h view extent None fetched pinned may =
+    rw pinned.is (each-fetched bound (rows h view.table view.scn) (range_with_len (extent * view.per) (rows_in view extent))
+    (may.each view.scn))
+fetched-may bound h view extent (Some content) fetched pinned may =
+    rw pinned.is (each-fetched bound (rows h view.table view.scn) (stale h view.table extent content.scn view.scn)
+    (may.each view.scn))
+
+-- ---- later histories
+
+-- whatever is added to a history, a view of it sees the same rows
+pub seen_by-later : (h more : History) (view : View) (rid : ℕ) → view.scn ≤ scn h
+    → seen_by (h ++ more) view rid ≡ seen_by h view rid
+unfolding seen
+seen_by-later h more view rid known =
+    ap (λ (row : Option Row). fold (row_after view.table rid) row view.own) (rows-append h more view.table view.scn rid known)
+
+pub seen_in-later : (h more : History) (view : View) (extent : ℕ) → view.scn ≤ scn h
+    → seen_in (h ++ more) view extent ≡ seen_in h view extent
+seen_in-later h more view extent known =
+    present-same (seen_by (h ++ more) view) (seen_by h view) (extent * view.per) (rows_in view extent)
+    (λ rid from below. seen_by-later h more view rid known)
+
+-- ---- the first extents, and one more
+
+ranges : (first n m : ℕ) → range_with_len first n ++ range_with_len (first + n) m ≡ range_with_len first (n + m)
+ranges first zero m = ap (λ (k : ℕ). range_with_len k m) (omega arith) ∙ ap (range_with_len first) (omega arith)
+ranges first (suc n) m =
+    let past : first + suc n ≡ first + 1 + n = omega arith in
+    let more : suc (n + m) ≡ suc n + m = omega arith in
+    ap (λ (l : List ℕ). first ∷ l)
+    (ap (λ (k : ℕ). range_with_len (first + 1) n ++ range_with_len k m) past ∙ ranges (first + 1) n m)
+    ∙ ap (range_with_len first) more
+
+present-append : (row_at : ℕ → Option Row) (first n m next : ℕ) → first + n ≡ next
+    → present row_at first n ++ present row_at next m ≡ present row_at first (n + m)
+present-append row_at first n m next is =
+    ap (λ (k : ℕ). present row_at first n ++ present row_at k m) (sym is)
+    ∙ (sym (filter_map-append (λ rid. option_map (λ row. (rid, row)) (row_at rid)) (range_with_len first n)
+    (range_with_len (first + n) m))
+    ∙ ap (filter_map (λ rid. option_map (λ row. (rid, row)) (row_at rid))) (ranges first n m))
+
+-- nothing is added, whatever row number it would begin at
+present-nothing : (row_at : ℕ → Option Row) (first n next : ℕ)
+    → present row_at first n ++ present row_at next 0 ≡ present row_at first n
+present-nothing row_at first n next = append-nil (present row_at first n)
+
+-- row numbers cut at one extent and at the next
+one-more : (row_at : ℕ → Option Row) (begin end given per : ℕ) → end ≡ begin + per
+    → present row_at 0 (min begin given) ++ present row_at begin (min per (given - begin)) ≡ present row_at 0 (min end given)
+one-more row_at begin end given per is =
+    ⊎_elim
+    (λ (past : given < begin).
+    let none : min per (given - begin) ≡ 0 = omega (arith, past) in
+    let all : min begin given ≡ min end given = omega (arith, past, is) in
+    ap (λ (n : ℕ). present row_at 0 (min begin given) ++ present row_at begin n) none
+    ∙ (present-nothing row_at 0 (min begin given) begin
+    ∙ ap (present row_at 0) all))
+    (λ (within : begin ≤ given).
+    let here : 0 + min begin given ≡ begin = omega (arith, within) in
+    let next : min begin given + min per (given - begin) ≡ min end given = omega (arith, within, is) in
+    present-append row_at 0 (min begin given) (min per (given - begin)) begin here
+    ∙ ap (present row_at 0) next)
+    (cases_lt given begin)
+
+pub seen_to-none : (h : History) (view : View) → seen_to h view 0 ≡ []
+seen_to-none h view = ap (present (seen_by h view) 0) (let none : min (0 * view.per) view.rows ≡ 0 = omega arith in none)
+
+pub seen_to-more : (h : History) (view : View) (extent : ℕ)
+    → seen_to h view extent ++ seen_in h view extent ≡ seen_to h view (extent + 1)
+seen_to-more h view extent =
+    one-more (seen_by h view) (extent * view.per) ((extent + 1) * view.per) view.rows view.per (omega arith)
+
+all-rows : (given per : ℕ) → 1 ≤ per → min (extents_for given per * per) given ≡ given
+all-rows given per some =
+    let below : given + per - 1 < per * ((given + per - 1) / per + 1) = lt-mul-div-succ (given + per - 1) some in
+    let spread : per * ((given + per - 1) / per + 1) ≡ (given + per - 1) / per * per + per = spreads per
+    ((given + per - 1) / per) in
+    omega (arith, below, spread, some)
+  where
+    spreads : (p q : ℕ) → p * (q + 1) ≡ q * p + p
+    spreads p q = omega arith
+
+-- all extents are all rows
+pub seen_to-all : (h : History) (view : View) (extents : ℕ) → 1 ≤ view.per → extents ≡ extents_for view.rows view.per
+    → seen_to h view extents ≡ seen_all h view
+seen_to-all h view extents some is = ap (seen_to h view) is ∙ ap (present (seen_by h view) 0) (all-rows view.rows view.per some)
+
+-- ---- parts merged
+
+-- the part of the next extent, merged into that of those before it
+pub merged-seen : (bound : Bound) (h : History) (view : View) (extent : ℕ) (before part : Parts)
+    → before ≡ partial bound (seen_to h view extent) → part ≡ partial bound (seen_in h view extent)
+    → merged before part ≡ partial bound (seen_to h view (extent + 1))
+merged-seen bound h view extent before part is and_is =
+    ap (λ (p : Parts). merged p part) is
+    ∙ (ap (merged (partial bound (seen_to h view extent))) and_is
+    ∙ (merged-partial bound (seen_to h view extent) (seen_in h view extent)
+    ∙ ap (partial bound) (seen_to-more h view extent)))
+
+-- the same where the extent was pinned later, whatever was added to the history meanwhile
+pub merged-later : (bound : Bound) (h more : History) (view : View) (extent : ℕ) (before part : Parts) → view.scn ≤ scn h
+    → before ≡ partial bound (seen_to h view extent) → part ≡ partial bound (seen_in (h ++ more) view extent)
+    → merged before part ≡ partial bound (seen_to h view (extent + 1))
+merged-later bound h more view extent before part known is and_is =
+    merged-seen bound h view extent before part is (and_is ∙ ap (partial bound) (seen_in-later h more view extent known))
+
+length-optional : (row : Option (ℕ × Row)) (later : List Numbered) (n : ℕ) → length later ≤ n
+    → length (cons_option row later) ≤ n + 1
+length-optional None later n few = omega (arith, few)
+length-optional (Some row) later n few = omega (arith, few)
+
+length-present : (row_at : ℕ → Option Row) (first n : ℕ) → length (present row_at first n) ≤ n
+length-present row_at first zero = omega arith
+length-present row_at first (suc n) =
+    let few = length-optional (option_map (λ row. (first, row)) (row_at first)) (present row_at (first + 1) n) n
+    (length-present row_at (first + 1) n) in
+    omega (arith, few)
+
+-- they may be merged
+pub can-merge-seen : (bound : Bound) (h : History) (view : View) (extent : ℕ) (before part : Parts) → view.rows < 2 ^ 64
+    → before ≡ partial bound (seen_to h view extent) → part ≡ partial bound (seen_in h view extent) → CanMerge before part
+can-merge-seen bound h view extent before part few is and_is =
+    rw (is, and_is) (CanMerge-partial bound (seen_to h view extent) (seen_in h view extent)
+    (both (extent * view.per) view.rows view.per (length (seen_to h view extent)) (length (seen_in h view extent)) few
+    (length-present (seen_by h view) 0 (min (extent * view.per) view.rows))
+    (length-present (seen_by h view) (extent * view.per) (rows_in view extent))))
+  where
+    both : (begin given per front back : ℕ) → given < 2 ^ 64 → front ≤ min begin given → back ≤ min per (given - begin)
+        → front + back < 2 ^ 64
+    both begin given per front back few a b = omega (arith, few, a, b)

@@ -1,0 +1,6 @@
+mod SlotLemmas
+mod TestLemmas
+mod FitLemmas
+mod PartLemmas
+mod PinLemmas
+pub mod ForCallers

@@ -1,0 +1,252 @@
+-- The rows of an extent as they are gathered: each slot has what a scan takes at its row number.
+use Rattle.std.proofs.Common.{◌≡◌, ℕ, suc, ◌+◌, ◌-◌, ◌<◌, ◌≤◌, ◌==◌, ◌&&◌, Bool, true, false, if◌then◌else◌, List, [], ◌∷◌, ◌++◌, length, take, drop, get_or, Option, Some, None, refl, sym, ap, ◌∙◌, ⊎_elim, arith, append_assoc, append-nil}
+use Rattle.std.specs.Prelude.{nat_lt, slice_set}
+use Rattle.std.specs.List.{fold, cons_option}
+use Rattle.std.specs.Option.{option_copied, option_map}
+use Rattle.std.proofs.lemmas.Bool.{cases_lt}
+use Rattle.std.proofs.lemmas.Bool.Decides.{nat_tests}
+use Rattle.std.proofs.lemmas.List.{take_all, drop_all, get_or-set_same, get_or-set_other, length-map, length-set, length-take-le, map-set, map_more, map_push}
+use Rattle.std.proofs.lemmas.List.Elements.{filter-append}
+use Rattle.std.proofs.lemmas.List.FromFn.{length-map-range_with_len, get_or-map-range_with_len, map-range_with_len_more}
+use denote.Ref.{Bor}
+use Rattle.im_syntax.specs.declared.bound.Bound.{Bound}
+use Rattle.im_history.specs.declared.change.Change.{Change}
+use Rattle.im_history.specs.declared.view.View.{View}
+use Rattle.im_history.specs.Rows.{Row, row_after, present}
+use Rattle.im_history.specs.Units.{Content}
+use Rattle.im_group.specs.Partials.{Numbered, keeps, kept}
+use Rattle.im_scan.specs.Parts.{unit_row, fetched_after, taken_row}
+use Rattle.im_scan.specs.Steps.{lent, unit_rows, put_at, with_fetched, with_change, with_changes, gathered, numbered, numbered_from}
+
+-- ---- one row put
+
+pub lent-put : (first : ℕ) (slots : List (Option (Bor Row))) (rid : ℕ) (row : Option (Bor Row)) (now : Option Row) → first ≤ rid
+    → option_copied row ≡ now → lent (slice_set slots (rid - first) row) ≡ put_at first (lent slots) rid now
+lent-put first slots rid row now from is =
+    let inside : nat_lt rid first ≡ false = grind (arith, nat_tests) in
+    map-set option_copied slots (rid - first) row
+    ∙ (ap (λ (r : Option Row). slice_set (lent slots) (rid - first) r) is
+    ∙ ap (λ (b : Bool). if b then lent slots else slice_set (lent slots) (rid - first) now) (sym inside))
+
+length-put_at : (first : ℕ) (slots : List (Option Row)) (rid : ℕ) (row : Option Row)
+    → length (put_at first slots rid row) ≡ length slots
+length-put_at first slots rid row = by (nat_lt rid first)
+  where
+    by : (b : Bool) → length (if b then slots else slice_set slots (rid - first) row) ≡ length slots
+    by true = refl
+    by false = length-set slots (rid - first) row
+
+at-set : (slots : List (Option Row)) (first rid i : ℕ) (row : Option Row) → first ≤ rid → i < length slots
+    → get_or (slice_set slots (rid - first) row) i None ≡ (if rid == first + i then row else get_or slots i None)
+at-set slots first rid i row from within = by (rid == first + i) refl
+  where
+    by : (b : Bool) → (rid == first + i) ≡ b
+        → get_or (slice_set slots (rid - first) row) i None ≡ (if b then row else get_or slots i None)
+    by true e =
+        let here : rid - first ≡ i = grind (arith, nat_tests, e) in
+        rw here (get_or-set_same slots i row None within)
+    by false e =
+        let other : i ≡ rid - first → ⊥ = λ same. grind (arith, nat_tests, e, same, from) in
+        get_or-set_other slots (rid - first) i row None other
+
+at-put_at : (first : ℕ) (slots : List (Option Row)) (rid i : ℕ) (row : Option Row) → i < length slots
+    → get_or (put_at first slots rid row) i None ≡ (if rid == first + i then row else get_or slots i None)
+at-put_at first slots rid i row within =
+    ⊎_elim
+    (λ (below : rid < first).
+    let out : nat_lt rid first ≡ true = grind (arith, nat_tests) in
+    let other : (rid == first + i) ≡ false = grind (arith, nat_tests) in
+    ap (λ (b : Bool). get_or (if b then slots else slice_set slots (rid - first) row) i None) out
+    ∙ ap (λ (b : Bool). if b then row else get_or slots i None) (sym other))
+    (λ (from : first ≤ rid).
+    let inside : nat_lt rid first ≡ false = grind (arith, nat_tests) in
+    ap (λ (b : Bool). get_or (if b then slots else slice_set slots (rid - first) row) i None) inside
+    ∙ at-set slots first rid i row from within)
+    (cases_lt rid first)
+
+-- ---- what a unit has, one row number more
+
+pub unit_rows-more : (unit : Option Content) (first rid : ℕ) (row : Option (Bor Row)) (slots longer : List (Option (Bor Row)))
+    → first ≤ rid → lent slots ≡ unit_rows unit first (rid - first) → option_copied row ≡ unit_row unit rid
+    → longer ≡ slots ++ row ∷ [] → lent longer ≡ unit_rows unit first (rid + 1 - first)
+unit_rows-more unit first rid row slots longer from so_far is pushed =
+    let more : rid - first + 1 ≡ rid + 1 - first = omega (arith, from) in
+    let here : first + (rid - first) ≡ rid = omega (arith, from) in
+    ap lent pushed
+    ∙ (map_push option_copied slots row
+    ∙ (ap (λ (l : List (Option Row)). l ++ option_copied row ∷ []) so_far
+    ∙ (ap (λ (r : Option Row). unit_rows unit first (rid - first) ++ r ∷ []) is
+    ∙ (sym (map-range_with_len_more (unit_row unit) first (rid - first) rid here)
+    ∙ ap (unit_rows unit first) more))))
+
+-- ---- all that was fetched, and all changes
+
+pub length-with_fetched : (first : ℕ) (slots : List (Option Row)) (fetched : List (ℕ × Option Row))
+    → length (with_fetched first slots fetched) ≡ length slots
+length-with_fetched first slots [] = refl
+length-with_fetched first slots (f ∷ fetched) =
+    length-with_fetched first (put_at first slots f.0 f.1) fetched ∙ length-put_at first slots f.0 f.1
+
+at-with_fetched : (first : ℕ) (slots : List (Option Row)) (fetched : List (ℕ × Option Row)) (i : ℕ) → i < length slots
+    → get_or (with_fetched first slots fetched) i None ≡ fold (fetched_after (first + i)) (get_or slots i None) fetched
+at-with_fetched first slots [] i within = refl
+at-with_fetched first slots (f ∷ fetched) i within =
+    at-with_fetched first (put_at first slots f.0 f.1) fetched i
+    (let same = length-put_at first slots f.0 f.1 in omega (arith, same, within))
+    ∙ ap (λ (row : Option Row). fold (fetched_after (first + i)) row fetched) (at-put_at first slots f.0 i f.1 within)
+
+length-with_change : (table first : ℕ) (slots : List (Option Row)) (change : Change)
+    → length (with_change table first slots change) ≡ length slots
+length-with_change table first slots change = by (change.table == table)
+  where
+    by : (b : Bool) → length (if b then put_at first slots change.rid change.row else slots) ≡ length slots
+    by true = length-put_at first slots change.rid change.row
+    by false = refl
+
+at-with_change : (table first : ℕ) (slots : List (Option Row)) (change : Change) (i : ℕ) → i < length slots
+    → get_or (with_change table first slots change) i None ≡ row_after table (first + i) (get_or slots i None) change
+at-with_change table first slots change i within = by (change.table == table)
+  where
+    by : (b : Bool)
+        → get_or (if b then put_at first slots change.rid change.row else slots) i None ≡
+        (if b && (change.rid == first + i) then change.row else get_or slots i None)
+    by true = at-put_at first slots change.rid i change.row within
+    by false = refl
+
+pub length-with_changes : (table first : ℕ) (slots : List (Option Row)) (changes : List Change)
+    → length (with_changes table first slots changes) ≡ length slots
+length-with_changes table first slots [] = refl
+length-with_changes table first slots (change ∷ changes) =
+    length-with_changes table first (with_change table first slots change) changes ∙ length-with_change table first slots change
+
+at-with_changes : (table first : ℕ) (slots : List (Option Row)) (changes : List Change) (i : ℕ) → i < length slots
+    → get_or (with_changes table first slots changes) i None ≡ fold (row_after table (first + i)) (get_or slots i None) changes
+at-with_changes table first slots [] i within = refl
+at-with_changes table first slots (change ∷ changes) i within =
+    at-with_changes table first (with_change table first slots change) changes i
+    (let same = length-with_change table first slots change in omega (arith, same, within))
+    ∙ ap (λ (row : Option Row). fold (row_after table (first + i)) row changes)
+    (at-with_change table first slots change i within)
+
+-- ---- what is gathered
+
+-- the slots are those that a scan takes at so many row numbers from the first on
+pub record AreTaken (unit : Option Content) (fetched : List (ℕ × Option Row)) (view : View) (first count : ℕ)
+    (slots : List (Option Row)) : Type 0 where
+  pub long : length slots ≡ count
+  pub at : (i : ℕ) → i < length slots → get_or slots i None ≡ taken_row unit fetched view (first + i)
+
+pub are_taken : (unit : Option Content) (fetched : List (ℕ × Option Row)) (view : View) (first count : ℕ)
+    → AreTaken unit fetched view first count (gathered unit fetched view first count)
+are_taken unit fetched view first count = record {
+  long = all;
+  at = λ i within. let inside : i < count = omega (arith, within, all) in each i inside;
+}
+  where
+    shown : List (Option Row)
+    shown = unit_rows unit first count
+
+    shown_long : length shown ≡ count
+    shown_long = length-map-range_with_len (unit_row unit) first count
+
+    fetched_long : length (with_fetched first shown fetched) ≡ count
+    fetched_long = length-with_fetched first shown fetched ∙ shown_long
+
+    all : length (gathered unit fetched view first count) ≡ count
+    all = length-with_changes view.table first (with_fetched first shown fetched) view.own ∙ fetched_long
+
+    each : (i : ℕ) → i < count
+        → get_or (gathered unit fetched view first count) i None ≡ taken_row unit fetched view (first + i)
+    each i inside =
+        at-with_changes view.table first (with_fetched first shown fetched) view.own i (omega (arith, inside, fetched_long))
+        ∙ ap (λ (row : Option Row). fold (row_after view.table (first + i)) row view.own)
+        (at-with_fetched first shown fetched i (omega (arith, inside, shown_long))
+        ∙ ap (λ (row : Option Row). fold (fetched_after (first + i)) row fetched)
+        (get_or-map-range_with_len (unit_row unit) first count i (first + i) None inside refl))
+
+-- a vector after a call that changed its slice, keeping its length
+written_back : {X : Type 0} (n : ℕ) (xs ys : List X) → n ≡ length ys → length xs ≡ length ys
+    → take n (xs ++ drop (length xs) ys) ≡ xs
+written_back n xs ys n_is long =
+    let none : drop (length xs) ys ≡ [] = drop_all (length xs) ys (omega (arith, long)) in
+    rw (none, append-nil xs) (take_all n xs (omega (arith, n_is, long)))
+
+pub gathered-back : (unit : Option Content) (fetched : List (ℕ × Option Row)) (view : View) (first count n : ℕ)
+    (slots new : List (Option (Bor Row)))
+    → n ≡ length slots → lent slots ≡ unit_rows unit first count
+    → lent new ≡ with_changes view.table first (with_fetched first (lent slots) fetched) view.own
+    → lent (take n (new ++ drop (length new) slots)) ≡ gathered unit fetched view first count
+gathered-back unit fetched view first count n slots new n_is shown put =
+    ap lent (written_back n new slots n_is same) ∙ all
+  where
+    all : lent new ≡ gathered unit fetched view first count
+    all = put ∙ ap (λ (l : List (Option Row)). with_changes view.table first (with_fetched first l fetched) view.own) shown
+
+    same : length new ≡ length slots
+    same =
+        sym (length-map new option_copied)
+        ∙ (ap length all
+        ∙ ((are_taken unit fetched view first count).long
+        ∙ (sym (length-map-range_with_len (unit_row unit) first count)
+        ∙ (sym (ap length shown)
+        ∙ length-map slots option_copied))))
+
+-- ---- those that there are
+
+pub numbered_from-present : (row_at : ℕ → Option Row) (first : ℕ) (slots : List (Option Row))
+    → ((i : ℕ) → i < length slots → get_or slots i None ≡ row_at (first + i))
+    → numbered_from first slots ≡ present row_at first (length slots)
+numbered_from-present row_at first [] each = refl
+numbered_from-present row_at first (slot ∷ slots) each =
+    let head : slot ≡ row_at first = each 0 (omega arith) ∙ ap row_at (omega arith) in
+    ap (λ (l : List Numbered). numbered first slot ++ l)
+    (numbered_from-present row_at (first + 1) slots
+    (λ i within. each (suc i) (omega (arith, within)) ∙ ap row_at (omega arith)))
+    ∙ by slot head
+  where
+    later : List Numbered
+    later = present row_at (first + 1) (length slots)
+
+    by : (o : Option Row) → o ≡ row_at first
+        → numbered first o ++ later ≡ cons_option (option_map (λ row. (first, row)) (row_at first)) later
+    by None e = rw (← e) refl
+    by (Some row) e = rw (← e) refl
+
+pub gathered-present : (unit : Option Content) (fetched : List (ℕ × Option Row)) (view : View) (first count : ℕ)
+    → numbered_from first (gathered unit fetched view first count) ≡ present (taken_row unit fetched view) first count
+gathered-present unit fetched view first count =
+    let taken = are_taken unit fetched view first count in
+    numbered_from-present (taken_row unit fetched view) first (gathered unit fetched view first count) taken.at
+    ∙ ap (present (taken_row unit fetched view) first) taken.long
+
+-- ---- one more row kept
+
+numbered_from-push : (first : ℕ) (slots : List (Option Row)) (slot : Option Row) (rid : ℕ) → first + length slots ≡ rid
+    → numbered_from first (slots ++ slot ∷ []) ≡ numbered_from first slots ++ numbered rid slot
+numbered_from-push first [] slot rid is =
+    ap (λ (n : ℕ). numbered n slot ++ []) (omega (arith, is)) ∙ nothing (numbered rid slot)
+  where
+    nothing : (rows : List Numbered) → rows ++ [] ≡ rows
+    nothing [] = refl
+    nothing (row ∷ rows) = ap (λ (l : List Numbered). row ∷ l) (nothing rows)
+numbered_from-push first (s ∷ slots) slot rid is =
+    ap (λ (l : List Numbered). numbered first s ++ l) (numbered_from-push (first + 1) slots slot rid (omega (arith, is)))
+    ∙ sym (append_assoc (numbered first s) (numbered_from (first + 1) slots) (numbered rid slot))
+
+pub kept-more : (bound : Bound) (first : ℕ) (slots : List (Option (Bor Row))) (i : ℕ) (row : Option (Bor Row))
+    (rows longer : List Numbered)
+    → i < length slots → row ≡ get_or slots i row → rows ≡ kept bound (numbered_from first (lent (take i slots)))
+    → longer ≡ rows ++ kept bound (numbered (first + i) (option_copied row))
+    → longer ≡ kept bound (numbered_from first (lent (take (i + 1) slots)))
+kept-more bound first slots i row rows longer within is so_far pushed =
+    pushed
+    ∙ (ap (λ (l : List Numbered). l ++ kept bound (numbered (first + i) (option_copied row))) so_far
+    ∙ (sym (filter-append (λ r. keeps bound.filter r.1) (numbered_from first (lent (take i slots)))
+    (numbered (first + i) (option_copied row)))
+    ∙ (ap (kept bound) (sym (numbered_from-push first (lent (take i slots)) (option_copied row) (first + i) long))
+    ∙ ap (λ (l : List (Option Row)). kept bound (numbered_from first l))
+    (sym (map_more option_copied slots i row within ∙ ap
+    (λ (r : Option (Bor Row)). lent (take i slots) ++ option_copied r ∷ []) (sym is))))))
+  where
+    long : first + length (lent (take i slots)) ≡ first + i
+    long = ap (λ (n : ℕ). first + n) (length-map (take i slots) option_copied ∙ length-take-le i slots (omega (arith, within)))

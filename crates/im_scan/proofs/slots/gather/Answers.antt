@@ -1,0 +1,12 @@
+use Rattle.std.proofs.Common.{ap, ◌∙◌}
+use Rattle.im_scan.specs.Faces.{unit_of}
+use Rattle.im_scan.specs.Steps.{lent, with_changes, with_fetched}
+use Rattle.im_scan.proofs.SlotLemmas.{gathered-back}
+use Rattle.im_scan.proofs.slots.gather.Goals as goal
+
+pub returns : goal.returns
+returns c =
+    gathered-back (unit_of c.args.face) c.args.fetched.now c.args.view.now c.args.first c.args.count c.in_ok-slots.slots.len
+    c.in_ok-slots.slots.items c.put_all.new.slots c.in_ok-slots.slots.ok.0 c.in_ok-slots.ensures
+    (c.put_all.ensures ∙ ap (λ slots. with_changes c.args.view.now.table c.args.first
+    (with_fetched c.args.first (lent slots) c.args.fetched.now) c.args.view.now.own) c.as_mut_slice.ensures.value)

@@ -1,0 +1,38 @@
+-- The part of a query's answer that one extent gives.
+use Rattle.std.specs.Prelude.{ℕ, ◌*◌, ◌==◌, List, fold, Option, Some, None, if◌then◌else◌}
+use Rattle.std.specs.Option.{ForSome}
+use Rattle.im_syntax.specs.declared.bound.Bound.{Bound}
+use Rattle.im_syntax.specs.BoundFits.{BoundFits}
+use Rattle.im_history.specs.declared.view.View.{View}
+use Rattle.im_history.specs.Rows.{Row, row_after, present}
+use Rattle.im_history.specs.Units.{Content}
+use Rattle.im_core.specs.Answers.{rows_in}
+use Rattle.im_group.specs.Partials.{Numbered, Parts, partial}
+use Rattle.im_unit.specs.Holding.{row_of}
+
+-- the row that a unit has at a row number; without a unit there is none
+abbrev pub unit_row : Option Content → ℕ → Option Row
+unit_row None rid = None
+unit_row (Some content) rid = row_of content rid
+
+-- what stands at a row number once a row was fetched: what was fetched, if it is of this row number
+abbrev pub fetched_after : ℕ → Option Row → ℕ × Option Row → Option Row
+fetched_after rid row fetched = if fetched.0 == rid then fetched.1 else row
+
+-- the row that a scan takes at a row number: what was fetched of it, else what the unit has, and then changed by the view's
+-- own changes, in order
+abbrev pub taken_row : Option Content → List (ℕ × Option Row) → View → ℕ → Option Row
+taken_row unit fetched view rid =
+    fold (row_after view.table rid) (fold (fetched_after rid) (unit_row unit rid) fetched) view.own
+
+-- the rows that a scan takes of an extent: those at the row numbers of the extent that the view has
+abbrev pub taken_rows : Option Content → List (ℕ × Option Row) → View → ℕ → List Numbered
+taken_rows unit fetched view extent = present (taken_row unit fetched view) (extent * view.per) (rows_in view extent)
+
+-- what they give to a query
+abbrev pub part_of : Option Content → List (ℕ × Option Row) → View → ℕ → Bound → Parts
+part_of unit fetched view extent bound = partial bound (taken_rows unit fetched view extent)
+
+-- a query may be asked of a row, where there is one
+abbrev pub MayAsk : Bound → Option Row → Type 0
+MayAsk bound row = ForSome row (λ values. BoundFits values bound)

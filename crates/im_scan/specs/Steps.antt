@@ -1,0 +1,50 @@
+-- One step of the loops of a scan.
+use Rattle.std.specs.Prelude.{ℕ, ◌+◌, ◌-◌, ◌==◌, nat_lt, List, [], ◌∷◌, ◌++◌, map, fold, slice_set, Option, Some, None, if◌then◌else◌}
+use Rattle.std.specs.List.{range_with_len}
+use Rattle.std.specs.Option.{option_copied}
+use denote.Ref.{Bor}
+use Rattle.im_history.specs.declared.change.Change.{Change}
+use Rattle.im_history.specs.declared.view.View.{View}
+use Rattle.im_history.specs.Rows.{Row}
+use Rattle.im_history.specs.Units.{Content}
+use Rattle.im_group.specs.Partials.{Numbered}
+use Rattle.im_scan.specs.Parts.{unit_row}
+
+-- rows that are lent, or none
+abbrev pub lent : List (Option (Bor Row)) → List (Option Row)
+lent slots = map option_copied slots
+
+-- what a unit has at so many row numbers from the first on
+abbrev pub unit_rows : Option Content → ℕ → ℕ → List (Option Row)
+unit_rows unit first count = map (unit_row unit) (range_with_len first count)
+
+-- rows from the first row number on, once a row is put at a row number, if it is one of theirs
+abbrev pub put_at : ℕ → List (Option Row) → ℕ → Option Row → List (Option Row)
+put_at first slots rid row = if nat_lt rid first then slots else slice_set slots (rid - first) row
+
+-- once all that was fetched is put
+abbrev pub with_fetched : ℕ → List (Option Row) → List (ℕ × Option Row) → List (Option Row)
+with_fetched first slots fetched = fold (λ so_far row. put_at first so_far row.0 row.1) slots fetched
+
+-- once a change to the table is put
+abbrev pub with_change : ℕ → ℕ → List (Option Row) → Change → List (Option Row)
+with_change table first slots change = if change.table == table then put_at first slots change.rid change.row else slots
+
+-- once all changes to the table are put
+abbrev pub with_changes : ℕ → ℕ → List (Option Row) → List Change → List (Option Row)
+with_changes table first slots changes = fold (with_change table first) slots changes
+
+-- what is gathered for a scan: what the unit has, then what was fetched, then the view's own changes
+abbrev pub gathered : Option Content → List (ℕ × Option Row) → View → ℕ → ℕ → List (Option Row)
+gathered unit fetched view first count =
+    with_changes view.table first (with_fetched first (unit_rows unit first count) fetched) view.own
+
+-- a row, where there is one, with its number
+abbrev pub numbered : ℕ → Option Row → List Numbered
+numbered rid None = []
+numbered rid (Some row) = (rid, row) ∷ []
+
+-- the rows that there are, each with its number, from the first row number on
+abbrev pub numbered_from : ℕ → List (Option Row) → List Numbered
+numbered_from first [] = []
+numbered_from first (slot ∷ slots) = numbered first slot ++ numbered_from (first + 1) slots

@@ -1,0 +1,18 @@
+//! The column unit of an extent: the rows that were committed by an SCN, kept in memory to be scanned.
+//!
+//! Contracts see a [`ColumnUnit`] as `Content` of `im_history`: its SCN, its first row number, its number of columns and,
+//! for each row number from the first on, the row or none. A unit is built once and never changed: which of its rows are
+//! stale at a later SCN is kept beside it, in its journal.
+//!
+//! The main promise is that [`ColumnUnit::build`] keeps exactly the rows that it was given, so that a unit of the rows
+//! committed at its SCN answers each scan at that SCN as the versions would.
+//!
+//! Start with `unit.rt`, then `specs/Holding.antt`.
+#![tactic(auto)]
+
+mod unit;
+
+pub use unit::ColumnUnit;
+
+#[cfg(test)]
+mod tests;
