@@ -10,7 +10,7 @@ use std::sync::ledger::Ledger;
 
 /// A store that nobody else has. It speaks for every number, and no call of it waits.
 #[derive(Drop)]
-pub struct Sole<U> {
+pub struct Sole<U: UnitLike> {
     core: Core<U>,
 }
 
