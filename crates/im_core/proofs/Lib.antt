@@ -1,6 +1,6 @@
 mod BeginLemmas
 mod CountLemmas
-pub mod FetchLemmas
+mod FetchLemmas
 mod HoldsLemmas
 mod OpeningLemmas
 mod RefusalLemmas

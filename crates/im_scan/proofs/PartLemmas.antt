@@ -10,7 +10,7 @@ use Rattle.im_history.specs.declared.view.View.{View}
 use Rattle.im_history.specs.Grid.{extents_for}
 use Rattle.im_history.specs.Rows.{Row, present}
 use Rattle.im_history.specs.Units.{Content}
-use Rattle.im_core.proofs.FetchLemmas.{first_within}
+use Rattle.im_history.proofs.GridLaws.{first_within}
 use Rattle.im_group.specs.Partials.{Numbered, Parts, kept, partial}
 use Rattle.im_scan.specs.Parts.{MayAsk, taken_row}
 use Rattle.im_scan.specs.Steps.{lent, gathered, numbered_from}
