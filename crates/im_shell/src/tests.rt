@@ -160,7 +160,12 @@ fn a_table_past_the_sixty_fourth_is_refused(rt: HostRuntime) -> Result<(), Fail>
     }
     script.push_str("1> CREATE TABLE T (K NUMBER)\n1> COMMIT\n")?;
     text.push_str("65,error,08,too-many-tables,64\n66,committed,65\n")?;
-    check(&rt, alloc, &["ime", "run"], &plain(script.as_str(), text.as_str()))
+    check(
+        &rt,
+        alloc,
+        &["ime", "run"],
+        &plain(script.as_str(), text.as_str()),
+    )
 }
 
 #[test]

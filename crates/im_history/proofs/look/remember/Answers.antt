@@ -8,7 +8,8 @@ returns-then-table-tables c = set-remembered c.args.table c.args.priority c.args
 
 pub returns-else-table-gt0 : goal.returns-else-table-gt0
 returns-else-table-gt0 c = elim c.else-table-gt0.branch [
-    else-table-gt0-via-then-table-gt0+else-table-tables w ↦
-        let past = w.if-table-tables.false in past-remembered c.args.table c.args.priority c.args.tables.now (λ some. omega (arith, past))
+  | else-table-gt0-via-then-table-gt0+else-table-tables w ↦
+      let past = w.if-table-tables.false in past-remembered c.args.table c.args.priority c.args.tables.now (λ some. omega (arith, past))
   | else-table-gt0-via-else-table-gt0 w ↦
-        let none = w.if-table-gt0.false in past-remembered c.args.table c.args.priority c.args.tables.now (λ some. omega (arith, none, some)) ]
+      let none = w.if-table-gt0.false in past-remembered c.args.table c.args.priority c.args.tables.now (λ some. omega (arith, none, some))
+]
