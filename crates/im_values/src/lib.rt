@@ -9,6 +9,8 @@
 #![tactic(auto)]
 
 mod comparison;
+pub mod limits;
+mod list;
 mod name;
 mod no_memory;
 mod row;
@@ -18,10 +20,11 @@ mod truth;
 mod value;
 
 pub use comparison::{Cmp, compare, order};
+pub use list::List;
 pub use name::Name;
 pub use no_memory::NoMemory;
 pub use row::{Row, clone_row};
-pub use schema::{Column, Kind, MOST_COLUMNS, Schema, fits};
+pub use schema::{Column, Kind, Schema, fits};
 pub use steps::Steps;
 pub use truth::Truth;
 pub use value::Value;

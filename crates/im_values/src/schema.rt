@@ -1,6 +1,7 @@
 ghost use Rattle.std.specs.Prelude.{◌≡◌, ◌≤◌, IfOk, length};
 ghost use Rattle.im_values.specs.Fits as spec;
 
+use crate::limits::MOST_COLUMNS;
 use crate::name::Name;
 use crate::no_memory::NoMemory;
 use crate::row::Row;
@@ -47,9 +48,6 @@ impl Column {
     }
 }
 
-/// The most columns that a table has.
-pub const MOST_COLUMNS: usize = 16;
-
 /// The columns of a table, in order: at least one, and at most [`MOST_COLUMNS`].
 #[derive(Debug, Drop)]
 pub struct Schema {
@@ -63,10 +61,11 @@ impl Model for Schema {
     ghost Value = { List Column };
 
     ghost use Rattle.std.specs.Prelude.{◌≤◌, length};
+    ghost use Rattle.im_values.specs.declared.limits.TheConstants.{MOST_COLUMNS};
 
     ghost view = { λ s. s.columns.items };
 
-    ghost invariant = { λ s. (1 ≤ length s.columns.items) × (length s.columns.items ≤ 16) };
+    ghost invariant = { λ s. (1 ≤ length s.columns.items) × (length s.columns.items ≤ MOST_COLUMNS) };
 }
 
 impl Schema {
