@@ -206,7 +206,7 @@ fn insert(alloc: Global, store: &mut Core<NoUnit>, who: u32, count: u64) -> Answ
 fn stands(fetched: &Fetched, rid: u64) -> bool
     ensures { OnTrue result (IsSomeAnd (slice_get fetched.now rid) (λ found. IsTrue (is_some found.1))) }
 {
-    match fetched.as_slice().get(rid as usize) {
+    match fetched.items().get(rid as usize) {
         Some((_, row)) => row.is_some(),
         None => false,
     }
@@ -234,7 +234,7 @@ fn update<L: Ledger>(
     if view.extents == 0 {
         return Err(OUT_OF_PLACE);
     }
-    if !view.own.as_slice().is_empty() {
+    if !view.own.items().is_empty() {
         return Err(OUT_OF_PLACE);
     }
     let pin = store.pin(who, 0, 0, steps)?;
@@ -249,7 +249,7 @@ fn update<L: Ledger>(
 /// The sum of the numbers that stand in an extent.
 fn sum_of(fetched: &Fetched) -> u64 {
     let mut sum: u64 = 0;
-    for (_, row) in fetched.as_slice() {
+    for (_, row) in fetched.items() {
         if let Some(row) = row
             && let Some(Value::Int(number)) = row.values().first()
         {

@@ -3,8 +3,8 @@ ghost use Rattle.im_values.specs.declared.value.Value.TheVariants.{Int as AnInt}
 ghost use Rattle.im_syntax.specs.BoundFits.{TestFits, FilterFits, agree as may_meet};
 
 use crate::holds;
-use im_syntax::{Filter, Parts, Test, TestForm, Tests};
-use im_values::{Cmp, Name, Row, Truth, Value};
+use im_syntax::{Filter, Test, TestForm, Tests};
+use im_values::{Cmp, List, Name, Row, Truth, Value};
 use std::alloc::Global;
 use std::test::Fail;
 
@@ -174,7 +174,7 @@ fn within(
     let form = TestForm::Within {
         column: 0,
         negated,
-        values: Parts::of(vec![in alloc; first, second]?),
+        values: List::of(vec![in alloc; first, second]?),
     };
     holds_alone(alloc, Test::of(form), &row)
 }

@@ -5,8 +5,8 @@ mod fits;
 
 use crate::{Cell, Partial};
 use fits::rows_fit;
-use im_syntax::{Bound, Filter, Item, Key, Parts, Test, TestForm, Tests};
-use im_values::{Cmp, Name, Row, Value};
+use im_syntax::{Bound, Filter, Item, Key, Test, TestForm, Tests};
+use im_values::{Cmp, List, Name, Row, Value};
 use std::alloc::Global;
 use std::test::Fail;
 
@@ -67,9 +67,9 @@ fn query(
     Ok(Bound {
         table: 1,
         filter,
-        items: Parts::of(Vec::from_slice(alloc, items)?),
-        groups: Parts::of(Vec::from_slice(alloc, groups)?),
-        keys: Parts::of(Vec::from_slice(alloc, keys)?),
+        items: List::of(Vec::from_slice(alloc, items)?),
+        groups: List::of(Vec::from_slice(alloc, groups)?),
+        keys: List::of(Vec::from_slice(alloc, keys)?),
         grouped,
     })
 }

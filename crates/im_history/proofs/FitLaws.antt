@@ -6,7 +6,7 @@ use Rattle.std.proofs.lemmas.List.Elements.{All-nil, All-cons, All-head, All-tai
 use Rattle.im_values.specs.Fits.{fits}
 use Rattle.im_history.specs.declared.change.Change.{Change}
 use Rattle.im_history.specs.declared.entry.Entry.{Entry}
-use Rattle.im_history.specs.declared.entry.Priority.{Priority}
+use Rattle.im_values.specs.declared.priority.Priority.{Priority}
 use Rattle.im_history.specs.declared.entry.What.{What}
 use Rattle.im_history.specs.declared.entry.What.TheVariants.{Create, Memory, Write, Commit, Rollback}
 use Rattle.im_history.specs.declared.limits.Limits.{Limits}

@@ -1,6 +1,6 @@
 -- The tables once one of them has joined the column store or left it.
 use Rattle.std.proofs.Common.{◌≡◌, ℕ, zero, suc, ◌-◌, ◌<◌, ◌≤◌, List, [], ◌∷◌, length, slice_index_or, slice_set, Option, refl, sym, ap, arith}
-use Rattle.im_history.specs.declared.entry.Priority.{Priority}
+use Rattle.im_values.specs.declared.priority.Priority.{Priority}
 use Rattle.im_history.specs.declared.look.TableInfo.{TableInfo}
 use Rattle.im_history.specs.Tables.{remembered, with_memory}
 

@@ -3,7 +3,7 @@ use Rattle.std.proofs.Common.{◌≡◌, ℕ, zero, suc, ◌*◌, ◌≤◌, Lis
 use Rattle.std.proofs.Math.Nat.{mul-le-mul}
 use Rattle.std.proofs.lemmas.Bool.{false≢true}
 use Rattle.im_history.specs.declared.entry.Entry.{Entry}
-use Rattle.im_history.specs.declared.entry.Priority.{Priority}
+use Rattle.im_values.specs.declared.priority.Priority.{Priority}
 use Rattle.im_history.specs.declared.entry.What.{What}
 use Rattle.im_history.specs.declared.entry.What.TheVariants.{Create, Memory}
 use Rattle.im_history.specs.declared.limits.Limits.{Limits}

@@ -3,7 +3,7 @@ ghost use Rattle.im_history.specs.Commits.{moves_clock};
 
 use crate::change::Changes;
 use crate::shape::Shape;
-use im_values::{Name, Schema};
+use im_values::{Name, Priority, Schema};
 
 /// The isolation of a transaction.
 #[derive(Clone, Copy, Debug, PartialEq, Eq)]
@@ -14,17 +14,6 @@ pub enum Mode {
     Serializable,
     /// READ ONLY: as SERIALIZABLE, and nothing is written.
     ReadOnly,
-}
-
-/// How soon a table's extents are populated in memory.
-#[derive(Clone, Copy, Debug, PartialEq, Eq)]
-pub enum Priority {
-    Critical,
-    High,
-    Medium,
-    Low,
-    /// Only once the table was scanned.
-    None,
 }
 
 /// What an entry of the history records.

@@ -22,7 +22,8 @@ mod unit;
 mod view;
 
 pub use change::{Change, Changes};
-pub use entry::{Entry, Mode, Priority, What};
+pub use entry::{Entry, Mode, What};
+pub use im_values::Priority;
 pub use limits::Limits;
 pub use look::{Catalog, Look, TableInfo};
 pub use refused::{Refused, Why};

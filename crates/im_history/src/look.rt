@@ -2,9 +2,9 @@ ghost use Rattle.std.specs.Prelude.{◌≡◌, ◌<◌, ◌≤◌, [], ◌∷◌
 ghost use Rattle.std.specs.List.{position};
 ghost use Rattle.im_history.specs.Tables.{is_named, number_among, remembered};
 
-use crate::entry::{Mode, Priority};
+use crate::entry::Mode;
 use crate::shape::Shape;
-use im_values::{Name, NoMemory, Schema};
+use im_values::{Name, NoMemory, Priority, Schema};
 use std::alloc::Global;
 use std::marker::Model;
 use std::sync::Arc;

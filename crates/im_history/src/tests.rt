@@ -52,10 +52,10 @@ fn changes_are_copied_with_memory_at_hand(rt: HostRuntime) -> Result<(), Fail> {
     let mut list = Vec::new(rt.alloc());
     list.push(put.copy(rt.alloc())?)?;
     let changes = Changes::of(list);
-    assert_eq!(rt; changes.as_slice().len(), 1);
+    assert_eq!(rt; changes.items().len(), 1);
     assert!(rt;
         changes
-            .into_list()
+            .into_items()
             .as_slice()
             .iter()
             .all(|change| change.rid == 3 && change.row.is_some())

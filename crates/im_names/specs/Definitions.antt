@@ -7,12 +7,10 @@ use Rattle.im_values.specs.declared.schema.Column.{Column}
 use Rattle.im_syntax.specs.declared.table.KindWord.{KindWord}
 use Rattle.im_syntax.specs.declared.table.KindWord.TheVariants as word
 use Rattle.im_syntax.specs.declared.table.ColumnPart.{ColumnPart}
-use Rattle.im_syntax.specs.declared.table.Level.{Level}
-use Rattle.im_syntax.specs.declared.table.Level.TheVariants as level
 use Rattle.im_syntax.specs.declared.table.MemoryPart.{MemoryPart}
 use Rattle.im_history.specs.Grid.{Grid}
-use Rattle.im_history.specs.declared.entry.Priority.{Priority}
-use Rattle.im_history.specs.declared.entry.Priority.TheVariants as priority
+use Rattle.im_values.specs.declared.priority.Priority.{Priority}
+use Rattle.im_values.specs.declared.priority.Priority.TheVariants as priority
 
 -- NUMBER and INTEGER are both numbers
 abbrev pub kind_of : KindWord → Kind
@@ -30,13 +28,6 @@ column_name c = c.name
 abbrev pub shape_of : Option ℕ → Option ℕ → Grid
 shape_of block extent = record { block = unwrap_or block 32; extent = unwrap_or extent 64 }
 
-abbrev pub level_of : Level → Priority
-level_of level.Critical = priority.Critical
-level_of level.High = priority.High
-level_of level.Medium = priority.Medium
-level_of level.Low = priority.Low
-level_of level.None = priority.None
-
 -- an INMEMORY clause without PRIORITY has the priority NONE
 abbrev pub priority_of : MemoryPart → Priority
-priority_of m = unwrap_or (option_map level_of m.level) priority.None
+priority_of m = unwrap_or m.level priority.None

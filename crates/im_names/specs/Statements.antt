@@ -6,7 +6,7 @@ use Rattle.im_syntax.specs.declared.statement.Stmt.TheVariants as stmt
 use Rattle.im_syntax.specs.declared.query.Query.{Query}
 use Rattle.im_syntax.specs.declared.table.ColumnPart.{ColumnPart}
 use Rattle.im_syntax.specs.declared.table.MemoryPart.{MemoryPart}
-use Rattle.im_history.specs.declared.entry.Priority.{Priority}
+use Rattle.im_values.specs.declared.priority.Priority.{Priority}
 use Rattle.im_syntax.specs.declared.bound.Bound.{Bound}
 use Rattle.im_history.specs.declared.look.TableInfo.{TableInfo}
 use Rattle.im_history.specs.declared.entry.Mode.TheVariants as mode

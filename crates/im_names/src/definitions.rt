@@ -4,7 +4,7 @@ ghost use Rattle.im_history.specs.Grid.{IsInRange};
 ghost use Rattle.im_names.specs.Definitions as spec;
 
 use im_history::{Priority, Shape};
-use im_syntax::{ColumnPart, KindWord, Level, MemoryPart};
+use im_syntax::{ColumnPart, KindWord, MemoryPart};
 use im_values::{Column, Kind, NoMemory, Schema};
 use std::alloc::Global;
 
@@ -46,26 +46,11 @@ pub fn shape_of(block: Option<u32>, extent: Option<u32>) -> Shape
     )
 }
 
-fn level_of(level: Level) -> Priority
-    ensures { result ≡ spec.level_of level }
-{
-    match level {
-        Level::Critical => Priority::Critical,
-        Level::High => Priority::High,
-        Level::Medium => Priority::Medium,
-        Level::Low => Priority::Low,
-        Level::None => Priority::None,
-    }
-}
-
 /// The priority of an INMEMORY clause.
 pub fn priority_of(memory: MemoryPart) -> Priority
     ensures { result ≡ spec.priority_of memory }
 {
-    match memory.level {
-        Some(level) => level_of(level),
-        None => Priority::None,
-    }
+    memory.level.unwrap_or(Priority::None)
 }
 
 /// The priority of an INMEMORY clause that may be absent.

@@ -11,8 +11,8 @@ use crate::columns::{check_all_known, check_known, number_of, width_of};
 use crate::conditions::{bind_where, check_where};
 use crate::fault::NameFault;
 use crate::literals::check_summed;
-use im_syntax::{Bound, Item, ItemPart, Key, KeyPart, ListPart, Parts, Query, Way};
-use im_values::{Name, NoMemory, Schema};
+use im_syntax::{Bound, Item, ItemPart, Key, KeyPart, ListPart, Query, Way};
+use im_values::{List, Name, NoMemory, Schema};
 use std::alloc::Global;
 
 /// A part of a query that has an item: the item itself, or a key.
@@ -107,7 +107,7 @@ fn bind_item(alloc: Global, schema: &Schema, item: &ItemPart) -> Result<Item, Na
     }
 }
 
-fn bind_items(alloc: Global, schema: &Schema, items: &[ItemPart]) -> Result<Parts<Item>, NameFault>
+fn bind_items(alloc: Global, schema: &Schema, items: &[ItemPart]) -> Result<List<Item>, NameFault>
     ensures ok { IfOk result (λ xs. Passes
         (first_fault (map (spec.item_fault schema.now) items.now))
         (xs ≡ map (spec.item_of schema.now) items.now)) }
@@ -117,20 +117,20 @@ fn bind_items(alloc: Global, schema: &Schema, items: &[ItemPart]) -> Result<Part
     for item in items {
         bound.push(bind_item(alloc, schema, item)?)?;
     }
-    Ok(Parts::of(bound))
+    Ok(List::of(bound))
 }
 
-fn all_columns(alloc: Global, width: u32) -> Result<Parts<Item>, NoMemory>
+fn all_columns(alloc: Global, width: u32) -> Result<List<Item>, NoMemory>
     ensures { IfOk result (λ xs. xs ≡ map bound_item.Column (range_with_len 0 width)) }
 {
     let mut items = Vec::with_capacity(alloc, width as usize)?;
     for number in 0..width {
         items.push(Item::Column(number))?;
     }
-    Ok(Parts::of(items))
+    Ok(List::of(items))
 }
 
-fn bind_list(alloc: Global, schema: &Schema, list: &ListPart) -> Result<Parts<Item>, NameFault>
+fn bind_list(alloc: Global, schema: &Schema, list: &ListPart) -> Result<List<Item>, NameFault>
     ensures ok { IfOk result (λ xs. Passes
         (first_fault (map (spec.item_fault schema.now) (spec.items_of list.now)))
         (xs ≡ spec.list_of schema.now list.now)) }
@@ -160,7 +160,7 @@ fn bind_key(alloc: Global, schema: &Schema, key: &KeyPart) -> Result<Key, NameFa
     })
 }
 
-fn bind_keys(alloc: Global, schema: &Schema, keys: &[KeyPart]) -> Result<Parts<Key>, NameFault>
+fn bind_keys(alloc: Global, schema: &Schema, keys: &[KeyPart]) -> Result<List<Key>, NameFault>
     ensures ok { IfOk result (λ xs. Passes
         (first_fault (map (spec.item_fault schema.now) (map spec.key_item keys.now)))
         (xs ≡ map (spec.key_of schema.now) keys.now)) }
@@ -171,17 +171,17 @@ fn bind_keys(alloc: Global, schema: &Schema, keys: &[KeyPart]) -> Result<Parts<K
     for key in keys {
         bound.push(bind_key(alloc, schema, key)?)?;
     }
-    Ok(Parts::of(bound))
+    Ok(List::of(bound))
 }
 
-fn bind_groups(alloc: Global, schema: &Schema, groups: &[Name]) -> Result<Parts<u32>, NoMemory>
+fn bind_groups(alloc: Global, schema: &Schema, groups: &[Name]) -> Result<List<u32>, NoMemory>
     ensures { IfOk result (λ xs. xs ≡ map (number schema.now) groups.now) }
 {
     let mut bound = Vec::with_capacity(alloc, groups.len())?;
     for name in groups {
         bound.push(number_of(schema, name))?;
     }
-    Ok(Parts::of(bound))
+    Ok(List::of(bound))
 }
 
 // ---- grouping

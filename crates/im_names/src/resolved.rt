@@ -1,6 +1,6 @@
 use im_history::{Mode, Priority, Shape};
-use im_syntax::{Bound, Filter, Parts};
-use im_values::{Name, Row, Schema, Value};
+use im_syntax::{Bound, Filter};
+use im_values::{List, Name, Row, Schema, Value};
 
 /// A statement whose names are numbers: of a table from 1 on in the order of creation, and of a column from 0 on.
 #[derive(Debug, Drop)]
@@ -22,12 +22,12 @@ pub enum Resolved {
     /// Each row has a value for each column of the table.
     Insert {
         table: u32,
-        rows: Parts<Row>,
+        rows: List<Row>,
     },
     Update {
         table: u32,
         filter: Option<Filter>,
-        sets: Parts<(u32, Value)>,
+        sets: List<(u32, Value)>,
     },
     Delete {
         table: u32,

@@ -7,8 +7,8 @@ ghost use Rattle.im_names.specs.Rows as spec;
 use crate::columns::{number_of, width_of};
 use crate::fault::NameFault;
 use crate::literals::{check_stored, value_of};
-use im_syntax::{Lit, Parts};
-use im_values::{Name, NoMemory, Row, Schema, Value};
+use im_syntax::Lit;
+use im_values::{List, Name, NoMemory, Row, Schema, Value};
 use std::alloc::Global;
 
 // ---- INSERT
@@ -59,7 +59,7 @@ fn check_count(tuple: &[Lit], wanted: usize) -> Result<(), NameFault>
 }
 
 /// Tuples of so many values each.
-pub fn check_counts(tuples: &[Parts<Lit>], wanted: usize) -> Result<(), NameFault>
+pub fn check_counts(tuples: &[List<Lit>], wanted: usize) -> Result<(), NameFault>
     ensures ok { OnOk result (first_fault (map (spec.count_fault wanted) tuples.now) ≡ None) }
     ensures err { IfErr result (IsCause (first_fault (map (spec.count_fault wanted) tuples.now))) }
 {
@@ -153,8 +153,8 @@ pub fn rows_of(
     schema: &Schema,
     numbers: &[u32],
     sources: &[Option<usize>],
-    tuples: &[Parts<Lit>],
-) -> Result<Parts<Row>, NameFault>
+    tuples: &[List<Lit>],
+) -> Result<List<Row>, NameFault>
     ensures ok { IfOk result (λ rows. Passes
         (first_fault (map (spec.tuple_fault schema.now numbers.now) tuples.now))
         (rows ≡ map (λ tuple. map (spec.taken tuple) sources.now) tuples.now)) }
@@ -165,7 +165,7 @@ pub fn rows_of(
         check_tuple(alloc, schema, numbers, tuple.items())?;
         rows.push(row_of(alloc, sources, tuple.items())?)?;
     }
-    Ok(Parts::of(rows))
+    Ok(List::of(rows))
 }
 
 // ---- UPDATE
@@ -191,7 +191,7 @@ pub fn bind_sets(
     alloc: Global,
     schema: &Schema,
     sets: &[(Name, Lit)],
-) -> Result<Parts<(u32, Value)>, NameFault>
+) -> Result<List<(u32, Value)>, NameFault>
     ensures ok { IfOk result (λ bound. Passes
         (first_fault (map (spec.set_fault schema.now) sets.now))
         (bound ≡ map (spec.set_of schema.now) sets.now)) }
@@ -201,5 +201,5 @@ pub fn bind_sets(
     for (name, lit) in sets {
         bound.push(bind_set(alloc, schema, name, lit)?)?;
     }
-    Ok(Parts::of(bound))
+    Ok(List::of(bound))
 }

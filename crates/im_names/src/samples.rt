@@ -5,10 +5,10 @@ ghost use Rattle.im_syntax.specs.Rules.{IsItem, IsList, IsKey, IsWhere, IsTuple,
 
 use im_history::{Catalog, Look, Mode, Shape, TableInfo};
 use im_syntax::{
-    ColumnPart, Cond, Conj, ItemPart, KeyPart, KindWord, ListPart, Lit, Parts, Query, Stmt, Term,
+    ColumnPart, Cond, Conj, ItemPart, KeyPart, KindWord, ListPart, Lit, Query, Stmt, Term,
     TermForm, Way, is_name,
 };
-use im_values::{Cmp, Column, Kind, Name, Schema};
+use im_values::{Cmp, Column, Kind, List, Name, Schema};
 use std::alloc::Global;
 use std::test::Fail;
 
@@ -99,36 +99,36 @@ fn list(alloc: Global, part: Option<Part>) -> Result<ListPart, Fail>
     ensures { IfOk result IsList }
 {
     match part {
-        Some(part) => Ok(ListPart::Items(Parts::of(vec![in alloc; item(alloc, part)?]?))),
+        Some(part) => Ok(ListPart::Items(List::of(vec![in alloc; item(alloc, part)?]?))),
         None => Ok(ListPart::Star),
     }
 }
 
-fn keys(alloc: Global, part: Option<Part>) -> Result<Parts<KeyPart>, Fail>
+fn keys(alloc: Global, part: Option<Part>) -> Result<List<KeyPart>, Fail>
     ensures { IfOk result (AllByRecursion IsKey) }
 {
     let Some(part) = part else {
-        return Ok(Parts::of(Vec::new(alloc)));
+        return Ok(List::of(Vec::new(alloc)));
     };
     let key = KeyPart {
         item: item(alloc, part)?,
         way: Way::Unsaid,
     };
-    Ok(Parts::of(vec![in alloc; key]?))
+    Ok(List::of(vec![in alloc; key]?))
 }
 
-fn names(alloc: Global, first: Option<&[u8]>, second: Option<&[u8]>) -> Result<Parts<Name>, Fail>
+fn names(alloc: Global, first: Option<&[u8]>, second: Option<&[u8]>) -> Result<List<Name>, Fail>
     ensures { IfOk result (AllByRecursion IsName) }
 {
     let Some(first) = first else {
-        return Ok(Parts::of(Vec::new(alloc)));
+        return Ok(List::of(Vec::new(alloc)));
     };
     let first = name(alloc, first)?;
     let Some(second) = second else {
-        return Ok(Parts::of(vec![in alloc; first]?));
+        return Ok(List::of(vec![in alloc; first]?));
     };
     let second = name(alloc, second)?;
-    Ok(Parts::of(vec![in alloc; first, second]?))
+    Ok(List::of(vec![in alloc; first, second]?))
 }
 
 fn condition(alloc: Global, pair: Option<Pair>) -> Result<Option<Cond>, Fail>
@@ -146,11 +146,11 @@ fn condition(alloc: Global, pair: Option<Pair>) -> Result<Option<Cond>, Fail>
     Ok(Some(Cond::of(vec![in alloc; conj]?)))
 }
 
-fn tuple(alloc: Global, first: Given, second: Given) -> Result<Parts<Lit>, Fail>
+fn tuple(alloc: Global, first: Given, second: Given) -> Result<List<Lit>, Fail>
     ensures { IfOk result IsTuple }
 {
     let (first, second) = (literal(alloc, first)?, literal(alloc, second)?);
-    Ok(Parts::of(vec![in alloc; first, second]?))
+    Ok(List::of(vec![in alloc; first, second]?))
 }
 
 fn set(alloc: Global, pair: Pair) -> Result<(Name, Lit), Fail>
@@ -191,15 +191,15 @@ pub fn insert(
     let columns = names(alloc, columns.0, columns.1)?;
     let first = tuple(alloc, values.0, values.1)?;
     let Some(last) = values.2 else {
-        let tuples = Parts::of(vec![in alloc; first]?);
+        let tuples = List::of(vec![in alloc; first]?);
         return Ok(Stmt::Insert {
             name,
             columns,
             tuples,
         });
     };
-    let last = Parts::of(vec![in alloc; literal(alloc, last)?]?);
-    let tuples = Parts::of(vec![in alloc; first, last]?);
+    let last = List::of(vec![in alloc; literal(alloc, last)?]?);
+    let tuples = List::of(vec![in alloc; first, last]?);
     Ok(Stmt::Insert {
         name,
         columns,
@@ -219,11 +219,11 @@ pub fn update(
     let first = set(alloc, parts.0)?;
     let cond = condition(alloc, parts.2)?;
     let Some(last) = parts.1 else {
-        let sets = Parts::of(vec![in alloc; first]?);
+        let sets = List::of(vec![in alloc; first]?);
         return Ok(Stmt::Update { name, sets, cond });
     };
     let last = set(alloc, last)?;
-    let sets = Parts::of(vec![in alloc; first, last]?);
+    let sets = List::of(vec![in alloc; first, last]?);
     Ok(Stmt::Update { name, sets, cond })
 }
 
@@ -253,7 +253,7 @@ pub fn create(alloc: Global, first: &[u8], second: &[u8]) -> Result<Stmt, Fail>
     let (first, second) = (number_column(alloc, first)?, number_column(alloc, second)?);
     Ok(Stmt::Create {
         name: name(alloc, b"U")?,
-        columns: Parts::of(vec![in alloc; first, second]?),
+        columns: List::of(vec![in alloc; first, second]?),
         block: None,
         extent: None,
         memory: None,

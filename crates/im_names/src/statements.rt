@@ -18,8 +18,8 @@ use crate::resolved::Resolved;
 use crate::rows::{bind_sets, check_counts, rows_of, sources, targets};
 use crate::tables::table_called;
 use im_history::{Look, Mode, Priority, TableInfo};
-use im_syntax::{Bound, ColumnPart, Cond, Lit, MemoryPart, Parts, Query, Stmt};
-use im_values::{Name, Schema};
+use im_syntax::{Bound, ColumnPart, Cond, Lit, MemoryPart, Query, Stmt};
+use im_values::{List, Name, Schema};
 use std::alloc::Global;
 
 fn resolve_query(alloc: Global, tables: &[TableInfo], query: &Query) -> Result<Bound, NameFault>
@@ -69,7 +69,7 @@ fn bind_insert(
     table: u32,
     schema: &Schema,
     names: &[Name],
-    tuples: &[Parts<Lit>],
+    tuples: &[List<Lit>],
 ) -> Result<Resolved, NameFault>
     ensures ok { IfOk result (λ r. Passes
         (insert_fault schema.now names.now tuples.now)
@@ -89,7 +89,7 @@ fn resolve_insert(
     tables: &[TableInfo],
     name: &Name,
     names: &[Name],
-    tuples: &[Parts<Lit>],
+    tuples: &[List<Lit>],
 ) -> Result<Resolved, NameFault>
     ensures ok { IfOk result (λ r. answer tables.now (form.Insert name.now names.now tuples.now) ≡ Ok r) }
     ensures err { IfErr result (IsErr (answer tables.now (form.Insert name.now names.now tuples.now))) }

@@ -15,8 +15,8 @@ use Rattle.im_syntax.specs.declared.token.Token.TheVariants as token
 use Rattle.im_syntax.specs.declared.token.Sign.TheVariants as sign
 use Rattle.im_syntax.specs.declared.literal.Lit.{Lit}
 use Rattle.im_syntax.specs.declared.literal.Lit.TheVariants as lit
-use Rattle.im_syntax.specs.declared.table.Level.{Level}
-use Rattle.im_syntax.specs.declared.table.Level.TheVariants as level
+use Rattle.im_values.specs.declared.priority.Priority.{Priority}
+use Rattle.im_values.specs.declared.priority.Priority.TheVariants as level
 use Rattle.im_syntax.specs.Keywords.{text_of}
 use Rattle.im_syntax.specs.Words.{IsName}
 use Rattle.im_syntax.specs.Rules.{IsWithin}
@@ -210,7 +210,7 @@ cmp_law = one_law (record { some = cmp.Eq; some_good = tt; sound = cmp_sound; wh
 
 -- ---- levels
 
-abbrev pub level_token : Level → Token
+abbrev pub level_token : Priority → Token
 level_token l = word (level_word l)
 
 -- a keyword that stands for a value, or the next choice
@@ -222,7 +222,7 @@ chosen_word {A} token_of k t x a others spells next e = go (is_key k t) refl e
     go true is found = let same : x ≡ a = cc in key_only k t is ∙ sym spells ∙ ap token_of same
     go false is found = next found
 
-level_sound : (t : Token) (a : Level) → level_of t ≡ Some a → (t ≡ level_token a) × Unit {0}
+level_sound : (t : Token) (a : Priority) → level_of t ≡ Some a → (t ≡ level_token a) × Unit {0}
 level_sound t a e = (
   chosen_word level_token key.Critical t level.Critical a _ refl
       (chosen_word level_token key.High t level.High a _ refl
@@ -232,7 +232,7 @@ level_sound t a e = (
   tt,
 )
 
-level_whole : (a : Level) → Unit {0} → level_of (level_token a) ≡ Some a
+level_whole : (a : Priority) → Unit {0} → level_of (level_token a) ≡ Some a
 level_whole level.Critical u = refl
 level_whole level.High u = refl
 level_whole level.Medium u = refl

@@ -12,7 +12,7 @@ use Rattle.im_syntax.specs.declared.token.Sign.TheVariants as sign
 use Rattle.im_syntax.specs.declared.table.KindWord.{KindWord}
 use Rattle.im_syntax.specs.declared.table.KindWord.TheVariants as kind
 use Rattle.im_syntax.specs.declared.table.ColumnPart.{ColumnPart}
-use Rattle.im_syntax.specs.declared.table.Level.{Level}
+use Rattle.im_values.specs.declared.priority.Priority.{Priority}
 use Rattle.im_syntax.specs.declared.table.MemoryPart.{MemoryPart}
 use Rattle.im_syntax.specs.Rules.{IsWithin, IsKind, IsColumn}
 use Rattle.im_syntax.specs.Spelling.{word, comma, number, in_parens, spell_kind, spell_column, level_word, spell_compress, spell_memory, spell_option}
@@ -133,17 +133,17 @@ compress_law =
     (λ u g. begins_with (word key.MemCompress) _ refl))
     (λ o g. tt) compress_back compress_spells compress_goes
 
-abbrev spell_priority : Option Level → List Token
+abbrev spell_priority : Option Priority → List Token
 spell_priority = spell_optional (λ l. word key.Priority ∷ word (level_word l) ∷ [])
 
-abbrev goes_priority : Option Level → Token → Bool
+abbrev goes_priority : Option Priority → Token → Bool
 goes_priority = goes_optional (is_key key.Priority) never
 
 priority_law : Reads spell_priority (GoodOptional Any) goes_priority priority_at
 unfolding priority_at
 priority_law = optional_law (is_key key.Priority) (after_word_law key.Priority level_law) (λ l g. begins_with (word key.Priority) (word (level_word l) ∷ []) refl)
 
-compress_apart : (b : Bool) (o : Option Level) → Ends (goes_compress b) (spell_priority o)
+compress_apart : (b : Bool) (o : Option Priority) → Ends (goes_compress b) (spell_priority o)
 compress_apart b None = at_end
 compress_apart true (Some l) = at_other (word key.Priority) (word (level_word l) ∷ []) refl
 compress_apart false (Some l) = at_other (word key.Priority) (word (level_word l) ∷ []) refl
@@ -151,7 +151,7 @@ compress_apart false (Some l) = at_other (word key.Priority) (word (level_word l
 abbrev pub goes_memory : MemoryPart → Token → Bool
 goes_memory m = goes_both spell_priority goes_compress goes_priority (m.compress, m.level)
 
-any_level : (o : Option Level) → GoodOptional Any o
+any_level : (o : Option Priority) → GoodOptional Any o
 any_level None = tt
 any_level (Some l) = tt
 

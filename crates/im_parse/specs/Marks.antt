@@ -11,8 +11,8 @@ use Rattle.im_syntax.specs.declared.token.Token.TheVariants as token
 use Rattle.im_syntax.specs.declared.token.Sign.TheVariants as sign
 use Rattle.im_syntax.specs.declared.literal.Lit.{Lit}
 use Rattle.im_syntax.specs.declared.literal.Lit.TheVariants as lit
-use Rattle.im_syntax.specs.declared.table.Level.{Level}
-use Rattle.im_syntax.specs.declared.table.Level.TheVariants as level
+use Rattle.im_values.specs.declared.priority.Priority.{Priority}
+use Rattle.im_values.specs.declared.priority.Priority.TheVariants as level
 use Rattle.im_syntax.specs.Keywords.{text_of}
 use Rattle.im_syntax.specs.Words.{is_word}
 
@@ -108,7 +108,7 @@ lit_of (token.Int n) = Some (lit.Int n)
 lit_of (token.Text t) = Some (lit.Text t)
 lit_of (token.Sign s) = None
 
-abbrev pub level_of : Token → Option Level
+abbrev pub level_of : Token → Option Priority
 level_of t =
     cond (is_key key.Critical t) (Some level.Critical)
     (cond (is_key key.High t) (Some level.High)
@@ -133,7 +133,7 @@ lit_at = one lit_of
 unfoldable pub cmp_at : List Token → Read Token Cmp
 cmp_at = one cmp_of
 
-unfoldable pub level_at : List Token → Read Token Level
+unfoldable pub level_at : List Token → Read Token Priority
 level_at = one level_of
 
 -- a value behind a keyword, and a value before one

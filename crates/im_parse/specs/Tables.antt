@@ -7,7 +7,7 @@ use Rattle.im_syntax.specs.declared.token.Token.{Token}
 use Rattle.im_syntax.specs.declared.table.KindWord.{KindWord}
 use Rattle.im_syntax.specs.declared.table.KindWord.TheVariants as kind
 use Rattle.im_syntax.specs.declared.table.ColumnPart.{ColumnPart}
-use Rattle.im_syntax.specs.declared.table.Level.{Level}
+use Rattle.im_values.specs.declared.priority.Priority.{Priority}
 use Rattle.im_syntax.specs.declared.table.MemoryPart.{MemoryPart}
 use Rattle.im_syntax.specs.declared.statement.Stmt.{Stmt}
 use Rattle.im_syntax.specs.declared.statement.Stmt.TheVariants as stmt
@@ -52,10 +52,10 @@ columns_at = after is_left (before (joined_up_to 15 is_comma column_at) is_right
 unfoldable pub compress_at : List Token → Read Token Bool
 compress_at = made is_some (optional (is_key key.MemCompress) (after_word key.MemCompress (after_word key.For (after_word key.Query (word_at key.Low)))))
 
-unfoldable pub priority_at : List Token → Read Token (Option Level)
+unfoldable pub priority_at : List Token → Read Token (Option Priority)
 priority_at = optional (is_key key.Priority) (after_word key.Priority level_at)
 
-abbrev pub memory_of : Bool × Option Level → MemoryPart
+abbrev pub memory_of : Bool × Option Priority → MemoryPart
 memory_of x = record { compress = x.0; level = x.1 }
 
 unfoldable pub memory_at : List Token → Read Token MemoryPart

@@ -10,8 +10,8 @@ use crate::marks::{begins, is_comma, is_key, left_paren, name, peek, right_paren
 use crate::query_kinds::{kind_of_item, kind_of_star};
 use crate::values::Names;
 use im_readers::{Halt, Part, list};
-use im_syntax::{Cond, ItemPart, KeyPart, Keyword, ListPart, Parts, Query, Token, Way};
-use im_values::Name;
+use im_syntax::{Cond, ItemPart, KeyPart, Keyword, ListPart, Query, Token, Way};
+use im_values::{List, Name};
 use std::alloc::Global;
 
 /// How deep NOT and parentheses may nest in a condition.
@@ -160,7 +160,7 @@ fn select_list(alloc: Global, tokens: &[Token]) -> Result<(ListPart, &[Token]), 
         }
         StarKind::Other => {
             let (items, rest) = list(alloc, &Items, tokens)?;
-            Ok((ListPart::Items(Parts::of(items)), rest))
+            Ok((ListPart::Items(List::of(items)), rest))
         }
     }
 }
@@ -180,30 +180,30 @@ pub fn where_part(alloc: Global, tokens: &[Token]) -> Result<(Option<Cond>, &[To
 
 /// GROUP BY and its columns, where it is written.
 #[tactic(auto, unfolding(crate::specs::Queries::groups_at))]
-fn group_by(alloc: Global, tokens: &[Token]) -> Result<(Parts<Name>, &[Token]), Halt>
+fn group_by(alloc: Global, tokens: &[Token]) -> Result<(List<Name>, &[Token]), Halt>
     ensures { Gives (λ x. Found x.0 x.1.now) result (queries.groups_at tokens.now) }
 {
     if !begins(tokens, Keyword::Group) {
-        return Ok((Parts::of(Vec::new(alloc)), tokens));
+        return Ok((List::of(Vec::new(alloc)), tokens));
     }
     let rest = word(tokens, Keyword::Group)?;
     let rest = word(rest, Keyword::By)?;
     let (names, rest) = list(alloc, &Names, rest)?;
-    Ok((Parts::of(names), rest))
+    Ok((List::of(names), rest))
 }
 
 /// ORDER BY and its keys, where it is written.
 #[tactic(auto, unfolding(crate::specs::Queries::keys_at))]
-fn order_by(alloc: Global, tokens: &[Token]) -> Result<(Parts<KeyPart>, &[Token]), Halt>
+fn order_by(alloc: Global, tokens: &[Token]) -> Result<(List<KeyPart>, &[Token]), Halt>
     ensures { Gives (λ x. Found x.0 x.1.now) result (queries.keys_at tokens.now) }
 {
     if !begins(tokens, Keyword::Order) {
-        return Ok((Parts::of(Vec::new(alloc)), tokens));
+        return Ok((List::of(Vec::new(alloc)), tokens));
     }
     let rest = word(tokens, Keyword::Order)?;
     let rest = word(rest, Keyword::By)?;
     let (keys, rest) = list(alloc, &Keys, rest)?;
-    Ok((Parts::of(keys), rest))
+    Ok((List::of(keys), rest))
 }
 
 /// A query, with each clause in its place.

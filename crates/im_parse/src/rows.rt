@@ -9,15 +9,15 @@ use crate::marks::{equals, is_comma, is_left_paren, left_paren, lit, name, right
 use crate::queries::where_part;
 use crate::values::{Names, tuple};
 use im_readers::{Halt, Part, list};
-use im_syntax::{Keyword, Lit, Parts, Stmt, Token};
-use im_values::Name;
+use im_syntax::{Keyword, Lit, Stmt, Token};
+use im_values::{List, Name};
 use std::alloc::Global;
 
 /// Tuples in a list.
 struct Tuples;
 
 impl Part<Token> for Tuples {
-    type Value = Parts<Lit>;
+    type Value = List<Lit>;
 
     ghost marks = { marks.is_comma };
 
@@ -31,7 +31,7 @@ impl Part<Token> for Tuples {
         &self,
         alloc: Global,
         tokens: &'a [Token],
-    ) -> Result<(Parts<Lit>, &'a [Token]), Halt> {
+    ) -> Result<(List<Lit>, &'a [Token]), Halt> {
         tuple(alloc, tokens)
     }
 }
@@ -82,16 +82,16 @@ fn begins_list(tokens: &[Token]) -> bool
 
 /// The columns of an INSERT in parentheses, where they are written.
 #[tactic(auto, unfolding(crate::specs::Statements::insert_columns_at))]
-fn insert_columns(alloc: Global, tokens: &[Token]) -> Result<(Parts<Name>, &[Token]), Halt>
+fn insert_columns(alloc: Global, tokens: &[Token]) -> Result<(List<Name>, &[Token]), Halt>
     ensures { Gives (λ x. Found x.0 x.1.now) result (statements.insert_columns_at tokens.now) }
 {
     if !begins_list(tokens) {
-        return Ok((Parts::of(Vec::new(alloc)), tokens));
+        return Ok((List::of(Vec::new(alloc)), tokens));
     }
     let rest = left_paren(tokens)?;
     let (names, rest) = list(alloc, &Names, rest)?;
     let rest = right_paren(rest)?;
-    Ok((Parts::of(names), rest))
+    Ok((List::of(names), rest))
 }
 
 /// INSERT.
@@ -109,7 +109,7 @@ pub fn insert(alloc: Global, tokens: &[Token]) -> Result<(Stmt, &[Token]), Halt>
         Stmt::Insert {
             name,
             columns,
-            tuples: Parts::of(tuples),
+            tuples: List::of(tuples),
         },
         rest,
     ))
@@ -128,7 +128,7 @@ pub fn update(alloc: Global, tokens: &[Token]) -> Result<(Stmt, &[Token]), Halt>
     Ok((
         Stmt::Update {
             name,
-            sets: Parts::of(sets),
+            sets: List::of(sets),
             cond,
         },
         rest,

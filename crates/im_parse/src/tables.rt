@@ -8,7 +8,8 @@ use crate::kinds::{AlterKind, ColumnKind};
 use crate::marks::{begins, is_comma, left_paren, level, name, number, peek, right_paren, word};
 use crate::table_kinds::{kind_of_alter, kind_of_column};
 use im_readers::{Halt, Part, list_up_to};
-use im_syntax::{ColumnPart, Keyword, KindWord, Level, MemoryPart, Parts, Stmt, Token};
+use im_syntax::{ColumnPart, Keyword, KindWord, Level, MemoryPart, Stmt, Token};
+use im_values::List;
 use std::alloc::Global;
 
 /// The length of a VARCHAR2, in bytes.
@@ -80,13 +81,13 @@ fn column(alloc: Global, tokens: &[Token]) -> Result<(ColumnPart, &[Token]), Hal
 
 /// 1 to 16 columns in parentheses.
 #[tactic(auto, unfolding(crate::specs::Tables::columns_at))]
-fn column_list(alloc: Global, tokens: &[Token]) -> Result<(Parts<ColumnPart>, &[Token]), Halt>
+fn column_list(alloc: Global, tokens: &[Token]) -> Result<(List<ColumnPart>, &[Token]), Halt>
     ensures { Gives (λ x. Found x.0 x.1.now) result (tables.columns_at tokens.now) }
 {
     let rest = left_paren(tokens)?;
     let (columns, rest) = list_up_to(alloc, &Columns, 15, rest)?;
     let rest = right_paren(rest)?;
-    Ok((Parts::of(columns), rest))
+    Ok((List::of(columns), rest))
 }
 
 /// MEMCOMPRESS FOR QUERY LOW, where it is written.

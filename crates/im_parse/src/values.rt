@@ -7,8 +7,8 @@ ghost use Rattle.im_parse.specs.Conditions.{tuple_at};
 
 use crate::marks::{is_comma, left_paren, lit, name, right_paren};
 use im_readers::{Halt, Part, list};
-use im_syntax::{Lit, Parts, Token};
-use im_values::Name;
+use im_syntax::{Lit, Token};
+use im_values::{List, Name};
 use std::alloc::Global;
 
 /// Names in a list.
@@ -51,11 +51,11 @@ impl Part<Token> for Lits {
 
 /// Literals in parentheses: a tuple, or the list behind IN.
 #[tactic(auto, unfolding(crate::specs::Conditions::tuple_at))]
-pub fn tuple(alloc: Global, tokens: &[Token]) -> Result<(Parts<Lit>, &[Token]), Halt>
+pub fn tuple(alloc: Global, tokens: &[Token]) -> Result<(List<Lit>, &[Token]), Halt>
     ensures { Gives (λ x. Found x.0 x.1.now) result (tuple_at tokens.now) }
 {
     let rest = left_paren(tokens)?;
     let (values, rest) = list(alloc, &Lits, rest)?;
     let rest = right_paren(rest)?;
-    Ok((Parts::of(values), rest))
+    Ok((List::of(values), rest))
 }

@@ -1,8 +1,8 @@
 use crate::fault::Fault;
-use crate::listing::Listing;
 use crate::records::Records;
 use crate::served::How;
 use crate::task::{Built, Ending};
+use im_values::List;
 
 /// What a reply says.
 #[derive(Debug, Drop)]
@@ -86,10 +86,10 @@ pub enum Body {
         /// The SCN that was read at.
         scn: u64,
         /// Each extent's number and what it was served by, in rising order.
-        served: Listing<(u64, How)>,
+        served: List<(u64, How)>,
     },
     /// RUN built what there was to build: each task with its end, in order. After them it was idle.
-    Ran(Listing<(Built, Ending)>),
+    Ran(List<(Built, Ending)>),
     /// BEGIN began a build and holds it.
     Build(Built),
     /// BEGIN found nothing to build.

@@ -17,7 +17,6 @@
 mod body;
 mod faces;
 mod fault;
-mod listing;
 mod parts;
 mod pinned;
 mod records;
@@ -29,7 +28,6 @@ mod task;
 pub use body::Body;
 pub use faces::Face;
 pub use fault::Fault;
-pub use listing::Listing;
 pub use parts::part;
 pub use pinned::{face, how};
 pub use records::Records;

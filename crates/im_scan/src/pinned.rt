@@ -27,7 +27,7 @@ pub fn how(pin: &Pin<ColumnUnit>, _bound: &Bound) -> How
     match &pin.unit {
         Some(unit) => How::Unit {
             scn: unit.scn(),
-            stale: pin.fetched.as_slice().len() as u64,
+            stale: pin.fetched.items().len() as u64,
         },
         None => How::Blocks,
     }

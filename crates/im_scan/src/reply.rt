@@ -1,6 +1,6 @@
 use crate::body::Body;
-use crate::listing::Listing;
 use crate::served::Served;
+use im_values::List;
 
 /// The reply to a line.
 #[derive(Debug, Drop)]
@@ -9,7 +9,7 @@ pub struct Reply {
     /// played, and for want of memory.
     pub place: Option<u64>,
     /// One mark for each extent that was served, in the order of serving.
-    pub marks: Listing<Served>,
+    pub marks: List<Served>,
     /// What is said.
     pub body: Body,
 }

@@ -96,7 +96,7 @@ fn put_all<'a>(
         ≡ with_changes view.now.table first (with_fetched first (lent slots.old) fetched.now) view.now.own }
 {
     put_fetched(slots, first, fetched);
-    put_changes(slots, view.table, first, view.own.as_slice());
+    put_changes(slots, view.table, first, view.own.items());
 }
 
 /// The rows that a scan takes at so many row numbers from the first on. They stay where they are.

@@ -28,7 +28,7 @@ pub fn seen_rows<L: Ledger>(
     ensures rows { IfOk result (λ rows. rows.items ≡ scans.seen_in store.old.log view) }
 {
     let slots = committed_rows(alloc, store, who, &view, steps)?;
-    numbered(alloc, with_changes(slots, view.own.into_list()))
+    numbered(alloc, with_changes(slots, view.own.into_items()))
 }
 
 /// For each row number of the view of cursor 0, the row committed at the view's SCN, where there is one.
@@ -49,7 +49,7 @@ fn committed_rows<L: Ledger>(
         let Ok(pin) = store.pin(who, 0, extent, steps) else {
             return Err(NoMemory);
         };
-        put_rows(&mut slots, pin.fetched.into_rows())?;
+        put_rows(&mut slots, pin.fetched.into_items())?;
     }
     Ok(slots)
 }

@@ -15,8 +15,8 @@ use crate::unit::NoUnit;
 use im_core::Core;
 use im_history::{Look, Mode};
 use im_scan::{Body, Fault};
-use im_syntax::{Filter, Parts};
-use im_values::{Steps, Value};
+use im_syntax::Filter;
+use im_values::{List, Steps, Value};
 use std::alloc::Global;
 use std::sync::ledger::Ledger;
 
@@ -78,7 +78,7 @@ pub fn update<L: Ledger>(
     look: &Look,
     table: u32,
     filter: Option<Filter>,
-    sets: Parts<(u32, Value)>,
+    sets: List<(u32, Value)>,
     steps: &mut Steps<L>,
 ) -> Reply
     requires session { who < NUMBERS }
@@ -104,7 +104,7 @@ fn update_rows<L: Ledger>(
     who: u32,
     table: u32,
     filter: Option<Filter>,
-    sets: Parts<(u32, Value)>,
+    sets: List<(u32, Value)>,
     steps: &mut Steps<L>,
 ) -> Reply
     requires session { who < NUMBERS }

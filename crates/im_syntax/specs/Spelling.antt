@@ -14,8 +14,8 @@ use Rattle.im_syntax.specs.declared.literal.Lit.TheVariants as lit
 use Rattle.im_syntax.specs.declared.table.KindWord.{KindWord}
 use Rattle.im_syntax.specs.declared.table.KindWord.TheVariants as kind
 use Rattle.im_syntax.specs.declared.table.ColumnPart.{ColumnPart}
-use Rattle.im_syntax.specs.declared.table.Level.{Level}
-use Rattle.im_syntax.specs.declared.table.Level.TheVariants as level
+use Rattle.im_values.specs.declared.priority.Priority.{Priority}
+use Rattle.im_values.specs.declared.priority.Priority.TheVariants as level
 use Rattle.im_syntax.specs.declared.table.MemoryPart.{MemoryPart}
 use Rattle.im_syntax.specs.declared.query.ItemPart.{ItemPart}
 use Rattle.im_syntax.specs.declared.query.ItemPart.TheVariants as item
@@ -151,7 +151,7 @@ spell_kind (kind.Varchar2 n) = word key.Varchar2 ∷ in_parens (number n ∷ [])
 abbrev pub spell_column : ColumnPart → List Token
 spell_column c = token.Word c.name ∷ spell_kind c.kind
 
-abbrev pub level_word : Level → Keyword
+abbrev pub level_word : Priority → Keyword
 level_word level.Critical = key.Critical
 level_word level.High = key.High
 level_word level.Medium = key.Medium

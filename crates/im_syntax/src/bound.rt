@@ -1,5 +1,5 @@
 use crate::bound_filter::Filter;
-use crate::parts::Parts;
+use im_values::List;
 
 /// One column of an answer, on columns of the table by their numbers.
 #[derive(Clone, Copy, Debug, PartialEq, Eq)]
@@ -27,8 +27,8 @@ pub struct Key {
 pub struct Bound {
     pub table: u32,
     pub filter: Option<Filter>,
-    pub items: Parts<Item>,
-    pub groups: Parts<u32>,
-    pub keys: Parts<Key>,
+    pub items: List<Item>,
+    pub groups: List<u32>,
+    pub keys: List<Key>,
     pub grouped: bool,
 }

@@ -1,5 +1,4 @@
-use crate::parts::Parts;
-use im_values::{Cmp, Value};
+use im_values::{Cmp, List, Value};
 use std::marker::Model;
 
 /// One test of a row, on columns by their numbers.
@@ -32,7 +31,7 @@ pub enum TestForm {
     Within {
         column: u32,
         negated: bool,
-        values: Parts<Value>,
+        values: List<Value>,
     },
     Not(Box<Test>),
     /// A condition in parentheses.

@@ -1,6 +1,5 @@
 use crate::literal::Lit;
-use crate::parts::Parts;
-use im_values::{Cmp, Name};
+use im_values::{Cmp, List, Name};
 use std::marker::Model;
 
 /// One term of a condition.
@@ -36,7 +35,7 @@ pub enum TermForm {
     Within {
         column: Name,
         negated: bool,
-        values: Parts<Lit>,
+        values: List<Lit>,
     },
 }
 

@@ -2,7 +2,7 @@
 //!
 //! A [`Stmt`] keeps each optional part as written or absent, so it has one list of tokens: `spelling`, in
 //! `specs/Spelling.antt`, which [`spell`] computes. `IsStmt`, in `specs/Rules.antt`, says which values are statements:
-//! what names, numbers and lists must be, and how deep a condition nests. Contracts see a [`Parts`] as a list and a
+//! what names, numbers and lists must be, and how deep a condition nests. Contracts see lists as lists and a
 //! condition as a tree (`specs/Condition.antt`), so two of them are equal in a contract exactly where they are written
 //! alike. The words that the language keeps for itself are the [`Keyword`]s; [`is_name`] tests what else a word may be.
 //!
@@ -14,7 +14,6 @@ mod bound_filter;
 mod condition;
 mod keyword;
 mod literal;
-mod parts;
 mod query;
 mod spell_condition;
 mod spell_query;
@@ -30,13 +29,13 @@ mod word;
 pub use bound::{Bound, Item, Key};
 pub use bound_filter::{Filter, Test, TestForm, Tests};
 pub use condition::{Cond, Conj, Term, TermForm};
+pub use im_values::Priority as Level;
 pub use keyword::Keyword;
 pub use literal::Lit;
-pub use parts::Parts;
 pub use query::{ItemPart, KeyPart, ListPart, Query, Way};
 pub use spell_statement::spell;
 pub use statement::{Side, Stmt};
-pub use table::{ColumnPart, KindWord, Level, MemoryPart};
+pub use table::{ColumnPart, KindWord, MemoryPart};
 pub use token::{Sign, Token};
 pub use word::{LONGEST_WORD, is_name, is_word, is_word_byte};
 

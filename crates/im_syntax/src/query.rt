@@ -1,6 +1,5 @@
 use crate::condition::Cond;
-use crate::parts::Parts;
-use im_values::Name;
+use im_values::{List, Name};
 
 /// One column of an answer.
 #[derive(Debug, Drop)]
@@ -33,7 +32,7 @@ pub struct KeyPart {
 #[derive(Debug, Drop)]
 pub enum ListPart {
     Star,
-    Items(Parts<ItemPart>),
+    Items(List<ItemPart>),
 }
 
 /// A query. `groups` and `keys` are empty where the clause is not written.
@@ -44,7 +43,7 @@ pub struct Query {
     /// The condition behind WHERE.
     pub cond: Option<Cond>,
     /// The columns of GROUP BY.
-    pub groups: Parts<Name>,
+    pub groups: List<Name>,
     /// The keys of ORDER BY, the first one first.
-    pub keys: Parts<KeyPart>,
+    pub keys: List<KeyPart>,
 }

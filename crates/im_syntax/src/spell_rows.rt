@@ -5,11 +5,10 @@ ghost use Rattle.im_syntax.specs.declared.statement.Stmt.TheVariants as stmt;
 use crate::condition::Cond;
 use crate::keyword::Keyword;
 use crate::literal::Lit;
-use crate::parts::Parts;
 use crate::spell_query::put_where;
 use crate::spelled::{Spelled, put_in_parens, put_list, put_lit, put_name, put_sign, put_word};
 use crate::token::{Sign, Token};
-use im_values::{Name, NoMemory};
+use im_values::{List, Name, NoMemory};
 use std::alloc::Global;
 
 impl Spelled for (Name, Lit) {
@@ -37,7 +36,7 @@ pub fn put_insert(
     out: &mut Vec<Token>,
     name: &Name,
     columns: &[Name],
-    tuples: &[Parts<Lit>],
+    tuples: &[List<Lit>],
 ) -> Result<(), NoMemory>
     ensures { OnOk result (out.new.items
         ≡ out.old.items ++ spelled.spelling (stmt.Insert name.now columns.now tuples.now)) }

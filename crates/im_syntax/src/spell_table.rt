@@ -7,9 +7,9 @@ ghost use Rattle.im_syntax.specs.declared.statement.Stmt.TheVariants as stmt;
 
 use crate::keyword::Keyword;
 use crate::spelled::{Spelled, put_in_parens, put_name, put_number, put_sign, put_word};
-use crate::table::{ColumnPart, KindWord, Level, MemoryPart};
+use crate::table::{ColumnPart, KindWord, MemoryPart};
 use crate::token::{Sign, Token};
-use im_values::{Name, NoMemory};
+use im_values::{Name, NoMemory, Priority};
 use std::alloc::Global;
 
 fn put_kind(alloc: Global, out: &mut Vec<Token>, kind: KindWord) -> Result<(), NoMemory>
@@ -36,15 +36,15 @@ impl Spelled for ColumnPart {
     }
 }
 
-fn level_word(level: Level) -> Keyword
+fn level_word(level: Priority) -> Keyword
     ensures { result ≡ spelled.level_word level }
 {
     match level {
-        Level::Critical => Keyword::Critical,
-        Level::High => Keyword::High,
-        Level::Medium => Keyword::Medium,
-        Level::Low => Keyword::Low,
-        Level::None => Keyword::None,
+        Priority::Critical => Keyword::Critical,
+        Priority::High => Keyword::High,
+        Priority::Medium => Keyword::Medium,
+        Priority::Low => Keyword::Low,
+        Priority::None => Keyword::None,
     }
 }
 

@@ -6,9 +6,8 @@ ghost use Rattle.im_syntax.specs.declared.token.Token.TheVariants as token;
 
 use crate::keyword::Keyword;
 use crate::literal::Lit;
-use crate::parts::Parts;
 use crate::token::{Sign, Token};
-use im_values::{Name, NoMemory};
+use im_values::{List, Name, NoMemory};
 use std::alloc::Global;
 
 /// A part of a statement that has a spelling, and writes it at the end of a list of tokens.
@@ -126,7 +125,7 @@ impl Spelled for Lit {
     }
 }
 
-impl Spelled for Parts<Lit> {
+impl Spelled for List<Lit> {
     ghost tokens = { spell.spell_tuple };
 
     fn put(&self, alloc: Global, out: &mut Vec<Token>) -> Result<(), NoMemory> {

@@ -1,9 +1,8 @@
 use crate::condition::Cond;
 use crate::literal::Lit;
-use crate::parts::Parts;
 use crate::query::Query;
 use crate::table::{ColumnPart, MemoryPart};
-use im_values::Name;
+use im_values::{List, Name};
 
 /// A statement, each optional part of it as written or absent.
 #[derive(Debug, Drop)]
@@ -14,7 +13,7 @@ pub enum Stmt {
     Create {
         name: Name,
         /// 1 to 16 columns.
-        columns: Parts<ColumnPart>,
+        columns: List<ColumnPart>,
         /// Rows in a block, 1 to 64.
         block: Option<u32>,
         /// Blocks in an extent, 1 to 64.
@@ -33,12 +32,12 @@ pub enum Stmt {
     /// Without a list of columns `columns` is empty.
     Insert {
         name: Name,
-        columns: Parts<Name>,
-        tuples: Parts<Parts<Lit>>,
+        columns: List<Name>,
+        tuples: List<List<Lit>>,
     },
     Update {
         name: Name,
-        sets: Parts<(Name, Lit)>,
+        sets: List<(Name, Lit)>,
         cond: Option<Cond>,
     },
     Delete {

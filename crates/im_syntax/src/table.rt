@@ -1,4 +1,4 @@
-use im_values::Name;
+use im_values::{Name, Priority};
 
 /// The kind of a column as it is written: INTEGER is another word for NUMBER.
 #[derive(Clone, Copy, Debug, PartialEq, Eq)]
@@ -16,21 +16,11 @@ pub struct ColumnPart {
     pub kind: KindWord,
 }
 
-/// How soon a table is populated in the column store.
-#[derive(Clone, Copy, Debug, PartialEq, Eq)]
-pub enum Level {
-    Critical,
-    High,
-    Medium,
-    Low,
-    None,
-}
-
 /// An INMEMORY clause as it is written.
 #[derive(Clone, Copy, Debug, PartialEq, Eq)]
 pub struct MemoryPart {
     /// MEMCOMPRESS FOR QUERY LOW is written.
     pub compress: bool,
-    /// The level behind PRIORITY, where that is written.
-    pub level: Option<Level>,
+    /// What stands behind PRIORITY, where that is written.
+    pub level: Option<Priority>,
 }

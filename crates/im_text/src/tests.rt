@@ -1,7 +1,7 @@
 use crate::reply;
 use im_group::Cell;
-use im_scan::{Body, Built, Ending, Fault, How, Listing, Records};
-use im_values::Name;
+use im_scan::{Body, Built, Ending, Fault, How, Records};
+use im_values::{List, Name};
 use std::alloc::Global;
 use std::test::Fail;
 
@@ -153,7 +153,7 @@ fn a_run_lists_each_build_with_its_end_and_then_is_idle(rt: HostRuntime) -> Resu
         scn: 2,
         trickle: true,
     };
-    let tasks = Listing::of(vec![in alloc;
+    let tasks = List::of(vec![in alloc;
         (
             first,
             Ending::Switch {
@@ -173,7 +173,7 @@ fn a_run_lists_each_build_with_its_end_and_then_is_idle(rt: HostRuntime) -> Resu
     ]?);
     let text = b"7,build,1,1,0,2,0\n7,switch,1,44,44\n7,build,2,1,1,2,1\n7,full,2,26,3\n7,idle\n";
     assert!(rt; is_said(alloc, &Body::Ran(tasks), text)?);
-    let none = Body::Ran(Listing::of(Vec::new(alloc)));
+    let none = Body::Ran(List::of(Vec::new(alloc)));
     assert!(rt; is_said(alloc, &none, b"7,idle\n")?);
     Ok(())
 }
@@ -181,14 +181,14 @@ fn a_run_lists_each_build_with_its_end_and_then_is_idle(rt: HostRuntime) -> Resu
 #[test]
 fn a_plan_lists_each_extent(rt: HostRuntime) -> Result<(), Fail> {
     let alloc = rt.alloc();
-    let served = Listing::of(vec![in alloc;
+    let served = List::of(vec![in alloc;
         (0, How::Unit { scn: 2, stale: 0 }),
         (1, How::Pruned { scn: 2, stale: 1 }),
         (2, How::Blocks),
     ]?);
     let text = b"7,plan,3,3\n7,served,0,unit,2,0\n7,served,1,pruned,2,1\n7,served,2,blocks\n";
     assert!(rt; is_said(alloc, &Body::Plan { scn: 3, served }, text)?);
-    let served = Listing::of(Vec::new(alloc));
+    let served = List::of(Vec::new(alloc));
     assert!(rt; is_said(alloc, &Body::Plan { scn: 1, served }, b"7,plan,1,0\n")?);
     Ok(())
 }
@@ -407,7 +407,7 @@ fn each_record_begins_with_the_number_of_its_line(rt: HostRuntime) -> Result<(),
         ),
     ];
     for (line, text) in cases {
-        let served = Listing::of(vec![in alloc; (0_u64, How::Blocks)]?);
+        let served = List::of(vec![in alloc; (0_u64, How::Blocks)]?);
         let plan = reply(alloc, line, &Body::Plan { scn: 2, served })?;
         assert!(rt; plan.as_slice() == text.as_bytes());
     }

@@ -193,7 +193,7 @@ impl Sessions {
         let fewer = self.sessions[who as usize].transactions();
         let changes = self.sessions[who as usize].end();
         self.owed -= fewer;
-        self.locks.set_all(changes.as_slice(), 0);
+        self.locks.set_all(changes.items(), 0);
         changes
     }
 }

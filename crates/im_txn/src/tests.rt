@@ -186,8 +186,8 @@ fn a_transaction_keeps_its_mode_and_its_place(rt: HostRuntime) -> Result<(), Fai
         (sessions.mode(4), sessions.begun(4)),
         (Mode::Committed, Some(6))
     );
-    assert_eq!(rt; sessions.own(rt.alloc(), 3, 1)?.as_slice().len(), 1);
-    assert_eq!(rt; sessions.own(rt.alloc(), 3, 2)?.as_slice().len(), 0);
+    assert_eq!(rt; sessions.own(rt.alloc(), 3, 1)?.items().len(), 1);
+    assert_eq!(rt; sessions.own(rt.alloc(), 3, 2)?.items().len(), 0);
     open_one(&mut sessions, 3, 5)?;
     assert_eq!(rt; sessions.cursor(3, 5).map(|cursor| cursor.rows), Some(9));
     Ok(())

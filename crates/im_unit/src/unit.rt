@@ -2,7 +2,8 @@ ghost use Rattle.std.specs.Prelude.{◌≡◌, ◌+◌, ◌<◌, ◌≤◌, ◌^
 ghost use Rattle.im_unit.specs.Holding.{HaveWidth, count_present, row_of};
 
 use im_history::UnitLike;
-use im_values::{MOST_COLUMNS, NoMemory, Row, clone_row};
+use im_values::limits::MOST_COLUMNS;
+use im_values::{NoMemory, Row, clone_row};
 use std::alloc::Global;
 use std::marker::Model;
 

@@ -12,9 +12,9 @@ ghost use Rattle.im_scan.specs.Parts.{MayAsk};
 use crate::{How, face, how, part};
 use im_core::{Fetched, Pin};
 use im_history::{Change, Changes, View};
-use im_syntax::{Bound, Filter, Item, Parts, Test, TestForm, Tests};
+use im_syntax::{Bound, Filter, Item, Test, TestForm, Tests};
 use im_unit::ColumnUnit;
-use im_values::{Cmp, Row, Value};
+use im_values::{Cmp, List, Row, Value};
 use std::alloc::Global;
 use std::sync::Arc;
 use std::test::Fail;
@@ -32,9 +32,9 @@ pub fn query(alloc: Global) -> Result<Bound, Fail>
     Ok(Bound {
         table: 1,
         filter: Some(Filter::of(Vec::from_array(alloc, [tests])?)),
-        items: Parts::of(Vec::from_slice(alloc, &[Item::Column(0)])?),
-        groups: Parts::of(Vec::new(alloc)),
-        keys: Parts::of(Vec::new(alloc)),
+        items: List::of(Vec::from_slice(alloc, &[Item::Column(0)])?),
+        groups: List::of(Vec::new(alloc)),
+        keys: List::of(Vec::new(alloc)),
         grouped: false,
     })
 }
@@ -182,7 +182,7 @@ pub fn gives(
         return Err(Fail::new("the view has no such extent"));
     }
     let lent = face(&pin, &bound);
-    let partial = part(alloc, lent, pin.fetched.as_slice(), &view, extent, &bound)?;
+    let partial = part(alloc, lent, pin.fetched.items(), &view, extent, &bound)?;
     let kept = partial.into_rows();
     Ok(how(&pin, &bound) == served && are(kept.as_slice(), wanted))
 }

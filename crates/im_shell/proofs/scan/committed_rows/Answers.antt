@@ -13,8 +13,8 @@ pin-requires-clause-within g c =
 pub loop-extent-preserved : goal.loop-extent-preserved
 loop-extent-preserved g c =
     let view_is = view-opening c.args.store.now.log c.args.who c.args.view.now c.requires.opening in
-    let fetched : c.into_rows.result.items ≡ committed_in c.args.store.now.log c.args.view.now c.loop-extent.extent =
-    c.into_rows.ensures
+    let fetched : c.into_items.result.items ≡ committed_in c.args.store.now.log c.args.view.now c.loop-extent.extent =
+    c.into_items.ensures
     ∙ (c.in-Ok.ensures.fetched
     ∙ (ap (λ (s : Seen). committed_in s.log (cursor_view s.log c.args.who 0) c.loop-extent.extent) c.loop-extent.invariant.same
     ∙ ap (λ (v : View). committed_in c.args.store.now.log v c.loop-extent.extent) view_is)) in

@@ -35,4 +35,4 @@ invariant_of-self-2 g c =
     let changes = c.clear-changes.ensures.handed ∙ c.self.invariant.sessions.changes c.args.who in
     Holds-commit _ _ c.self.inside.history _ _ _ _ _ _ _ _ c.args.who _ _ _ _ _ c.reserve-2.new.self _ c.self.invariant c.requires.session (c.scn.ensures.scn ∙ ap scn made) c.reserve.ensures.same
     (grew-reserved c.self.inside.history c.reserve-3.new.self _ _ _ (rw c.owed.ensures.owed at c.in_ok-reserve-3.ensures.ok) c.append.ensures.added)
-    (c.into_list.ensures ∙ changes) c.clear-changes.ensures.after c.apply.ensures c.reserve-2.ensures.same (rw (c.as_slice.ensures ∙ sym c.into_list.ensures) at c.note.ensures)
+    (c.into_items.ensures ∙ changes) c.clear-changes.ensures.after c.apply.ensures c.reserve-2.ensures.same (rw (c.items.ensures ∙ sym c.into_items.ensures) at c.note.ensures)

@@ -19,7 +19,7 @@ pub returns-clause-after : goal.returns-clause-after
 returns-clause-after c =
     let same = same-read _ c.args.who c.index.result.now c.index_mut.result.now c.self.invariant c.requires c.index.ensures c.index_mut.ensures.value in
     let turns = end-turns _ c.args.who c.index_mut.result.now c.end-changes.new.self c.transactions-fewer.result c.self.invariant c.requires c.index_mut.ensures.value c.end-changes.ensures.after (c.transactions-fewer.ensures ∙ ap transactions same) in
-    let cells = c.set_all.ensures ∙ ap (set_cells 0 c.self.inside.locks) c.as_slice.ensures in
+    let cells = c.set_all.ensures ∙ ap (set_cells 0 c.self.inside.locks) c.items.ensures in
     rw (← c.self.view_is) (ended-set _ _ c.end-changes.result _ _ c.set_all.new.self _ turns c.end-changes.ensures.after cells c.end-changes.ensures.handed)
 
 pub returns-clause-handed : goal.returns-clause-handed

@@ -1,0 +1,10 @@
+/// How soon a table's extents are populated in memory.
+#[derive(Clone, Copy, Debug, PartialEq, Eq)]
+pub enum Priority {
+    Critical,
+    High,
+    Medium,
+    Low,
+    /// Only once the table was scanned.
+    None,
+}
