@@ -1,20 +1,19 @@
 -- In a legal history each held build is of an extent that had a row number when it began.
-use Rattle.std.proofs.Common.{◌≡◌, ℕ, ◌+◌, ◌*◌, ◌==◌, ◌&&◌, ◌<◌, ◌≤◌, Bool, true, false, [], ◌∷◌, ◌++◌, length, Option, Some, None, if◌then◌else◌, nat_lt, refl, sym, ap, ◌∙◌, subst, ⊎_elim, arith, le_trans}
+use Rattle.std.proofs.Common.{◌≡◌, ℕ, ◌*◌, ◌==◌, ◌&&◌, ◌<◌, ◌≤◌, Bool, true, false, [], ◌∷◌, ◌++◌, length, Option, Some, None, if◌then◌else◌, nat_lt, refl, sym, ap, ◌∙◌, subst, arith}
 use Rattle.std.specs.Option.{option_map, option_or}
-use Rattle.std.proofs.lemmas.Bool.{cases_Bool}
 use Rattle.std.proofs.lemmas.Bool.Decides.{nat_tests}
 use Rattle.im_history.specs.declared.entry.Entry.{Entry}
 use Rattle.im_history.specs.declared.entry.What.{What}
 use Rattle.im_history.specs.declared.entry.What.TheVariants.{Build, Switch, Cancel}
 use Rattle.im_history.specs.declared.limits.Limits.{Limits}
 use Rattle.im_history.specs.declared.task.Held.{Held}
-use Rattle.im_history.specs.Commits.{scn, moves_clock}
+use Rattle.im_history.specs.Commits.{scn}
 use Rattle.im_history.specs.Grid.{extents_for}
 use Rattle.im_history.specs.History.{History}
 use Rattle.im_history.specs.Legal.{Exists, IsAllowed, IsLegal, MayBuild}
 use Rattle.im_history.specs.Tables.{given, table_at}
 use Rattle.im_history.specs.Transactions.{or_here}
-use Rattle.im_history.specs.Units.{held_at, is_member, killed_by, may_populate}
+use Rattle.im_history.specs.Units.{held_at, is_member, killed_by}
 use Rattle.im_history.specs.Views.{per_at}
 use Rattle.im_history.proofs.BuildLaws.{begun_at, held_at-build, held_at-cancel, held_at-nil, held_at-plain, held_at-switch}
 use Rattle.im_history.proofs.GivenLaws.{given-grows}

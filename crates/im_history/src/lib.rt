@@ -20,6 +20,7 @@ mod stored;
 mod task;
 mod unit;
 mod view;
+mod who;
 
 pub use change::{Change, Changes};
 pub use entry::{Entry, Mode, What};
@@ -32,6 +33,7 @@ pub use stored::History;
 pub use task::{Held, Task};
 pub use unit::UnitLike;
 pub use view::View;
+pub use who::Who;
 
 #[cfg(test)]
 mod tests;
