@@ -3,13 +3,14 @@ use Rattle.std.proofs.Common.{◌≡◌, ℕ, suc, ◌+◌, ◌<◌, ◌≤◌, 
 use Rattle.std.specs.List.{range_with_len}
 use Rattle.std.proofs.lemmas.Bool.{cases_eq}
 use Rattle.std.proofs.lemmas.List.{length-map}
+use Rattle.im_values.specs.declared.limits.TheConstants.{NUMBERS}
 use Rattle.im_history.specs.declared.change.Change.{Change}
 use Rattle.im_history.specs.declared.entry.Entry.{Entry}
 use Rattle.im_history.specs.declared.entry.Mode.{Mode}
 use Rattle.im_history.specs.declared.entry.What.{What}
 use Rattle.im_history.specs.Cursors.{Opened, opened, opened_after}
 use Rattle.im_history.specs.History.{History}
-use Rattle.im_history.specs.Touched.{touches, most_numbers}
+use Rattle.im_history.specs.Touched.{touches}
 use Rattle.im_history.specs.Transactions.{pending, pending_after, begun, begun_after, mode, mode_after, is_open}
 use Rattle.im_history.proofs.Laws.{pending-push, begun-push, mode-push, opened-push}
 use Rattle.im_txn.specs.Activity.{Activity, is_number, owed_by, transactions}
@@ -56,19 +57,19 @@ pub record Follows (h : History) (who : ℕ) (what : What) (after : Activity) : 
 
 -- the lock cells are what this history says
 pub record Locked (h : History) (new : Standing) : Type 0 where
-  pub locks : (table rid other : ℕ) → other < most_numbers → (lock_at new table rid == suc other) ≡ touches (pending h other) table rid
-  pub holders : (table rid : ℕ) → lock_at new table rid ≤ most_numbers
+  pub locks : (table rid other : ℕ) → other < NUMBERS → (lock_at new table rid == suc other) ≡ touches (pending h other) table rid
+  pub holders : (table rid : ℕ) → lock_at new table rid ≤ NUMBERS
 
-owing-push : (h k : History) (who : ℕ) (old new : Standing) (after : Activity) → who < most_numbers → Becomes old new who after → old.owed ≡ owed h → ((other : ℕ) → owes h other ≡ owed_by (activity_at old other)) → ((other : ℕ) → owes k other ≡ owed_by (activity_at new other)) → new.owed ≡ owed k
+owing-push : (h k : History) (who : ℕ) (old new : Standing) (after : Activity) → who < NUMBERS → Becomes old new who after → old.owed ≡ owed h → ((other : ℕ) → owes h other ≡ owed_by (activity_at old other)) → ((other : ℕ) → owes k other ≡ owed_by (activity_at new other)) → new.owed ≡ owed k
 unfolding owed
 owing-push h k who old new after number becomes owing before now =
     let apart = λ (other : ℕ) (off : other ≡ who → ⊥). now other ∙ (ap owed_by (becomes.others other off) ∙ sym (before other)) in
-    let moves = sum_by-moves (owes h) (owes k) 0 most_numbers who (omega arith) (omega arith) apart in
+    let moves = sum_by-moves (owes h) (owes k) 0 NUMBERS who (omega arith) (omega arith) apart in
     let mine : owed_by (activity_at new who) ≡ owed_by after = ap owed_by becomes.mine in
     omega (arith, moves, becomes.owed, owing, before who, now who, mine)
 
 -- all agrees after one more entry
-pub Agrees-follows : (h : History) (who : ℕ) (what : What) (old new : Standing) (after : Activity) → Agrees h old → who < most_numbers → Becomes old new who after → Follows h who what after → Locked (with_entry h who what) new → Agrees (with_entry h who what) new
+pub Agrees-follows : (h : History) (who : ℕ) (what : What) (old new : Standing) (after : Activity) → Agrees h old → who < NUMBERS → Becomes old new who after → Follows h who what after → Locked (with_entry h who what) new → Agrees (with_entry h who what) new
 Agrees-follows h who what old new after agrees number becomes follows locked =
     let entry : Entry = record { who = who; what = what } in
     let began = by_number (λ (a : Activity). a.begun) (begun (with_entry h who what)) (λ other. begun_after (length h) (begun h other) what) (begun h) who old new after becomes (begun-push h entry) agrees.began follows.began in
@@ -116,7 +117,7 @@ stays false next was same = refl
 
 owed-same : (h k : History) (standing : Standing) → standing.owed ≡ owed h → ((other : ℕ) → owes k other ≡ owes h other) → standing.owed ≡ owed k
 unfolding owed
-owed-same h k standing owing same = owing ∙ sum_by-equal (owes k) (owes h) (range_with_len 0 most_numbers) same
+owed-same h k standing owing same = owing ∙ sum_by-equal (owes k) (owes h) (range_with_len 0 NUMBERS) same
 
 -- what goes on agrees after such an entry as before
 pub Agrees-apart-by : (h : History) (who : ℕ) (what : What) (standing : Standing) → Apart what → Agrees h standing → Agrees (with_entry h who what) standing

@@ -6,6 +6,7 @@ use Rattle.std.proofs.lemmas.Bool.{cases_eq, false≢true}
 use Rattle.std.proofs.lemmas.List.{length_push}
 use Rattle.std.proofs.lemmas.List.Elements.{All-nil, All-cons}
 use Rattle.std.proofs.lemmas.List.Sums.{sum_by_push, count_by-le-length}
+use Rattle.im_values.specs.declared.limits.TheConstants.{NUMBERS}
 use Rattle.im_history.specs.declared.change.Change.{Change}
 use Rattle.im_history.specs.declared.entry.Mode.{Mode}
 use Rattle.im_history.specs.declared.entry.What.{What}
@@ -17,7 +18,7 @@ use Rattle.im_history.specs.declared.refused.Why.TheVariants.{RowLocked}
 use Rattle.im_history.specs.Refusals.{row_locked}
 use Rattle.im_history.specs.Rows.{own_changes}
 use Rattle.im_history.specs.Tables.{given}
-use Rattle.im_history.specs.Touched.{touches, most_numbers, holder}
+use Rattle.im_history.specs.Touched.{touches, holder}
 use Rattle.im_history.specs.Transactions.{pending, begun, begun_after, mode, is_open, or_here}
 use Rattle.im_history.specs.Views.{view_at}
 use Rattle.im_txn.specs.declared.cursor.Cursor.{Cursor}
@@ -69,7 +70,7 @@ Agrees-nil standing none = record {
 }
 
 -- a Begin
-pub Agrees-begin : (h : History) (who : ℕ) (mode : Mode) (old new : Standing) → Agrees h old → who < most_numbers → IsBegun old new who (length h) mode → Agrees (h ++ record { who = who; what = Begin mode } ∷ []) new
+pub Agrees-begin : (h : History) (who : ℕ) (mode : Mode) (old new : Standing) → Agrees h old → who < NUMBERS → IsBegun old new who (length h) mode → Agrees (h ++ record { who = who; what = Begin mode } ∷ []) new
 Agrees-begin h who mode old new agrees number begins =
     Agrees-follows h who (Begin mode) old new (with_mode (length h) mode (activity_at old who)) agrees number begins.activity (record {
       changes = agrees.changes who;
@@ -101,7 +102,7 @@ once-push cursors cursor number none once =
     (cases_eq cursor.cursor number)
 
 -- an Open of a cursor that is not open
-pub Agrees-open : (h : History) (who cursor table : ℕ) (old new : Standing) → Agrees h old → who < most_numbers → is_cursor_open h who cursor ≡ false → IsOpened old new who (cursor_of h who cursor table) → Agrees (h ++ record { who = who; what = Open cursor table } ∷ []) new
+pub Agrees-open : (h : History) (who cursor table : ℕ) (old new : Standing) → Agrees h old → who < NUMBERS → is_cursor_open h who cursor ≡ false → IsOpened old new who (cursor_of h who cursor table) → Agrees (h ++ record { who = who; what = Open cursor table } ∷ []) new
 Agrees-open h who cursor table old new agrees number shut opens =
     Agrees-follows h who (Open cursor table) old new (with_cursor (cursor_of h who cursor table) (activity_at old who)) agrees number opens.activity (record {
       changes = agrees.changes who;
@@ -112,7 +113,7 @@ Agrees-open h who cursor table old new agrees number shut opens =
     }) (Locked-same h who (Open cursor table) old new agrees opens.locks (λ so_far. refl))
 
 -- a Shut
-pub Agrees-shut : (h : History) (who cursor : ℕ) (old new : Standing) → Agrees h old → who < most_numbers → IsShut old new who cursor → Agrees (h ++ record { who = who; what = Shut cursor } ∷ []) new
+pub Agrees-shut : (h : History) (who cursor : ℕ) (old new : Standing) → Agrees h old → who < NUMBERS → IsShut old new who cursor → Agrees (h ++ record { who = who; what = Shut cursor } ∷ []) new
 Agrees-shut h who cursor old new agrees number shuts =
     Agrees-follows h who (Shut cursor) old new (without_cursor cursor (activity_at old who)) agrees number shuts.activity (record {
       changes = agrees.changes who;
@@ -125,7 +126,7 @@ Agrees-shut h who cursor old new agrees number shuts =
     }) (Locked-same h who (Shut cursor) old new agrees shuts.locks (λ so_far. refl))
 
 -- a Write of changes whose rows no other holds
-pub Agrees-write : (h : History) (who : ℕ) (changes : List Change) (old new : Standing) → Agrees h old → who < most_numbers → IsFree old who changes → IsWritten old new who (length h) changes → Agrees (h ++ record { who = who; what = Write changes } ∷ []) new
+pub Agrees-write : (h : History) (who : ℕ) (changes : List Change) (old new : Standing) → Agrees h old → who < NUMBERS → IsFree old who changes → IsWritten old new who (length h) changes → Agrees (h ++ record { who = who; what = Write changes } ∷ []) new
 Agrees-write h who changes old new agrees number free written =
     Agrees-follows h who (Write changes) old new (with_changes (length h) changes (activity_at old who)) agrees number written.activity (record {
       changes = ap (λ (l : List Change). l ++ changes) (agrees.changes who);
@@ -136,7 +137,7 @@ Agrees-write h who changes old new agrees number free written =
     }) (Locked-write h who (Write changes) (length h) changes old new (λ so_far. refl) agrees number free written)
 
 -- a Commit
-pub Agrees-commit : (h : History) (who : ℕ) (old new : Standing) → Agrees h old → who < most_numbers → IsEnded old new who → Agrees (h ++ record { who = who; what = Commit } ∷ []) new
+pub Agrees-commit : (h : History) (who : ℕ) (old new : Standing) → Agrees h old → who < NUMBERS → IsEnded old new who → Agrees (h ++ record { who = who; what = Commit } ∷ []) new
 Agrees-commit h who old new agrees number ends =
     Agrees-follows h who Commit old new (ended (activity_at old who)) agrees number ends.activity (record {
       changes = refl;
@@ -147,7 +148,7 @@ Agrees-commit h who old new agrees number ends =
     }) (Locked-end h who Commit old new (λ so_far. refl) agrees number ends)
 
 -- a Rollback
-pub Agrees-rollback : (h : History) (who : ℕ) (old new : Standing) → Agrees h old → who < most_numbers → IsEnded old new who → Agrees (h ++ record { who = who; what = Rollback } ∷ []) new
+pub Agrees-rollback : (h : History) (who : ℕ) (old new : Standing) → Agrees h old → who < NUMBERS → IsEnded old new who → Agrees (h ++ record { who = who; what = Rollback } ∷ []) new
 Agrees-rollback h who old new agrees number ends =
     Agrees-follows h who Rollback old new (ended (activity_at old who)) agrees number ends.activity (record {
       changes = refl;
@@ -264,24 +265,24 @@ untouched-past-given h who table rid past = pending-below h who table rid past
 -- so an insert's rows are free
 pub IsFree-past-given : (h : History) (standing : Standing) (who : ℕ) (changes : List Change) → Agrees h standing → All (λ change. given h change.table ≤ change.rid) changes → IsFree standing who changes
 IsFree-past-given h standing who changes agrees past = IsFree-by h standing who changes agrees (λ k d inside.
-    find-none (λ other. not (other == who) && touches (pending h other) (get_or changes k d).table (get_or changes k d).rid) 0 most_numbers (λ other from to.
+    find-none (λ other. not (other == who) && touches (pending h other) (get_or changes k d).table (get_or changes k d).rid) 0 NUMBERS (λ other from to.
     rw (untouched-past-given h other (get_or changes k d).table (get_or changes k d).rid (past k d inside)) (and-false (not (other == who)))))
 
 -- what is owed
 
 -- what one number owes is part of what all owe
-pub owed-part : (h : History) (standing : Standing) (who : ℕ) → Agrees h standing → who < most_numbers → owes h who ≤ standing.owed
+pub owed-part : (h : History) (standing : Standing) (who : ℕ) → Agrees h standing → who < NUMBERS → owes h who ≤ standing.owed
 unfolding owed
-owed-part h standing who agrees number = rw agrees.owing (sum_by-part (owes h) 0 most_numbers who (omega arith) (omega arith))
+owed-part h standing who agrees number = rw agrees.owing (sum_by-part (owes h) 0 NUMBERS who (omega arith) (omega arith))
 
 -- an open transaction is owed a Rollback
-pub owed-open : (h : History) (standing : Standing) (who : ℕ) → Agrees h standing → who < most_numbers → is_open h who ≡ true → 1 ≤ standing.owed
+pub owed-open : (h : History) (standing : Standing) (who : ℕ) → Agrees h standing → who < NUMBERS → is_open h who ≡ true → 1 ≤ standing.owed
 owed-open h standing who agrees number is =
     let one : ◌≡◌ {A = ℕ} (if is_open h who then 1 else 0) 1 = ap (λ (b : Bool). if b then 1 else 0) is in
     omega (arith, owed-part h standing who agrees number, one)
 
 -- an open cursor is owed a Shut
-pub owed-cursor : (h : History) (standing : Standing) (who cursor : ℕ) → Agrees h standing → who < most_numbers → is_cursor_open h who cursor ≡ true → 1 ≤ standing.owed
+pub owed-cursor : (h : History) (standing : Standing) (who cursor : ℕ) → Agrees h standing → who < NUMBERS → is_cursor_open h who cursor ≡ true → 1 ≤ standing.owed
 owed-cursor h standing who cursor agrees number is =
     omega (arith, owed-part h standing who agrees number, count_by-some (is_cursor cursor) (opened h who) is, count_by-le-length (is_cursor cursor) (opened h who))
 

@@ -4,10 +4,11 @@ use Rattle.std.specs.List.{range_with_len, find}
 use Rattle.std.proofs.lemmas.Bool.{cases_eq, false≢true}
 use Rattle.std.proofs.lemmas.List.Elements.{All-head, All-tail}
 use Rattle.std.proofs.lemmas.List.Folds.{list_any-append}
+use Rattle.im_values.specs.declared.limits.TheConstants.{NUMBERS}
 use Rattle.im_history.specs.declared.change.Change.{Change}
 use Rattle.im_history.specs.declared.entry.What.{What}
 use Rattle.im_history.specs.History.{History}
-use Rattle.im_history.specs.Touched.{is_to, touches, most_numbers}
+use Rattle.im_history.specs.Touched.{is_to, touches}
 use Rattle.im_history.specs.Transactions.{pending, pending_after}
 use Rattle.im_history.proofs.Laws.{pending-push}
 use Rattle.im_txn.specs.Agrees.{Agrees}
@@ -75,7 +76,7 @@ cell-most true x y most first second = first
 cell-most false x y most first second = second
 
 -- the cells after a write of changes whose rows are free
-pub Locked-write : (h : History) (who : ℕ) (what : What) (place : ℕ) (changes : List Change) (old new : Standing) → ((so_far : List Change) → pending_after so_far what ≡ so_far ++ changes) → Agrees h old → who < most_numbers → IsFree old who changes → IsWritten old new who place changes → Locked (with_entry h who what) new
+pub Locked-write : (h : History) (who : ℕ) (what : What) (place : ℕ) (changes : List Change) (old new : Standing) → ((so_far : List Change) → pending_after so_far what ≡ so_far ++ changes) → Agrees h old → who < NUMBERS → IsFree old who changes → IsWritten old new who place changes → Locked (with_entry h who what) new
 Locked-write h who what place changes old new adds agrees number free written = record {
   locks = λ table rid other below.
       let list : pending (with_entry h who what) other ≡ (if who == other then pending_after (pending h other) what else pending h other) = pending-push h (record { who = who; what = what }) other in
@@ -97,7 +98,7 @@ Locked-write h who what place changes old new adds agrees number free written = 
       let same : (lock_at new table rid == suc other) ≡ touches (pending h other) table rid = ap (λ (n : ℕ). n == suc other) cell ∙ agrees.locks table rid other below in
       same ∙ sym (touched ∙ missed (who == other) (touches (pending h other) table rid) (touches changes table rid) miss))
       (cases_bool (touches changes table rid));
-  holders = λ table rid. rw (written.locks table rid) (cell-most (touches changes table rid) (who + 1) (lock_at old table rid) most_numbers (omega arith) (agrees.holders table rid));
+  holders = λ table rid. rw (written.locks table rid) (cell-most (touches changes table rid) (who + 1) (lock_at old table rid) NUMBERS (omega arith) (agrees.holders table rid));
 }
 
 cleared-if : (b : Bool) (list : List Change) (what : What) (table rid : ℕ) → pending_after list what ≡ [] → touches (if b then pending_after list what else list) table rid ≡ (if b then false else touches list table rid)
@@ -105,7 +106,7 @@ cleared-if true list what table rid clears = ap (λ (l : List Change). touches l
 cleared-if false list what table rid clears = refl
 
 -- the cells after the end of a transaction
-pub Locked-end : (h : History) (who : ℕ) (what : What) (old new : Standing) → ((so_far : List Change) → pending_after so_far what ≡ []) → Agrees h old → who < most_numbers → IsEnded old new who → Locked (with_entry h who what) new
+pub Locked-end : (h : History) (who : ℕ) (what : What) (old new : Standing) → ((so_far : List Change) → pending_after so_far what ≡ []) → Agrees h old → who < NUMBERS → IsEnded old new who → Locked (with_entry h who what) new
 Locked-end h who what old new clears agrees number ends = record {
   locks = λ table rid other below.
       let mine : List Change = (activity_at old who).pending in
@@ -132,7 +133,7 @@ Locked-end h who what old new clears agrees number ends = record {
       (λ (apart : who ≡ other → ⊥). same ∙ (agrees.locks table rid other below ∙ sym (touched ∙ rw (ne_eqb who other apart) refl)))
       (cases_eq who other))
       (cases_bool (touches mine table rid));
-  holders = λ table rid. rw (ends.locks table rid) (cell-most (touches (activity_at old who).pending table rid) 0 (lock_at old table rid) most_numbers (omega arith) (agrees.holders table rid));
+  holders = λ table rid. rw (ends.locks table rid) (cell-most (touches (activity_at old who).pending table rid) 0 (lock_at old table rid) NUMBERS (omega arith) (agrees.holders table rid));
 }
 
 and-false : (b : Bool) → b && false ≡ false
@@ -140,20 +141,20 @@ and-false true = refl
 and-false false = refl
 
 -- the holder that a cell names is the number whose changes touch the row
-pub holder-is : (who cell : ℕ) (touch : ℕ → Bool) → cell ≤ most_numbers → ((other : ℕ) → other < most_numbers → (cell == suc other) ≡ touch other) → other_in who cell ≡ find (λ other. not (other == who) && touch other) (range_with_len 0 most_numbers)
+pub holder-is : (who cell : ℕ) (touch : ℕ → Bool) → cell ≤ NUMBERS → ((other : ℕ) → other < NUMBERS → (cell == suc other) ≡ touch other) → other_in who cell ≡ find (λ other. not (other == who) && touch other) (range_with_len 0 NUMBERS)
 holder-is who zero touch few names =
-    sym (find-none (λ other. not (other == who) && touch other) 0 most_numbers (λ other from to.
+    sym (find-none (λ other. not (other == who) && touch other) 0 NUMBERS (λ other from to.
     let free : touch other ≡ false = sym (names other to) ∙ ne_eqb 0 (suc other) (λ (e : 0 ≡ suc other). omega arith) in
     rw free (and-false (not (other == who)))))
 holder-is who (suc owner) touch few names =
-    let off = λ (other : ℕ) (to : other < most_numbers) (apart : other ≡ owner → ⊥). sym (names other to) ∙ ne_eqb (suc owner) (suc other) (λ (e : suc owner ≡ suc other). apart (omega arith)) in
+    let off = λ (other : ℕ) (to : other < NUMBERS) (apart : other ≡ owner → ⊥). sym (names other to) ∙ ne_eqb (suc owner) (suc other) (λ (e : suc owner ≡ suc other). apart (omega arith)) in
     ⊎_elim (λ (is : owner ≡ who).
-    let none = find-none (λ other. not (other == who) && touch other) 0 most_numbers (λ other from to.
+    let none = find-none (λ other. not (other == who) && touch other) 0 NUMBERS (λ other from to.
     ⊎_elim (λ (same : other ≡ who). rw (eq-eqb other who same) refl) (λ (apart : other ≡ who → ⊥). rw (off other to (λ (e : other ≡ owner). apart (e ∙ is))) (and-false (not (other == who)))) (cases_eq other who)) in
     rw (eq-eqb owner who is) (sym none))
     (λ (apart : owner ≡ who → ⊥).
     let yes_touch : touch owner ≡ true = sym (names owner (omega arith)) ∙ eq-eqb (suc owner) (suc owner) refl in
     let here : not (owner == who) && touch owner ≡ true = rw (ne_eqb owner who apart) yes_touch in
-    let one = find-one (λ other. not (other == who) && touch other) 0 most_numbers owner (omega arith) (omega arith) here (λ other to not_it. rw (off other to not_it) (and-false (not (other == who)))) in
+    let one = find-one (λ other. not (other == who) && touch other) 0 NUMBERS owner (omega arith) (omega arith) here (λ other to not_it. rw (off other to not_it) (and-false (not (other == who)))) in
     rw (ne_eqb owner who apart) (sym one))
     (cases_eq owner who)

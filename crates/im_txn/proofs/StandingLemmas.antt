@@ -5,9 +5,10 @@ use Rattle.std.proofs.lemmas.List.Elements.{All-set, All-get_or, All-weaker, All
 use Rattle.std.proofs.lemmas.List.Sums.{sum_by-set, sum_by-le, get_or-le-sum_by}
 use Rattle.std.proofs.lemmas.List.Folds.{sum_by-replicate}
 use Rattle.std.proofs.lemmas.Bool.{cases_lt, cases_eq}
+use Rattle.im_values.specs.declared.limits.TheConstants.{NUMBERS}
 use Rattle.im_history.specs.declared.change.Change.{Change}
 use Rattle.im_history.specs.declared.entry.Mode.{Mode}
-use Rattle.im_history.specs.Touched.{most_numbers, touches}
+use Rattle.im_history.specs.Touched.{touches}
 use Rattle.im_txn.specs.declared.cursor.Cursor.{Cursor}
 use Rattle.im_txn.specs.Activity.{Activity, idle, owed_by, transactions, with_mode, with_cursor, without_cursor, with_changes, ended}
 use Rattle.im_txn.specs.Effects.{Becomes, IsIdle, IsWritten, IsEnded, IsRoomier, IsGrown}
@@ -22,7 +23,7 @@ moved old who after locks owed = record { activities = set old.activities who af
 -- a call changes one activity, and what is owed moves with it
 pub record Turns (old : Standing) (who : ℕ) (before after : Activity) (now : ℕ) : Type 0 where
   pub counted : IsCounted old
-  pub number : who < most_numbers
+  pub number : who < NUMBERS
   pub was : before ≡ get_or old.activities who before
   pub few : IsFew before → IsFew after
   pub owed : now + owed_by before ≡ old.owed + owed_by after
@@ -44,7 +45,7 @@ Turns-becomes old who before after locks now makes turns made =
       owed = subst (λ (a : Activity). now + owed_by (activity_at old who) ≡ old.owed + owed_by a) all (subst (λ (b : Activity). now + owed_by b ≡ old.owed + owed_by after) is turns.owed);
     }
 
-pub activity-few : (old : Standing) (who : ℕ) → IsCounted old → who < most_numbers → IsFew (activity_at old who)
+pub activity-few : (old : Standing) (who : ℕ) → IsCounted old → who < NUMBERS → IsFew (activity_at old who)
 activity-few old who counted number = All-get_or IsFew old.activities who idle (omega (arith, counted.numbers)) counted.few
 
 -- it stays counted
@@ -75,14 +76,14 @@ pub owed-few : (standing : Standing) → IsCounted standing → standing.owed < 
 owed-few standing counted =
     let each = All-weaker IsFew (λ (activity : Activity). owed_by activity ≤ 4294967297) few-owed standing.activities counted.few in
     let most = sum_by-le owed_by 4294967297 standing.activities each in
-    let count : length standing.activities * 4294967297 ≡ 25 * 4294967297 = ap (λ n. n * 4294967297) counted.numbers in
+    let count : length standing.activities * 4294967297 ≡ NUMBERS * 4294967297 = ap (λ n. n * 4294967297) counted.numbers in
     omega (arith, most, count, counted.sum)
 
 pub Turns-fits : (old : Standing) (who : ℕ) (before after : Activity) (now : ℕ) → Turns old who before after now → now < 2 ^ 62
 Turns-fits old who before after now turns = owed-few (moved old who after old.locks now) (Turns-counted old who before after old.locks now turns)
 
 -- what one session owes is part of it
-pub owed-part : (old : Standing) (who : ℕ) (before : Activity) → IsCounted old → who < most_numbers → before ≡ get_or old.activities who before → owed_by before ≤ old.owed
+pub owed-part : (old : Standing) (who : ℕ) (before : Activity) → IsCounted old → who < NUMBERS → before ≡ get_or old.activities who before → owed_by before ≤ old.owed
 owed-part old who before counted number was =
     let inside : who < length old.activities = omega (arith, counted.numbers) in
     let part = get_or-le-sum_by owed_by old.activities who before inside in
@@ -95,7 +96,7 @@ pub record SameCursors (before after : Activity) : Type 0 where
   pub room : after.cursor_room ≡ before.cursor_room
 
 -- transactions begin or end
-pub transaction-turns : (old : Standing) (who : ℕ) (before after : Activity) (now : ℕ) → IsCounted old → who < most_numbers → before ≡ get_or old.activities who before → SameCursors before after → now + transactions before ≡ old.owed + transactions after → Turns old who before after now
+pub transaction-turns : (old : Standing) (who : ℕ) (before after : Activity) (now : ℕ) → IsCounted old → who < NUMBERS → before ≡ get_or old.activities who before → SameCursors before after → now + transactions before ≡ old.owed + transactions after → Turns old who before after now
 transaction-turns old who before after now counted number was same owed =
     let long : length after.cursors ≡ length before.cursors = ap length same.cursors in
     record {
@@ -107,32 +108,32 @@ transaction-turns old who before after now counted number was same owed =
     }
 
 -- cursors are opened or shut
-pub cursor-turns : (old : Standing) (who : ℕ) (before after : Activity) (now : ℕ) → IsCounted old → who < most_numbers → before ≡ get_or old.activities who before → after.begun ≡ before.begun → (IsFew before → IsFew after) → now + length before.cursors ≡ old.owed + length after.cursors → Turns old who before after now
+pub cursor-turns : (old : Standing) (who : ℕ) (before after : Activity) (now : ℕ) → IsCounted old → who < NUMBERS → before ≡ get_or old.activities who before → after.begun ≡ before.begun → (IsFew before → IsFew after) → now + length before.cursors ≡ old.owed + length after.cursors → Turns old who before after now
 cursor-turns old who before after now counted number was same few owed =
     let open_now : transactions after ≡ transactions before = ap (λ (b : Option ℕ). if is_some b then 1 else 0) same in
     record { counted = counted; number = number; was = was; few = few; owed = omega (arith, owed, open_now) }
 
-pub begin-turns : (old : Standing) (who place : ℕ) (mode : Mode) (before after : Activity) (more : ℕ) → IsCounted old → who < most_numbers → before ≡ get_or old.activities who before → after ≡ with_mode place mode before → transactions before + more ≡ transactions after → Turns old who before after (old.owed + more)
+pub begin-turns : (old : Standing) (who place : ℕ) (mode : Mode) (before after : Activity) (more : ℕ) → IsCounted old → who < NUMBERS → before ≡ get_or old.activities who before → after ≡ with_mode place mode before → transactions before + more ≡ transactions after → Turns old who before after (old.owed + more)
 begin-turns old who place mode before after more counted number was made count =
     transaction-turns old who before after (old.owed + more) counted number was (record { cursors = ap (λ (a : Activity). a.cursors) made; room = ap (λ (a : Activity). a.cursor_room) made }) (omega (arith, count))
 
-pub write-turns : (old : Standing) (who place : ℕ) (changes : List Change) (before after : Activity) (more : ℕ) → IsCounted old → who < most_numbers → before ≡ get_or old.activities who before → after ≡ with_changes place changes before → transactions before + more ≡ transactions after → Turns old who before after (old.owed + more)
+pub write-turns : (old : Standing) (who place : ℕ) (changes : List Change) (before after : Activity) (more : ℕ) → IsCounted old → who < NUMBERS → before ≡ get_or old.activities who before → after ≡ with_changes place changes before → transactions before + more ≡ transactions after → Turns old who before after (old.owed + more)
 write-turns old who place changes before after more counted number was made count =
     transaction-turns old who before after (old.owed + more) counted number was (record { cursors = ap (λ (a : Activity). a.cursors) made; room = ap (λ (a : Activity). a.cursor_room) made }) (omega (arith, count))
 
-pub end-turns : (old : Standing) (who : ℕ) (before after : Activity) (fewer : ℕ) → IsCounted old → who < most_numbers → before ≡ get_or old.activities who before → after ≡ ended before → fewer ≡ transactions before → Turns old who before after (old.owed - fewer)
+pub end-turns : (old : Standing) (who : ℕ) (before after : Activity) (fewer : ℕ) → IsCounted old → who < NUMBERS → before ≡ get_or old.activities who before → after ≡ ended before → fewer ≡ transactions before → Turns old who before after (old.owed - fewer)
 end-turns old who before after fewer counted number was made count =
     let part = owed-part old who before counted number was in
     let closed : transactions after ≡ 0 = ap transactions made in
     transaction-turns old who before after (old.owed - fewer) counted number was (record { cursors = ap (λ (a : Activity). a.cursors) made; room = ap (λ (a : Activity). a.cursor_room) made }) (omega (arith, count, part, closed))
 
-pub open-turns : (old : Standing) (who : ℕ) (cursor : Cursor) (before after : Activity) → IsCounted old → who < most_numbers → before ≡ get_or old.activities who before → after ≡ with_cursor cursor before → 0 < before.cursor_room → Turns old who before after (old.owed + 1)
+pub open-turns : (old : Standing) (who : ℕ) (cursor : Cursor) (before after : Activity) → IsCounted old → who < NUMBERS → before ≡ get_or old.activities who before → after ≡ with_cursor cursor before → 0 < before.cursor_room → Turns old who before after (old.owed + 1)
 open-turns old who cursor before after counted number was made room =
     let long : length after.cursors ≡ length before.cursors + 1 = ap (λ (a : Activity). length a.cursors) made ∙ length_push before.cursors cursor in
     let left : after.cursor_room ≡ before.cursor_room - 1 = ap (λ (a : Activity). a.cursor_room) made in
     cursor-turns old who before after (old.owed + 1) counted number was (ap (λ (a : Activity). a.begun) made) (λ few. omega (arith, few, long, left, room)) (omega (arith, long))
 
-pub shut-turns : (old : Standing) (who number : ℕ) (before after : Activity) (fewer : ℕ) → IsCounted old → who < most_numbers → before ≡ get_or old.activities who before → after ≡ without_cursor number before → length after.cursors + fewer ≡ length before.cursors → Turns old who before after (old.owed - fewer)
+pub shut-turns : (old : Standing) (who number : ℕ) (before after : Activity) (fewer : ℕ) → IsCounted old → who < NUMBERS → before ≡ get_or old.activities who before → after ≡ without_cursor number before → length after.cursors + fewer ≡ length before.cursors → Turns old who before after (old.owed - fewer)
 shut-turns old who number before after fewer counted inside was made count =
     let part = owed-part old who before counted inside was in
     let left : after.cursor_room ≡ before.cursor_room = ap (λ (a : Activity). a.cursor_room) made in
@@ -143,7 +144,7 @@ shut-turns old who number before after fewer counted inside was made count =
 pub IsRoomier-refl : (activity : Activity) → IsRoomier activity activity
 IsRoomier-refl activity = record { pending = refl; begun = refl; mode = refl; cursors = refl; room = omega arith; cursor_room = omega arith }
 
-pub roomier-turns : (old : Standing) (who : ℕ) (before after : Activity) → IsCounted old → who < most_numbers → before ≡ get_or old.activities who before → IsRoomier before after → (IsFew before → IsFew after) → Turns old who before after old.owed
+pub roomier-turns : (old : Standing) (who : ℕ) (before after : Activity) → IsCounted old → who < NUMBERS → before ≡ get_or old.activities who before → IsRoomier before after → (IsFew before → IsFew after) → Turns old who before after old.owed
 roomier-turns old who before after counted number was roomier few =
     let long : length after.cursors ≡ length before.cursors = ap length roomier.cursors in
     cursor-turns old who before after old.owed counted number was roomier.begun few (omega (arith, long))
@@ -167,23 +168,23 @@ roomier-at old who before after locks turns = get_or-set_same old.activities who
 
 -- nothing is going on at first
 
-pub idle-counted : (locks : Cells) → IsCounted (record { activities = replicate 25 idle; locks = locks; owed = 0 })
+pub idle-counted : (locks : Cells) → IsCounted (record { activities = replicate NUMBERS idle; locks = locks; owed = 0 })
 idle-counted locks = record {
-  numbers = length-replicate 25 idle;
-  few = All-replicate IsFew 25 idle (omega arith);
-  sum = sym (sum_by-replicate owed_by 25 idle);
+  numbers = length-replicate NUMBERS idle;
+  few = All-replicate IsFew NUMBERS idle (omega arith);
+  sum = sym (sum_by-replicate owed_by NUMBERS idle);
 }
 
-pub idle-idle : IsIdle (record { activities = replicate 25 idle; locks = []; owed = 0 })
+pub idle-idle : IsIdle (record { activities = replicate NUMBERS idle; locks = []; owed = 0 })
 idle-idle = record {
   activities = λ who.
-      ⊎_elim (λ (below : who < 25). get_or-replicate 25 who idle idle below) (λ (past : 25 ≤ who). get_or_past (replicate 25 idle) who idle (omega (arith, length-replicate 25 idle))) (cases_lt who 25);
+      ⊎_elim (λ (below : who < NUMBERS). get_or-replicate NUMBERS who idle idle below) (λ (past : NUMBERS ≤ who). get_or_past (replicate NUMBERS idle) who idle (omega (arith, length-replicate NUMBERS idle))) (cases_lt who NUMBERS);
   locks = λ table rid. refl;
   owed = refl;
 }
 
 -- two readings of one activity
-pub same-read : (old : Standing) (who : ℕ) (a b : Activity) → IsCounted old → who < most_numbers → a ≡ get_or old.activities who a → b ≡ get_or old.activities who b → a ≡ b
+pub same-read : (old : Standing) (who : ℕ) (a b : Activity) → IsCounted old → who < NUMBERS → a ≡ get_or old.activities who a → b ≡ get_or old.activities who b → a ≡ b
 same-read old who a b counted number read again =
     let within : who < length old.activities = omega (arith, counted.numbers) in
     get_or_read old.activities who a within read idle ∙ sym (get_or_read old.activities who b within again idle)
@@ -215,5 +216,5 @@ HasRoom-grown old who changes before after locks turns room has = record {
 }
 
 -- a reading of an activity is the activity
-pub reads : (old : Standing) (who : ℕ) (before : Activity) → IsCounted old → who < most_numbers → before ≡ get_or old.activities who before → before ≡ activity_at old who
+pub reads : (old : Standing) (who : ℕ) (before : Activity) → IsCounted old → who < NUMBERS → before ≡ get_or old.activities who before → before ≡ activity_at old who
 reads old who before counted number was = get_or_read old.activities who before (omega (arith, counted.numbers)) was idle

@@ -1,6 +1,7 @@
 -- That what is going on stays in agreement with the history, and what it then says.
 use Rattle.std.specs.Prelude.{◌≡◌, ℕ, ◌+◌, ◌≤◌, ◌<◌, None, true, false, List, [], ◌∷◌, ◌++◌, length, All}
 use Rattle.std.specs.Option.{option_map}
+use Rattle.im_values.specs.declared.limits.TheConstants.{NUMBERS}
 use Rattle.im_history.specs.declared.change.Change.{Change}
 use Rattle.im_history.specs.declared.entry.Mode.{Mode}
 use Rattle.im_history.specs.declared.entry.What.{What}
@@ -10,7 +11,7 @@ use Rattle.im_history.specs.History.{History}
 use Rattle.im_history.specs.Refusals.{row_locked}
 use Rattle.im_history.specs.Rows.{own_changes}
 use Rattle.im_history.specs.Tables.{given}
-use Rattle.im_history.specs.Touched.{most_numbers, holder}
+use Rattle.im_history.specs.Touched.{holder}
 use Rattle.im_history.specs.Transactions.{is_open}
 use Rattle.im_txn.specs.declared.cursor.Cursor.{Cursor}
 use Rattle.im_txn.specs.Activity.{cursor_in, cursors_in, own_in}
@@ -21,12 +22,12 @@ use Rattle.im_txn.specs.Standing.{Standing, activity_at, holder_in, IsFree}
 -- each call keeps the agreement, with the entry that it goes with
 pub record KeepsAgreement : Type 0 where
   pub at_first : (standing : Standing) → IsIdle standing → Agrees [] standing
-  pub begins : (h : History) (who : ℕ) (mode : Mode) (old new : Standing) → Agrees h old → who < most_numbers → IsBegun old new who (length h) mode → Agrees (h ++ record { who = who; what = Begin mode } ∷ []) new
-  pub opens : (h : History) (who cursor table : ℕ) (old new : Standing) → Agrees h old → who < most_numbers → is_cursor_open h who cursor ≡ false → IsOpened old new who (cursor_of h who cursor table) → Agrees (h ++ record { who = who; what = Open cursor table } ∷ []) new
-  pub shuts : (h : History) (who cursor : ℕ) (old new : Standing) → Agrees h old → who < most_numbers → IsShut old new who cursor → Agrees (h ++ record { who = who; what = Shut cursor } ∷ []) new
-  pub writes : (h : History) (who : ℕ) (changes : List Change) (old new : Standing) → Agrees h old → who < most_numbers → IsFree old who changes → IsWritten old new who (length h) changes → Agrees (h ++ record { who = who; what = Write changes } ∷ []) new
-  pub commits : (h : History) (who : ℕ) (old new : Standing) → Agrees h old → who < most_numbers → IsEnded old new who → Agrees (h ++ record { who = who; what = Commit } ∷ []) new
-  pub rolls_back : (h : History) (who : ℕ) (old new : Standing) → Agrees h old → who < most_numbers → IsEnded old new who → Agrees (h ++ record { who = who; what = Rollback } ∷ []) new
+  pub begins : (h : History) (who : ℕ) (mode : Mode) (old new : Standing) → Agrees h old → who < NUMBERS → IsBegun old new who (length h) mode → Agrees (h ++ record { who = who; what = Begin mode } ∷ []) new
+  pub opens : (h : History) (who cursor table : ℕ) (old new : Standing) → Agrees h old → who < NUMBERS → is_cursor_open h who cursor ≡ false → IsOpened old new who (cursor_of h who cursor table) → Agrees (h ++ record { who = who; what = Open cursor table } ∷ []) new
+  pub shuts : (h : History) (who cursor : ℕ) (old new : Standing) → Agrees h old → who < NUMBERS → IsShut old new who cursor → Agrees (h ++ record { who = who; what = Shut cursor } ∷ []) new
+  pub writes : (h : History) (who : ℕ) (changes : List Change) (old new : Standing) → Agrees h old → who < NUMBERS → IsFree old who changes → IsWritten old new who (length h) changes → Agrees (h ++ record { who = who; what = Write changes } ∷ []) new
+  pub commits : (h : History) (who : ℕ) (old new : Standing) → Agrees h old → who < NUMBERS → IsEnded old new who → Agrees (h ++ record { who = who; what = Commit } ∷ []) new
+  pub rolls_back : (h : History) (who : ℕ) (old new : Standing) → Agrees h old → who < NUMBERS → IsEnded old new who → Agrees (h ++ record { who = who; what = Rollback } ∷ []) new
   pub others : (h : History) (who : ℕ) (what : What) (standing : Standing) → is_apart what ≡ true → Agrees h standing → Agrees (h ++ record { who = who; what = what } ∷ []) standing
   pub room : (h : History) (old new : Standing) → Agrees h old → IsGrown old new → Agrees h new
 

@@ -1,13 +1,14 @@
 -- What is going on by a history.
 use Rattle.std.specs.Prelude.{◌≡◌, ℕ, suc, ◌+◌, ◌==◌, ◌≤◌, ◌<◌, Bool, true, false, length, map, count_by, if◌then◌else◌}
 use Rattle.std.specs.List.{range_with_len, sum_by}
+use Rattle.im_values.specs.declared.limits.TheConstants.{NUMBERS}
 use Rattle.im_history.specs.declared.entry.What.{What}
 use Rattle.im_history.specs.declared.entry.What.TheVariants.{Begin, Open, Shut, Write, Commit, Rollback}
 use Rattle.im_history.specs.Cursors.{Opened, opened}
 use Rattle.im_history.specs.History.{History}
 use Rattle.im_history.specs.Rows.{snapshot}
 use Rattle.im_history.specs.Tables.{given}
-use Rattle.im_history.specs.Touched.{touches, most_numbers}
+use Rattle.im_history.specs.Touched.{touches}
 use Rattle.im_history.specs.Views.{per_at}
 use Rattle.im_history.specs.Transactions.{pending, begun, mode, is_open}
 use Rattle.im_txn.specs.declared.cursor.Cursor.{Cursor}
@@ -28,7 +29,7 @@ owes history who = (if is_open history who then 1 else 0) + length (opened histo
 
 -- the entries that all numbers together will need without fail
 unfoldable pub owed : History → ℕ
-owed history = sum_by (owes history) (range_with_len 0 most_numbers)
+owed history = sum_by (owes history) (range_with_len 0 NUMBERS)
 
 -- what is going on is what this history says: a row's cell names the number that has a change to it pending
 pub record Agrees (history : History) (standing : Standing) : Type 0 where
@@ -37,8 +38,8 @@ pub record Agrees (history : History) (standing : Standing) : Type 0 where
   pub modes : (who : ℕ) → (activity_at standing who).mode ≡ mode history who
   pub cursors : (who : ℕ) → (activity_at standing who).cursors ≡ map kept (opened history who)
   pub once : (who cursor : ℕ) → count_by (is_number cursor) (activity_at standing who).cursors ≤ 1
-  pub locks : (table rid who : ℕ) → who < most_numbers → (lock_at standing table rid == suc who) ≡ touches (pending history who) table rid
-  pub holders : (table rid : ℕ) → lock_at standing table rid ≤ most_numbers
+  pub locks : (table rid who : ℕ) → who < NUMBERS → (lock_at standing table rid == suc who) ≡ touches (pending history who) table rid
+  pub holders : (table rid : ℕ) → lock_at standing table rid ≤ NUMBERS
   pub owing : standing.owed ≡ owed history
 
 -- an entry of this kind changes nothing of what sessions have going on

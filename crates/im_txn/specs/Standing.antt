@@ -1,8 +1,8 @@
 -- What all sessions have going on, as contracts see it.
 use Rattle.std.specs.Prelude.{◌≡◌, ℕ, ◌^◌, ◌+◌, ◌≤◌, List, length, slice_index_or, All, Option, None}
 use Rattle.std.specs.List.{sum_by}
+use Rattle.im_values.specs.declared.limits.TheConstants.{NUMBERS}
 use Rattle.im_history.specs.declared.change.Change.{Change}
-use Rattle.im_history.specs.Touched.{most_numbers}
 use Rattle.im_txn.specs.Activity.{Activity, idle, owed_by}
 use Rattle.im_txn.specs.LockCells.{Cells, cell_at, HasCells, other_in}
 
@@ -35,7 +35,7 @@ IsFew activity = length activity.cursors + activity.cursor_room ≤ most_open
 
 -- there is an activity for each number, and what is owed is counted
 pub record IsCounted (standing : Standing) : Type 0 where
-  pub numbers : length standing.activities ≡ most_numbers
+  pub numbers : length standing.activities ≡ NUMBERS
   pub few : All IsFew standing.activities
   pub sum : standing.owed ≡ sum_by owed_by standing.activities
 

@@ -1,6 +1,6 @@
 //! What each session and worker has going on: its pending changes, its transaction, its cursors and its row locks.
 //!
-//! Contracts see [`Sessions`] as `specs/Standing.antt` says: the activity of each number below 25, the lock cells of
+//! Contracts see [`Sessions`] as `specs/Standing.antt` says: the activity of each caller, the lock cells of
 //! each table by row number, and how many entries are owed. Each is read by a function that answers nothing past the
 //! ends, so room that was made is not seen.
 //!

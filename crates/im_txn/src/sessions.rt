@@ -1,5 +1,4 @@
 ghost use Rattle.std.specs.Prelude.{◌≡◌, ◌^◌, ◌<◌, OnOk, IfOk};
-ghost use Rattle.im_history.specs.Touched.{most_numbers};
 ghost use Rattle.im_txn.specs.Activity.{cursor_in, cursors_in, own_in};
 ghost use Rattle.im_txn.specs.Effects.{IsBegun, IsEnded, IsGrown, IsIdle, IsOpened, IsShut, IsWritten};
 ghost use Rattle.im_txn.specs.LockCells.{other_in};
@@ -8,16 +7,13 @@ ghost use Rattle.im_txn.specs.Standing.{HasRoom, IsFree, activity_at, holder_in}
 use crate::cursor::Cursor;
 use crate::locks::Locks;
 use crate::session::Session;
-use im_history::{Change, Changes, Mode};
+use im_history::{Change, Changes, Mode, Who};
 use im_values::NoMemory;
+use im_values::limits::NUMBERS;
 use std::alloc::Global;
 use std::marker::Model;
 
-/// Numbers are below this.
-const NUMBERS: u32 = 25;
-
-/// What each number below 25 has going on, and which rows it holds. 0 is the background of a script, 1 to 16 are
-/// sessions, 17 to 24 are workers.
+/// What each caller of the store has going on, and which rows it holds.
 #[derive(Debug, Drop)]
 pub struct Sessions {
     sessions: Vec<Session>,
@@ -52,43 +48,38 @@ impl Sessions {
     }
 
     /// The pending changes of a session, in the order in which they were written.
-    pub fn pending(&self, who: u32) -> &[Change]
-        requires { who < most_numbers }
+    pub fn pending(&self, who: Who) -> &[Change]
         ensures { result.now ≡ (activity_at self.now who).pending }
     {
-        self.sessions[who as usize].pending()
+        self.sessions[who.index()].pending()
     }
 
     /// The place where a session's open transaction began, or none where none is open.
-    pub fn begun(&self, who: u32) -> Option<u64>
-        requires { who < most_numbers }
+    pub fn begun(&self, who: Who) -> Option<u64>
         ensures { result ≡ (activity_at self.now who).begun }
     {
-        self.sessions[who as usize].begun()
+        self.sessions[who.index()].begun()
     }
 
     /// The mode of a session's open transaction, READ COMMITTED where none is open.
-    pub fn mode(&self, who: u32) -> Mode
-        requires { who < most_numbers }
+    pub fn mode(&self, who: Who) -> Mode
         ensures { result ≡ (activity_at self.now who).mode }
     {
-        self.sessions[who as usize].mode()
+        self.sessions[who.index()].mode()
     }
 
     /// The open cursor of this number of a session.
-    pub fn cursor(&self, who: u32, cursor: u32) -> Option<Cursor>
-        requires { who < most_numbers }
+    pub fn cursor(&self, who: Who, cursor: u32) -> Option<Cursor>
         ensures { result ≡ cursor_in (activity_at self.now who) cursor }
     {
-        self.sessions[who as usize].cursor(cursor)
+        self.sessions[who.index()].cursor(cursor)
     }
 
     /// How many cursors a session has open beside cursor 0.
-    pub fn cursors_open(&self, who: u32) -> u64
-        requires { who < most_numbers }
+    pub fn cursors_open(&self, who: Who) -> u64
         ensures { result ≡ cursors_in (activity_at self.now who) }
     {
-        self.sessions[who as usize].cursors_open()
+        self.sessions[who.index()].cursors_open()
     }
 
     /// How many entries all sessions together will need without fail: a Rollback for each open transaction, and a Shut
@@ -101,68 +92,61 @@ impl Sessions {
     }
 
     /// Another session that holds a row: it has a change to the row pending.
-    pub fn holder(&self, who: u32, table: u32, rid: u64) -> Option<u32>
-        requires { who < most_numbers }
+    pub fn holder(&self, who: Who, table: u32, rid: u64) -> Option<u32>
         ensures { result ≡ holder_in self.now who table rid }
     {
-        other_in(who, self.locks.cell(table, rid))
+        other_in(who.number(), self.locks.cell(table, rid))
     }
 
     /// A copy of a session's pending changes to a table. It costs what the session has pending.
-    pub fn own(&self, alloc: Global, who: u32, table: u32) -> Result<Changes, NoMemory>
-        requires { who < most_numbers }
+    pub fn own(&self, alloc: Global, who: Who, table: u32) -> Result<Changes, NoMemory>
         ensures { IfOk result (λ own. own ≡ own_in (activity_at self.now who) table) }
     {
-        self.sessions[who as usize].own(alloc, table)
+        self.sessions[who.index()].own(alloc, table)
     }
 
     /// A session's statement sets the mode at this place of the history: its transaction begins there where none is
     /// open.
     ///
     /// It takes no memory.
-    pub fn begin(&mut self, who: u32, place: u64, mode: Mode)
-        requires { who < most_numbers }
+    pub fn begin(&mut self, who: Who, place: u64, mode: Mode)
         ensures { IsBegun self.old self.new who place mode }
     {
-        let more = self.sessions[who as usize].begin(place, mode);
+        let more = self.sessions[who.index()].begin(place, mode);
         self.owed += more;
     }
 
     /// Makes room for one more cursor of a session.
-    pub fn reserve_cursor(&mut self, who: u32) -> Result<(), NoMemory>
-        requires { who < most_numbers }
+    pub fn reserve_cursor(&mut self, who: Who) -> Result<(), NoMemory>
         ensures same { IsGrown self.old self.new }
         ensures ok { OnOk result (0 < (activity_at self.new who).cursor_room) }
     {
-        self.sessions[who as usize].reserve_cursor()
+        self.sessions[who.index()].reserve_cursor()
     }
 
     /// A session opens a cursor. It takes no memory.
-    pub fn open_cursor(&mut self, who: u32, cursor: Cursor)
-        requires who { who < most_numbers }
+    pub fn open_cursor(&mut self, who: Who, cursor: Cursor)
         requires room { 0 < (activity_at self.old who).cursor_room }
         ensures { IsOpened self.old self.new who cursor }
     {
-        self.sessions[who as usize].open_cursor(cursor);
+        self.sessions[who.index()].open_cursor(cursor);
         self.owed += 1;
     }
 
     /// A session shuts a cursor; the others stay in order. It takes no memory.
-    pub fn shut(&mut self, who: u32, cursor: u32)
-        requires { who < most_numbers }
+    pub fn shut(&mut self, who: Who, cursor: u32)
         ensures { IsShut self.old self.new who cursor }
     {
-        let fewer = self.sessions[who as usize].shut(cursor);
+        let fewer = self.sessions[who.index()].shut(cursor);
         self.owed -= fewer;
     }
 
     /// Makes room for these changes of a session, and lock cells for their rows.
-    pub fn reserve_write(&mut self, who: u32, changes: &[Change]) -> Result<(), NoMemory>
-        requires { who < most_numbers }
+    pub fn reserve_write(&mut self, who: Who, changes: &[Change]) -> Result<(), NoMemory>
         ensures same { IsGrown self.old self.new }
         ensures ok { OnOk result (HasRoom self.new who changes.now) }
     {
-        self.sessions[who as usize].reserve_changes(changes.len() as u64)?;
+        self.sessions[who.index()].reserve_changes(changes.len() as u64)?;
         self.locks.reserve(changes)
     }
 
@@ -170,14 +154,14 @@ impl Sessions {
     /// transaction begins there where none is open.
     ///
     /// It takes no memory.
-    pub fn write(&mut self, who: u32, place: u64, changes: Vec<Change>)
-        requires who { who < most_numbers }
+    pub fn write(&mut self, who: Who, place: u64, changes: Vec<Change>)
         requires room { HasRoom self.old who changes.items }
         requires free { IsFree self.old who changes.items }
         ensures { IsWritten self.old self.new who place changes.items }
     {
-        self.locks.set_all(changes.as_slice(), who as u8 + 1);
-        let more = self.sessions[who as usize].write(place, changes);
+        let at = who.index();
+        self.locks.set_all(changes.as_slice(), at as u8 + 1);
+        let more = self.sessions[at].write(place, changes);
         self.owed += more;
     }
 
@@ -185,13 +169,13 @@ impl Sessions {
     /// are free.
     ///
     /// It takes no memory.
-    pub fn clear(&mut self, who: u32) -> Changes
-        requires { who < most_numbers }
+    pub fn clear(&mut self, who: Who) -> Changes
         ensures after { IsEnded self.old self.new who }
         ensures handed { result ≡ (activity_at self.old who).pending }
     {
-        let fewer = self.sessions[who as usize].transactions();
-        let changes = self.sessions[who as usize].end();
+        let at = who.index();
+        let fewer = self.sessions[at].transactions();
+        let changes = self.sessions[at].end();
         self.owed -= fewer;
         self.locks.set_all(changes.items(), 0);
         changes

@@ -1,7 +1,5 @@
-ghost use Rattle.std.specs.Prelude.{◌<◌};
-
 use crate::{Cursor, Sessions};
-use im_history::{Change, Mode};
+use im_history::{Change, Mode, Who};
 use im_values::{Row, Value};
 use std::alloc::Global;
 use std::test::Fail;
@@ -57,9 +55,13 @@ fn row(alloc: Global, number: i64) -> Result<Row, Fail> {
 }
 
 /// Writes to one row, if no other session holds it. It answers how many rows were written.
-fn put(alloc: Global, sessions: &mut Sessions, who: u32, table: u32, rid: u64) -> Result<u64, Fail>
-    requires { who < 25 }
-{
+fn put(
+    alloc: Global,
+    sessions: &mut Sessions,
+    who: Who,
+    table: u32,
+    rid: u64,
+) -> Result<u64, Fail> {
     if sessions.holder(who, table, rid).is_some() {
         return Ok(0);
     }
@@ -72,9 +74,7 @@ fn put(alloc: Global, sessions: &mut Sessions, who: u32, table: u32, rid: u64) -
 }
 
 /// Opens a cursor.
-fn open_one(sessions: &mut Sessions, who: u32, cursor: u32) -> Result<(), Fail>
-    requires { who < 25 }
-{
+fn open_one(sessions: &mut Sessions, who: Who, cursor: u32) -> Result<(), Fail> {
     sessions.reserve_cursor(who)?;
     let opened = Cursor {
         cursor,
@@ -88,23 +88,19 @@ fn open_one(sessions: &mut Sessions, who: u32, cursor: u32) -> Result<(), Fail>
 }
 
 /// Does a step, and answers as the cases say.
-fn take(alloc: Global, sessions: &mut Sessions, who: u32, step: Step) -> Result<u64, Fail>
-    requires { who < 25 }
-{
+fn take(alloc: Global, sessions: &mut Sessions, who: Who, step: Step) -> Result<u64, Fail> {
     match step {
         Step::Put { table, rid } => return put(alloc, sessions, who, table, rid),
         Step::Begin { mode } => sessions.begin(who, 10, mode),
         Step::Open { cursor } => open_one(sessions, who, cursor)?,
         Step::Shut { cursor } => sessions.shut(who, cursor),
-        Step::End => return Ok(sessions.clear(who).as_slice().len() as u64),
+        Step::End => return Ok(sessions.clear(who).items().len() as u64),
     }
     Ok(sessions.cursors_open(who))
 }
 
 /// Whether a session has a change to a row pending.
-fn touches(sessions: &Sessions, who: u32, table: u32, rid: u64) -> bool
-    requires { who < 25 }
-{
+fn touches(sessions: &Sessions, who: Who, table: u32, rid: u64) -> bool {
     for change in sessions.pending(who) {
         if change.table == table && change.rid == rid {
             return true;
@@ -114,12 +110,10 @@ fn touches(sessions: &Sessions, who: u32, table: u32, rid: u64) -> bool
 }
 
 /// Whether a holder is what a search through all pending changes finds.
-fn is_holder_of(sessions: &Sessions, who: u32, table: u32, rid: u64) -> bool
-    requires { who < 25 }
-{
+fn is_holder_of(sessions: &Sessions, who: Who, table: u32, rid: u64) -> bool {
     let holder = sessions.holder(who, table, rid);
     for other in 0..25 {
-        if other != who && touches(sessions, other, table, rid) {
+        if other != who.number() && touches(sessions, Who::of(other), table, rid) {
             return holder == Some(other);
         }
     }
@@ -130,6 +124,7 @@ fn is_holder_of(sessions: &Sessions, who: u32, table: u32, rid: u64) -> bool
 fn has_holders(sessions: &Sessions) -> bool {
     for who in 0..4 {
         for rid in 0..8 {
+            let who = Who::of(who);
             if !is_holder_of(sessions, who, 1, rid) || !is_holder_of(sessions, who, 2, rid) {
                 return false;
             }
@@ -143,7 +138,10 @@ fn sessions_do_as_the_cases_say(rt: HostRuntime) -> Result<(), Fail> {
     let mut sessions = Sessions::new(rt.alloc())?;
     for (who, step, answer, owed) in CASES {
         assert!(rt; who < 25);
-        assert_eq!(rt; take(rt.alloc(), &mut sessions, who, step)?, answer);
+        assert_eq!(rt;
+            take(rt.alloc(), &mut sessions, Who::of(who), step)?,
+            answer
+        );
         assert_eq!(rt; sessions.owed(), owed);
         assert!(rt; has_holders(&sessions));
     }
@@ -166,7 +164,7 @@ fn any_rows_are_held_by_those_who_wrote_them(rt: HostRuntime) -> Result<(), Fail
                 rid: (seed >> 50) % 8,
             },
         };
-        let _answer = take(rt.alloc(), &mut sessions, who, step)?;
+        let _answer = take(rt.alloc(), &mut sessions, Who::of(who), step)?;
         assert!(rt; has_holders(&sessions));
     }
     Ok(())
@@ -175,20 +173,24 @@ fn any_rows_are_held_by_those_who_wrote_them(rt: HostRuntime) -> Result<(), Fail
 #[test]
 fn a_transaction_keeps_its_mode_and_its_place(rt: HostRuntime) -> Result<(), Fail> {
     let mut sessions = Sessions::new(rt.alloc())?;
-    sessions.begin(3, 10, Mode::Serializable);
-    let _written = put(rt.alloc(), &mut sessions, 3, 1, 2)?;
+    let (third, fourth) = (Who::of(3), Who::of(4));
+    sessions.begin(third, 10, Mode::Serializable);
+    let _written = put(rt.alloc(), &mut sessions, third, 1, 2)?;
     assert_eq!(rt;
-        (sessions.mode(3), sessions.begun(3)),
+        (sessions.mode(third), sessions.begun(third)),
         (Mode::Serializable, Some(10))
     );
-    let _other = put(rt.alloc(), &mut sessions, 4, 1, 6)?;
+    let _other = put(rt.alloc(), &mut sessions, fourth, 1, 6)?;
     assert_eq!(rt;
-        (sessions.mode(4), sessions.begun(4)),
+        (sessions.mode(fourth), sessions.begun(fourth)),
         (Mode::Committed, Some(6))
     );
-    assert_eq!(rt; sessions.own(rt.alloc(), 3, 1)?.items().len(), 1);
-    assert_eq!(rt; sessions.own(rt.alloc(), 3, 2)?.items().len(), 0);
-    open_one(&mut sessions, 3, 5)?;
-    assert_eq!(rt; sessions.cursor(3, 5).map(|cursor| cursor.rows), Some(9));
+    assert_eq!(rt; sessions.own(rt.alloc(), third, 1)?.items().len(), 1);
+    assert_eq!(rt; sessions.own(rt.alloc(), third, 2)?.items().len(), 0);
+    open_one(&mut sessions, third, 5)?;
+    assert_eq!(rt;
+        sessions.cursor(third, 5).map(|cursor| cursor.rows),
+        Some(9)
+    );
     Ok(())
 }

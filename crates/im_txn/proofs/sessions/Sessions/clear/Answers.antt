@@ -8,23 +8,24 @@ use Rattle.im_txn.proofs.sessions.Sessions.clear.Goals as goal
 pub overflow_sub-self : goal.overflow_sub-self
 overflow_sub-self c =
     let fewer : c.transactions-fewer.result ≡ transactions c.index.result.now = c.transactions-fewer.ensures in
-    omega (arith, owed-part _ c.args.who c.index.result.now c.self.invariant c.requires c.index.ensures, fewer)
+    omega (arith, owed-part _ c.index-at.result c.index.result.now c.self.invariant c.index-at.ensures.few c.index.ensures, fewer)
 
 pub invariant_of-self : goal.invariant_of-self
 invariant_of-self c =
-    let same = same-read _ c.args.who c.index.result.now c.index_mut.result.now c.self.invariant c.requires c.index.ensures c.index_mut.ensures.value in
-    Turns-counted _ _ _ _ c.set_all.new.self _ (end-turns _ c.args.who c.index_mut.result.now c.end-changes.new.self c.transactions-fewer.result c.self.invariant c.requires c.index_mut.ensures.value c.end-changes.ensures.after (c.transactions-fewer.ensures ∙ ap transactions same))
+    let same = same-read _ c.index-at.result c.index.result.now c.index_mut.result.now c.self.invariant c.index-at.ensures.few c.index.ensures c.index_mut.ensures.value in
+    Turns-counted _ _ _ _ c.set_all.new.self _ (end-turns _ c.index-at.result c.index_mut.result.now c.end-changes.new.self c.transactions-fewer.result c.self.invariant c.index-at.ensures.few c.index_mut.ensures.value c.end-changes.ensures.after (c.transactions-fewer.ensures ∙ ap transactions same))
 
 pub returns-clause-after : goal.returns-clause-after
 returns-clause-after c =
-    let same = same-read _ c.args.who c.index.result.now c.index_mut.result.now c.self.invariant c.requires c.index.ensures c.index_mut.ensures.value in
-    let turns = end-turns _ c.args.who c.index_mut.result.now c.end-changes.new.self c.transactions-fewer.result c.self.invariant c.requires c.index_mut.ensures.value c.end-changes.ensures.after (c.transactions-fewer.ensures ∙ ap transactions same) in
+    let same = same-read _ c.index-at.result c.index.result.now c.index_mut.result.now c.self.invariant c.index-at.ensures.few c.index.ensures c.index_mut.ensures.value in
+    let turns = end-turns _ c.index-at.result c.index_mut.result.now c.end-changes.new.self c.transactions-fewer.result c.self.invariant c.index-at.ensures.few c.index_mut.ensures.value c.end-changes.ensures.after (c.transactions-fewer.ensures ∙ ap transactions same) in
     let cells = c.set_all.ensures ∙ ap (set_cells 0 c.self.inside.locks) c.items.ensures in
-    rw (← c.self.view_is) (ended-set _ _ c.end-changes.result _ _ c.set_all.new.self _ turns c.end-changes.ensures.after cells c.end-changes.ensures.handed)
+    rw (← c.index-at.ensures.same, ← c.self.view_is) (ended-set _ _ c.end-changes.result _ _ c.set_all.new.self _ turns c.end-changes.ensures.after cells c.end-changes.ensures.handed)
 
 pub returns-clause-handed : goal.returns-clause-handed
 returns-clause-handed c =
-    let is = reads _ c.args.who c.index_mut.result.now c.self.invariant c.requires c.index_mut.ensures.value in
-    c.end-changes.ensures.handed
+    let is = reads _ c.index-at.result c.index_mut.result.now c.self.invariant c.index-at.ensures.few c.index_mut.ensures.value in
+    rw (← c.index-at.ensures.same)
+    (c.end-changes.ensures.handed
     ∙ (ap (λ (a : Activity). a.pending) is
-    ∙ ap (λ (s : Standing). (activity_at s c.args.who).pending) c.self.view_is)
+    ∙ ap (λ (s : Standing). (activity_at s c.index-at.result).pending) c.self.view_is))

@@ -1,4 +1,5 @@
 use Rattle.std.proofs.Common.{◌≡◌, arith, ap, ◌∙◌, subst, sym, List, replicate}
+use Rattle.im_values.specs.declared.limits.TheConstants.{NUMBERS}
 use Rattle.im_txn.specs.Activity.{Activity, idle}
 use Rattle.im_txn.specs.Effects.{IsIdle}
 use Rattle.im_txn.specs.LockCells.{Cells}
@@ -8,13 +9,13 @@ use Rattle.im_txn.proofs.sessions.Sessions.new.Goals as goal
 
 pub invariant_of-result : goal.invariant_of-result
 invariant_of-result c =
-    let full : c.loop-count._count ≡ 25 = omega (arith, c.loop-count-test.false, c.loop-count.auto) in
-    let all : c.loop-count.sessions.items ≡ replicate 25 idle = c.loop-count.invariant ∙ ap (λ n. replicate n idle) full in
+    let full : c.loop-count._count ≡ NUMBERS = omega (arith, c.loop-count-test.false, c.loop-count.auto) in
+    let all : c.loop-count.sessions.items ≡ replicate NUMBERS idle = c.loop-count.invariant ∙ ap (λ n. replicate n idle) full in
     subst (λ (l : List Activity). IsCounted (record { activities = l; locks = c.new-2.result; owed = 0 })) (sym all) (idle-counted c.new-2.result)
 
 pub returns : goal.returns
 returns c =
-    let full : c.loop-count._count ≡ 25 = omega (arith, c.loop-count-test.false, c.loop-count.auto) in
-    let all : c.loop-count.sessions.items ≡ replicate 25 idle = c.loop-count.invariant ∙ ap (λ n. replicate n idle) full in
+    let full : c.loop-count._count ≡ NUMBERS = omega (arith, c.loop-count-test.false, c.loop-count.auto) in
+    let all : c.loop-count.sessions.items ≡ replicate NUMBERS idle = c.loop-count.invariant ∙ ap (λ n. replicate n idle) full in
     subst (λ (l : List Activity). IsIdle (record { activities = l; locks = c.new-2.result; owed = 0 })) (sym all)
-    (subst (λ (l : Cells). IsIdle (record { activities = replicate 25 idle; locks = l; owed = 0 })) (sym c.new-2.ensures) idle-idle)
+    (subst (λ (l : Cells). IsIdle (record { activities = replicate NUMBERS idle; locks = l; owed = 0 })) (sym c.new-2.ensures) idle-idle)
