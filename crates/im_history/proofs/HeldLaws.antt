@@ -1,5 +1,5 @@
 -- In a legal history each held build is of an extent that had a row number when it began.
-use Rattle.std.proofs.Common.{◌≡◌, ℕ, ◌*◌, ◌==◌, ◌&&◌, ◌<◌, ◌≤◌, Bool, true, false, [], ◌∷◌, ◌++◌, length, Option, Some, None, if◌then◌else◌, nat_lt, refl, sym, ap, ◌∙◌, subst, arith}
+use Rattle.std.proofs.Common.{◌≡◌, ℕ, ◌*◌, ◌==◌, ◌&&◌, ◌<◌, ◌≤◌, Bool, true, false, [], ◌∷◌, ◌++◌, length, map, Option, Some, None, if◌then◌else◌, nat_lt, refl, sym, ap, ap₂, ◌∙◌, subst, arith}
 use Rattle.std.specs.Option.{option_map, option_or}
 use Rattle.std.proofs.lemmas.Bool.Decides.{nat_tests}
 use Rattle.im_history.specs.declared.entry.Entry.{Entry}
@@ -13,20 +13,21 @@ use Rattle.im_history.specs.History.{History}
 use Rattle.im_history.specs.Legal.{Exists, IsAllowed, IsLegal, MayBuild}
 use Rattle.im_history.specs.Tables.{given, table_at}
 use Rattle.im_history.specs.Transactions.{or_here}
-use Rattle.im_history.specs.Units.{held_at, is_member, killed_by}
+use Rattle.im_history.specs.Units.{Content, columns_of, content_at, held_at, is_member, killed_by, rows_of_extent, task_content, unit_row}
 use Rattle.im_history.specs.Views.{per_at}
 use Rattle.im_history.proofs.BuildLaws.{begun_at, held_at-build, held_at-cancel, held_at-nil, held_at-plain, held_at-switch}
 use Rattle.im_history.proofs.GivenLaws.{given-grows}
 use Rattle.im_history.proofs.GridLaws.{first_within}
 use Rattle.im_history.proofs.Laws.{IsLegal-pop, scn-push}
 use Rattle.im_history.proofs.RowLaws.{each_history}
-use Rattle.im_history.proofs.TableLaws.{Exists-push, per_at-push}
+use Rattle.im_history.proofs.TableLaws.{Exists-push, columns-push, per_at-push}
 use Rattle.im_history.proofs.UnitLaws.{is_plain}
 
 -- a build of an extent of a table that exists, whose first row number was given when it began
 pub record IsWithin (h : History) (held : Held) : Type 0 where
   pub exists : Exists h held.task.table
   pub per : held.task.per ≡ per_at h held.task.table
+  pub columns : held.task.columns ≡ columns_of (table_at h held.task.table)
   pub first : held.task.extent * held.task.per < held.given
   pub given : held.given ≤ given h held.task.table
   pub scn : held.task.scn ≤ scn h
@@ -35,6 +36,7 @@ IsWithin-push : (h : History) (entry : Entry) (held : Held) → IsWithin h held 
 IsWithin-push h entry held within = record {
   exists = Exists-push h entry held.task.table within.exists;
   per = within.per ∙ sym (per_at-push h entry held.task.table within.exists);
+  columns = within.columns ∙ sym (columns-push h entry held.task.table within.exists);
   first = within.first;
   given = let before = within.given in let more = given-grows h entry held.task.table in omega (arith, before, more);
   scn = let before = within.scn in let moved = scn-push h entry in omega (arith, before, moved);
@@ -45,7 +47,7 @@ IsWithin-killed : (h : History) (place : ℕ) (what : What) (held : Held) → Is
 IsWithin-killed h place what held within = by _
   where
     by : (b : Bool) → IsWithin h (if b then record held { killed = or_here place held.killed } else held)
-    by true = record { exists = within.exists; per = within.per; first = within.first; given = within.given; scn = within.scn }
+    by true = record { exists = within.exists; per = within.per; columns = within.columns; first = within.first; given = within.given; scn = within.scn }
     by false = within
 
 both : (a b : Bool) → (a && b) ≡ true → (a ≡ true) × (b ≡ true)
@@ -60,6 +62,7 @@ IsWithin-begun h who id table extent trickle may =
     record {
       exists = may.exists;
       per = refl;
+      columns = refl;
       first = first_within (given h table) (per_at h table) extent (grind (arith, nat_tests, some));
       given = omega arith;
       scn = omega arith;
@@ -121,3 +124,18 @@ LegalWithin-push limits h entry before = record {
 -- a held build of a legal history is of an extent that had a row number when it began
 pub held-within : (limits : Limits) (h : History) (id : ℕ) (held : Held) → IsLegal limits h → held_at h id ≡ Some held → IsWithin h held
 held-within limits h id held legal is = ((each_history (LegalWithin limits) (LegalWithin-nil limits) (LegalWithin-push limits) h).within legal).each id held is
+
+abbrev task_content_of : (h : History) (held : Held) (per columns : ℕ) → Content
+task_content_of h held per columns = record {
+  scn = held.task.scn;
+  first = held.task.extent * per;
+  columns = columns;
+  rows = map (unit_row h held.task.table held.task.scn) (rows_of_extent per held.task.extent);
+}
+
+-- so what its unit is to hold is what a unit of its extent at its SCN holds
+pub task_content-is : (limits : Limits) (h : History) (id : ℕ) (held : Held) → IsLegal limits h → held_at h id ≡ Some held
+    → task_content h held.task ≡ content_at h held.task.table held.task.extent held.task.scn
+task_content-is limits h id held legal is =
+    let within = held-within limits h id held legal is in
+    ap₂ (task_content_of h held) within.per within.columns

@@ -1,5 +1,7 @@
 -- What each reading of a history is after one more entry.
-use Rattle.std.proofs.Common.{◌≡◌, ℕ, ◌==◌, [], ◌∷◌, ◌++◌, length, None, if◌then◌else◌, ◌+◌, refl, ap, ◌∙◌, append_assoc, append-nil, length-append}
+use Rattle.std.proofs.Common.{◌≡◌, ℕ, ◌==◌, [], ◌∷◌, ◌++◌, length, All, None, if◌then◌else◌, ◌+◌, ◌<◌, refl, ap, ◌∙◌, append_assoc, append-nil, length-append}
+use Rattle.std.proofs.lemmas.List.Elements.{All-nil, All-cons}
+use Rattle.im_values.specs.declared.limits.TheConstants.{NUMBERS}
 use Rattle.im_history.specs.declared.entry.Entry.{Entry}
 use Rattle.im_history.specs.declared.entry.Mode.TheVariants.{Committed}
 use Rattle.im_history.specs.declared.entry.What.{What}
@@ -8,7 +10,7 @@ use Rattle.im_history.specs.Commits.{commits, committed_by, scn, moves_clock}
 use Rattle.im_history.specs.declared.limits.Limits.{Limits}
 use Rattle.im_history.specs.Cursors.{opened, opened_after}
 use Rattle.im_history.specs.History.{History, replay}
-use Rattle.im_history.specs.Legal.{IsAllowed, IsLegal, IsLegalFrom}
+use Rattle.im_history.specs.Legal.{IsAllowed, IsLegal, IsLegalFrom, MayFollow}
 use Rattle.im_history.specs.Tables.{tables, created, given, given_after}
 use Rattle.im_history.specs.Touched.{last_touch, touched_after}
 use Rattle.im_history.specs.Transactions.{pending, pending_after, begun, begun_after, mode, mode_after}
@@ -64,21 +66,37 @@ scn-nil = refl
 pub scn-push : (h : History) (entry : Entry) → scn (h ++ entry ∷ []) ≡ scn h + (if moves_clock entry.what then 1 else 0)
 scn-push h entry = ap length (commits-push h entry) ∙ (length-append (commits h) (committed_by h entry.who entry.what) ∙ ap (λ n. scn h + n) (length-committed_by h entry.who entry.what))
 
-IsLegalFrom-push : (limits : Limits) (before h : History) (entry : Entry) → IsLegalFrom limits before h → IsAllowed limits (before ++ h) entry.who entry.what → IsLegalFrom limits before (h ++ entry ∷ [])
-IsLegalFrom-push limits before [] entry legal allowed = (rw append-nil at allowed, tt)
-IsLegalFrom-push limits before (first ∷ h) entry legal allowed =
-    (legal.0, IsLegalFrom-push limits (before ++ first ∷ []) h entry legal.1 (rw (← append_assoc before (first ∷ []) h) at allowed))
+IsLegalFrom-push : (limits : Limits) (before h : History) (entry : Entry) → IsLegalFrom limits before h
+    → MayFollow limits (before ++ h) entry → IsLegalFrom limits before (h ++ entry ∷ [])
+IsLegalFrom-push limits before [] entry legal may = (rw append-nil at may, tt)
+IsLegalFrom-push limits before (first ∷ h) entry legal may =
+    (legal.0, IsLegalFrom-push limits (before ++ first ∷ []) h entry legal.1 (rw (← append_assoc before (first ∷ []) h) at may))
 
--- a legal history with an entry that is allowed after it is legal
-pub IsLegal-push : (limits : Limits) (h : History) (entry : Entry) → IsLegal limits h → IsAllowed limits h entry.who entry.what → IsLegal limits (h ++ entry ∷ [])
-IsLegal-push limits h entry legal allowed = record { each = IsLegalFrom-push limits [] h entry legal.each allowed }
+-- a legal history with an entry that may come after it is legal
+pub IsLegal-push : (limits : Limits) (h : History) (entry : Entry) → IsLegal limits h → entry.who < NUMBERS
+    → IsAllowed limits h entry.who entry.what → IsLegal limits (h ++ entry ∷ [])
+IsLegal-push limits h entry legal number allowed = record {
+  each = IsLegalFrom-push limits [] h entry legal.each (record { number = number; allowed = allowed });
+}
 
-IsLegalFrom-pop : (limits : Limits) (before h : History) (entry : Entry) → IsLegalFrom limits before (h ++ entry ∷ []) → IsLegalFrom limits before h × IsAllowed limits (before ++ h) entry.who entry.what
+IsLegalFrom-pop : (limits : Limits) (before h : History) (entry : Entry) → IsLegalFrom limits before (h ++ entry ∷ [])
+    → IsLegalFrom limits before h × MayFollow limits (before ++ h) entry
 IsLegalFrom-pop limits before [] entry legal = (tt, rw append-nil legal.0)
 IsLegalFrom-pop limits before (first ∷ h) entry legal =
     let rest = IsLegalFrom-pop limits (before ++ first ∷ []) h entry legal.1 in
     ((legal.0, rest.0), rw (append_assoc before (first ∷ []) h) at rest.1)
 
 -- and of a legal history with one more entry, what is before it is legal, and the entry is allowed there
-pub IsLegal-pop : (limits : Limits) (h : History) (entry : Entry) → IsLegal limits (h ++ entry ∷ []) → IsLegal limits h × IsAllowed limits h entry.who entry.what
-IsLegal-pop limits h entry legal = let both = IsLegalFrom-pop limits [] h entry legal.each in (record { each = both.0 }, both.1)
+pub IsLegal-pop : (limits : Limits) (h : History) (entry : Entry) → IsLegal limits (h ++ entry ∷ [])
+    → IsLegal limits h × IsAllowed limits h entry.who entry.what
+IsLegal-pop limits h entry legal =
+    let both = IsLegalFrom-pop limits [] h entry legal.each in (record { each = both.0 }, both.1.allowed)
+
+numbers_from : (limits : Limits) (before h : History) → IsLegalFrom limits before h → All (λ entry. entry.who < NUMBERS) h
+numbers_from limits before [] legal = All-nil _
+numbers_from limits before (entry ∷ rest) legal =
+    All-cons (λ (e : Entry). e.who < NUMBERS) entry rest legal.0.number (numbers_from limits (before ++ entry ∷ []) rest legal.1)
+
+-- whoever made an entry of a legal history has a number
+pub IsLegal-numbers : (limits : Limits) (h : History) → IsLegal limits h → All (λ entry. entry.who < NUMBERS) h
+IsLegal-numbers limits h legal = numbers_from limits [] h legal.each

@@ -1,11 +1,13 @@
 -- Which histories a store may have: each entry is allowed after those before it.
 use Rattle.std.specs.Prelude.{◌≡◌, ℕ, ◌+◌, ◌<◌, ◌≤◌, ◌⊎◌, true, false, IsTrue, Bool, List, [], ◌∷◌, ◌++◌, length, All, fold, Option, Some, None, is_some}
 use Rattle.std.specs.List.{AllAdjacentBelow}
+use Rattle.im_values.specs.declared.limits.TheConstants.{MOST_CHANGES, MOST_COLUMNS, MOST_WEIGHT, NUMBERS}
 use Rattle.im_values.specs.declared.schema.Column.{Column}
 use Rattle.im_values.specs.Fits.{fits}
 use Rattle.im_history.specs.declared.change.Change.{Change}
+use Rattle.im_history.specs.declared.entry.Entry.{Entry}
 use Rattle.im_history.specs.declared.entry.What.{What}
-use Rattle.im_history.specs.declared.entry.What.TheVariants.{Create, Memory, Begin, Open, Shut, Write, Commit, Rollback, Build, Switch, Cancel, Evict}
+use Rattle.im_history.specs.declared.entry.What.TheVariants.{Create, Memory, Begin, Open, Shut, Write, Commit, Rollback, Build, Switch, Cancel, Trickle, Evict, Leave}
 use Rattle.im_history.specs.declared.limits.Limits.{Limits}
 use Rattle.im_history.specs.declared.look.TableInfo.{TableInfo}
 use Rattle.im_history.specs.declared.task.Held.{Held}
@@ -19,12 +21,12 @@ use Rattle.im_history.specs.Transactions.{is_open, pending}
 use Rattle.im_history.specs.Units.{builds, held_at, may_populate, unit}
 use Rattle.im_history.specs.Views.{seen_by}
 
--- a table may be created: the session has no open transaction, nothing refuses it, and it has 1 to 16 columns and a shape
--- in range
+-- a table may be created: the session has no open transaction, nothing refuses it, and it has one column
+-- at least and not too many, and a shape in range
 pub record MayCreate (history : History) (who : ℕ) (name : List ℕ) (schema : List Column) (grid : Grid) : Type 0 where
   pub idle : is_open history who ≡ false
   pub allowed : create_refusal history name ≡ None
-  pub columns : (1 ≤ length schema) × (length schema ≤ 16)
+  pub columns : (1 ≤ length schema) × (length schema ≤ MOST_COLUMNS)
   pub shape : IsInRange grid.block × IsInRange grid.extent
 
 -- a table of this number exists
@@ -108,7 +110,7 @@ pub record MaySwitch (history : History) (who id : ℕ) : Type 0 where
   pub may : MayEnd history who id
   pub lives : may.held.killed ≡ None
 
--- the entry is allowed after this history; entries of the kinds that are not listed are not made yet
+-- the entry is allowed after this history; Trickle and Leave are not made yet
 abbrev pub IsAllowed : Limits → History → ℕ → What → Type 0
 IsAllowed limits history who (Create name schema grid) = MayCreate history who name schema grid
 IsAllowed limits history who (Begin mode) = begin_refusal history who ≡ None
@@ -122,13 +124,29 @@ IsAllowed limits history who (Build id table extent trickle) = MayBuild history 
 IsAllowed limits history who (Switch id) = MaySwitch history who id
 IsAllowed limits history who (Cancel id full) = MayEnd history who id × (full ≡ false)
 IsAllowed limits history who (Evict table extent) = IsTrue (is_some (unit history table extent))
-IsAllowed limits history who _ = ⊥
+IsAllowed limits history who (Trickle count) = ⊥
+IsAllowed limits history who Leave = ⊥
 
--- each of these entries is allowed after those before it
+-- the entry may come after this history: whoever made it has a number, and what it records is allowed
+pub record MayFollow (limits : Limits) (history : History) (entry : Entry) : Type 0 where
+  pub number : entry.who < NUMBERS
+  pub allowed : IsAllowed limits history entry.who entry.what
+
+-- each of these entries may come after those before it
 abbrev pub IsLegalFrom : Limits → History → History → Type 0
 IsLegalFrom limits before [] = Unit {0}
-IsLegalFrom limits before (entry ∷ rest) = IsAllowed limits before entry.who entry.what × IsLegalFrom limits (before ++ entry ∷ []) rest
+IsLegalFrom limits before (entry ∷ rest) = MayFollow limits before entry × IsLegalFrom limits (before ++ entry ∷ []) rest
 
--- each entry of the history is allowed after those before it
+-- each entry of the history may come after those before it
 pub record IsLegal (limits : Limits) (history : History) : Type 0 where
   pub each : IsLegalFrom limits [] history
+
+-- the limits are not greater than those of the engine
+pub record AreSmall (limits : Limits) : Type 0 where
+  pub store : limits.store ≤ MOST_WEIGHT
+  pub changes : limits.changes ≤ MOST_CHANGES
+
+-- the history of a store under its limits: the limits are small, and the history is legal
+pub record IsLawful (limits : Limits) (history : History) : Type 0 where
+  pub small : AreSmall limits
+  pub legal : IsLegal limits history

@@ -1,6 +1,7 @@
 -- Why a call of the store is refused: each cause by itself, and the first that applies.
 use Rattle.std.specs.Prelude.{ℕ, ◌-◌, ◌&&◌, Bool, true, false, not, ◌==◌, nat_lt, List, [], ◌∷◌, length, Option, Some, None}
 use Rattle.std.specs.Option.{option_map, option_or}
+use Rattle.im_values.specs.declared.limits.TheConstants.{MOST_CURSORS, MOST_TABLES}
 use Rattle.im_history.specs.declared.change.Change.{Change}
 use Rattle.im_history.specs.declared.entry.Mode.{Mode}
 use Rattle.im_history.specs.declared.entry.Mode.TheVariants as mode
@@ -78,26 +79,18 @@ write_refusal limits history who scn changes =
     (option_or (row_locked history who changes)
     (option_or (serialize history scn changes) (no_room limits history who changes)))
 
--- as many tables may stand
-abbrev pub most_tables : ℕ
-most_tables = 64
-
 -- what refuses the creation of a table: one has the name, or there is no room for one more
 abbrev pub create_refusal : History → List ℕ → Option Why
 create_refusal history name =
     option_or (option_map (λ table. TableExists table) (table_named history name))
-    (when (not (nat_lt (length (tables history)) most_tables)) TooManyTables)
+    (when (not (nat_lt (length (tables history)) MOST_TABLES)) TooManyTables)
 
 -- what refuses the beginning of a transaction: one is open, and began there
 abbrev pub begin_refusal : History → ℕ → Option Why
 begin_refusal history who = option_map (λ place. TransactionOpen place) (begun history who)
 
--- so many cursors beside cursor 0 may be open
-abbrev pub most_cursors : ℕ
-most_cursors = 8
-
 -- what refuses the opening of a cursor
 abbrev pub open_refusal : History → ℕ → ℕ → Option Why
 open_refusal history who cursor =
     option_or (when (is_cursor_open history who cursor) CursorOpen)
-    (when (not (cursor == 0) && not (nat_lt (cursors_open history who) most_cursors)) TooManyCursors)
+    (when (not (cursor == 0) && not (nat_lt (cursors_open history who) MOST_CURSORS)) TooManyCursors)

@@ -1,9 +1,10 @@
 -- Which rows a history touched: by changes that are committed, and by changes that are pending.
 use Rattle.std.specs.Prelude.{ℕ, ◌+◌, ◌==◌, ◌&&◌, Bool, not, List, Option, if◌then◌else◌}
 use Rattle.std.specs.List.{list_any, find, range_with_len}
+use Rattle.im_values.specs.declared.limits.TheConstants.{NUMBERS}
 use Rattle.im_history.specs.declared.change.Change.{Change}
 use Rattle.im_history.specs.declared.entry.What.{What}
-use Rattle.im_history.specs.declared.entry.What.TheVariants.{Commit}
+use Rattle.im_history.specs.declared.entry.What.TheVariants.{Create, Memory, Begin, Open, Shut, Write, Commit, Rollback, Build, Switch, Cancel, Trickle, Evict, Leave}
 use Rattle.im_history.specs.Commits.{scn}
 use Rattle.im_history.specs.History.{History, replay}
 use Rattle.im_history.specs.Transactions.{pending}
@@ -16,9 +17,9 @@ is_to table rid change = (change.table == table) && (change.rid == rid)
 abbrev pub touches : List Change → ℕ → ℕ → Bool
 touches changes table rid = list_any (is_to table rid) changes
 
--- numbers of sessions and workers are below this
+-- whoever calls a store has a number below this
 abbrev pub most_numbers : ℕ
-most_numbers = 25
+most_numbers = NUMBERS
 
 -- another session that has a change to the row pending: it locks the row
 abbrev pub holder : History → ℕ → ℕ → ℕ → Option ℕ
@@ -28,7 +29,19 @@ holder history who table rid =
 -- the last commit that touched a row, after one more entry
 abbrev pub touched_after : ℕ → ℕ → History → ℕ → ℕ → What → ℕ
 touched_after table rid before so_far who Commit = if touches (pending before who) table rid then scn before + 1 else so_far
-touched_after table rid before so_far who _ = so_far
+touched_after table rid before so_far who (Create name schema grid) = so_far
+touched_after table rid before so_far who (Memory other priority) = so_far
+touched_after table rid before so_far who (Begin mode) = so_far
+touched_after table rid before so_far who (Open cursor other) = so_far
+touched_after table rid before so_far who (Shut cursor) = so_far
+touched_after table rid before so_far who (Write changes) = so_far
+touched_after table rid before so_far who Rollback = so_far
+touched_after table rid before so_far who (Build id other extent trickle) = so_far
+touched_after table rid before so_far who (Switch id) = so_far
+touched_after table rid before so_far who (Cancel id full) = so_far
+touched_after table rid before so_far who (Trickle count) = so_far
+touched_after table rid before so_far who (Evict other extent) = so_far
+touched_after table rid before so_far who Leave = so_far
 
 -- the SCN of the last commit that touched a row, 0 where none did
 unfoldable pub last_touch : History → ℕ → ℕ → ℕ

@@ -1,8 +1,9 @@
 -- Column units, as a history tells of them: the builds that are held, the units that are current, and their stale rows.
 use Rattle.std.specs.Prelude.{◌≡◌, ℕ, ◌+◌, ◌*◌, ◌==◌, ◌&&◌, ◌||◌, Bool, false, not, nat_le, nat_lt, List, [], ◌∷◌, ◌++◌, length, map, filter, Option, Some, None, is_none, is_some, if◌then◌else◌}
 use Rattle.std.specs.List.{find, range_with_len}
+use Rattle.std.specs.Option.{option_map}
 use Rattle.im_history.specs.declared.entry.What.{What}
-use Rattle.im_history.specs.declared.entry.What.TheVariants.{Memory, Commit, Build, Switch, Cancel, Evict}
+use Rattle.im_history.specs.declared.entry.What.TheVariants.{Create, Memory, Begin, Open, Shut, Write, Commit, Rollback, Build, Switch, Cancel, Trickle, Evict, Leave}
 use Rattle.im_history.specs.declared.look.TableInfo.{TableInfo}
 use Rattle.im_history.specs.declared.task.Held.{Held}
 use Rattle.im_history.specs.declared.task.Task.{Task}
@@ -46,7 +47,19 @@ is_on table extent held = (held.task.table == table) && (held.task.extent == ext
 abbrev pub drops : ℕ → ℕ → What → Bool
 drops table extent (Evict other place) = (other == table) && (place == extent)
 drops table extent (Memory other None) = other == table
-drops table extent _ = false
+drops table extent (Create name schema grid) = false
+drops table extent (Memory other (Some priority)) = false
+drops table extent (Begin mode) = false
+drops table extent (Open cursor other) = false
+drops table extent (Shut cursor) = false
+drops table extent (Write changes) = false
+drops table extent Commit = false
+drops table extent Rollback = false
+drops table extent (Build id other place trickle) = false
+drops table extent (Switch id) = false
+drops table extent (Cancel id full) = false
+drops table extent (Trickle count) = false
+drops table extent Leave = false
 
 -- a held build after an entry at this place, which kills it where it takes its extent out
 abbrev pub killed_by : ℕ → What → Held → Held
@@ -88,7 +101,19 @@ living history table extent = replay (λ before so_far entry. living_after table
 -- how many builds began, one more entry counted
 abbrev pub builds_after : ℕ → What → ℕ
 builds_after so_far (Build id table extent trickle) = so_far + 1
-builds_after so_far _ = so_far
+builds_after so_far (Create name schema grid) = so_far
+builds_after so_far (Memory table priority) = so_far
+builds_after so_far (Begin mode) = so_far
+builds_after so_far (Open cursor table) = so_far
+builds_after so_far (Shut cursor) = so_far
+builds_after so_far (Write changes) = so_far
+builds_after so_far Commit = so_far
+builds_after so_far Rollback = so_far
+builds_after so_far (Switch id) = so_far
+builds_after so_far (Cancel id full) = so_far
+builds_after so_far (Trickle count) = so_far
+builds_after so_far (Evict table extent) = so_far
+builds_after so_far Leave = so_far
 
 -- how many builds began: the next one has one number more
 unfoldable pub builds : History → ℕ
@@ -128,7 +153,19 @@ unit history table extent = replay (λ before so_far entry. unit_after table ext
 abbrev pub touched_between_after : ℕ → ℕ → ℕ → ℕ → History → Bool → ℕ → What → Bool
 touched_between_after table rid after to before so_far who Commit =
     so_far || ((nat_le after (scn before) && nat_lt (scn before) to) && touches (pending before who) table rid)
-touched_between_after table rid after to before so_far who _ = so_far
+touched_between_after table rid after to before so_far who (Create name schema grid) = so_far
+touched_between_after table rid after to before so_far who (Memory other priority) = so_far
+touched_between_after table rid after to before so_far who (Begin mode) = so_far
+touched_between_after table rid after to before so_far who (Open cursor other) = so_far
+touched_between_after table rid after to before so_far who (Shut cursor) = so_far
+touched_between_after table rid after to before so_far who (Write changes) = so_far
+touched_between_after table rid after to before so_far who Rollback = so_far
+touched_between_after table rid after to before so_far who (Build id other extent trickle) = so_far
+touched_between_after table rid after to before so_far who (Switch id) = so_far
+touched_between_after table rid after to before so_far who (Cancel id full) = so_far
+touched_between_after table rid after to before so_far who (Trickle count) = so_far
+touched_between_after table rid after to before so_far who (Evict other extent) = so_far
+touched_between_after table rid after to before so_far who Leave = so_far
 
 -- a commit behind the SCN `after` and up to the SCN `to` touched the row
 unfoldable pub touched_between : History → ℕ → ℕ → ℕ → ℕ → Bool
@@ -155,13 +192,34 @@ pub record Content : Type 0 where
   pub columns : ℕ
   pub rows : List (Option Row)
 
+-- how many columns a unit of a table at an SCN has: a table keeps its columns
+abbrev pub columns_at : History → ℕ → ℕ → ℕ
+columns_at history table unit_scn = columns_of (table_at history table)
+
+-- the row that a unit of a table at an SCN holds at a row number: as it was committed
+abbrev pub unit_row : History → ℕ → ℕ → ℕ → Option Row
+unit_row history table unit_scn = rows history table unit_scn
+
 -- what the unit of an extent at an SCN holds
 abbrev pub content_at : History → ℕ → ℕ → ℕ → Content
 content_at history table extent unit_scn = record {
   scn = unit_scn;
   first = extent * per_at history table;
-  columns = columns_of (table_at history table);
-  rows = map (rows history table unit_scn) (rows_of_extent (per_at history table) extent);
+  columns = columns_at history table unit_scn;
+  rows = map (unit_row history table unit_scn) (rows_of_extent (per_at history table) extent);
+}
+
+-- what the current unit of an extent holds
+abbrev pub unit_content : History → ℕ → ℕ → Option Content
+unit_content history table extent = option_map (content_at history table extent) (unit history table extent)
+
+-- what the unit of a build is to hold
+abbrev pub task_content : History → Task → Content
+task_content history task = record {
+  scn = task.scn;
+  first = task.extent * task.per;
+  columns = task.columns;
+  rows = map (unit_row history task.table task.scn) (rows_of_extent task.per task.extent);
 }
 
 -- a held build is a session's or worker's own: it began this very build

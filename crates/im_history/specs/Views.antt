@@ -42,6 +42,10 @@ look_at history who = record {
   tables = tables history;
 }
 
+-- a row as a view shows it: a table keeps its columns, so as it stands
+abbrev pub shown : View → Option Row → Option Row
+shown view row = row
+
 -- the row that a view sees at a row number
 abbrev pub seen_by : History → View → ℕ → Option Row
-seen_by history view rid = seen history view.table view.scn view.own rid
+seen_by history view rid = shown view (seen history view.table view.scn view.own rid)

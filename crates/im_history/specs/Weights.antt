@@ -1,17 +1,18 @@
 -- What changes weigh: the store takes so much, and no more.
 use Rattle.std.specs.Prelude.{ℕ, ◌+◌, List, [], ◌∷◌, length, Option, Some, None}
+use Rattle.im_values.specs.declared.limits.TheConstants.{CHANGE_WEIGHT, VALUE_WEIGHT}
 use Rattle.im_values.specs.declared.value.Value.{Value}
 use Rattle.im_values.specs.declared.value.Value.TheVariants.{Int, Text, Null}
 use Rattle.im_history.specs.declared.change.Change.{Change}
 use Rattle.im_history.specs.declared.entry.What.{What}
-use Rattle.im_history.specs.declared.entry.What.TheVariants.{Write}
+use Rattle.im_history.specs.declared.entry.What.TheVariants.{Create, Memory, Begin, Open, Shut, Write, Commit, Rollback, Build, Switch, Cancel, Trickle, Evict, Leave}
 use Rattle.im_history.specs.History.{History, replay}
 
--- a value weighs 32, and a text its length more
+-- what a value weighs: a text its length more
 abbrev pub value_weight : Value → ℕ
-value_weight (Int n) = 32
-value_weight (Text t) = 32 + length t
-value_weight Null = 32
+value_weight (Int n) = VALUE_WEIGHT
+value_weight (Text t) = VALUE_WEIGHT + length t
+value_weight Null = VALUE_WEIGHT
 
 -- the values of a row
 abbrev pub row_weight : List Value → ℕ
@@ -23,15 +24,27 @@ abbrev pub put_weight : Option (List Value) → ℕ
 put_weight None = 0
 put_weight (Some row) = row_weight row
 
--- changes, each of which weighs 64 beside its row
+-- changes, each of which weighs something beside its row
 abbrev pub changes_weight : List Change → ℕ
 changes_weight [] = 0
-changes_weight (change ∷ changes) = 64 + put_weight change.row + changes_weight changes
+changes_weight (change ∷ changes) = CHANGE_WEIGHT + put_weight change.row + changes_weight changes
 
 -- the weight with that of one more entry
 abbrev pub weight_after : ℕ → What → ℕ
 weight_after so_far (Write changes) = so_far + changes_weight changes
-weight_after so_far _ = so_far
+weight_after so_far (Create name schema grid) = so_far
+weight_after so_far (Memory table priority) = so_far
+weight_after so_far (Begin mode) = so_far
+weight_after so_far (Open cursor table) = so_far
+weight_after so_far (Shut cursor) = so_far
+weight_after so_far Commit = so_far
+weight_after so_far Rollback = so_far
+weight_after so_far (Build id table extent trickle) = so_far
+weight_after so_far (Switch id) = so_far
+weight_after so_far (Cancel id full) = so_far
+weight_after so_far (Trickle count) = so_far
+weight_after so_far (Evict table extent) = so_far
+weight_after so_far Leave = so_far
 
 -- the weight of all that was ever written, rolled back or not
 unfoldable pub weight : History → ℕ

@@ -33,7 +33,7 @@ pub use stored::History;
 pub use task::{Held, Task};
 pub use unit::UnitLike;
 pub use view::View;
-pub use who::Who;
+pub use who::{Who, callers_have_numbers};
 
 #[cfg(test)]
 mod tests;

@@ -1,4 +1,8 @@
-/// The limits by which a store answers. The program gives its `--area`, 536,870,912 and 65,536.
+/// The limits by which a store answers. The program gives its `--area`, and the limits of the engine: [`MOST_WEIGHT`] and
+/// [`MOST_CHANGES`].
+///
+/// [`MOST_WEIGHT`]: im_values::limits::MOST_WEIGHT
+/// [`MOST_CHANGES`]: im_values::limits::MOST_CHANGES
 #[derive(Clone, Copy, Debug, PartialEq, Eq)]
 pub struct Limits {
     /// Counted bytes of all current units together.

@@ -4,6 +4,7 @@ ghost use Rattle.im_history.specs.Tables.{is_named, number_among, remembered};
 
 use crate::entry::Mode;
 use crate::shape::Shape;
+use im_values::limits::MOST_TABLES;
 use im_values::{Name, NoMemory, Priority, Schema};
 use std::alloc::Global;
 use std::marker::Model;
@@ -35,7 +36,7 @@ impl TableInfo {
 
 /// The tables in the order of their creation: the first of them is table 1.
 ///
-/// Contracts see the list, which has at most 64. A catalog never changes, so one list serves all who look at it.
+/// Contracts see the list, which has at most [`MOST_TABLES`]. A catalog never changes, so one list serves all who look at it.
 #[derive(Debug, Drop)]
 pub struct Catalog {
     tables: Arc<Vec<TableInfo>>,
@@ -48,10 +49,11 @@ impl Model for Catalog {
     ghost Value = { List TableInfo };
 
     ghost use Rattle.std.specs.Prelude.{◌≤◌, length};
+    ghost use Rattle.im_values.specs.declared.limits.TheConstants.{MOST_TABLES};
 
     ghost view = { λ c. c.tables.value.items };
 
-    ghost invariant = { λ c. length c.tables.value.items ≤ 64 };
+    ghost invariant = { λ c. length c.tables.value.items ≤ MOST_TABLES };
 }
 
 impl Catalog {
@@ -67,7 +69,7 @@ impl Catalog {
     /// The tables, in order.
     pub fn tables(&self) -> &[TableInfo]
         ensures tables { result.now ≡ self.now }
-        ensures few { length self.now ≤ 64 }
+        ensures few { length self.now ≤ MOST_TABLES }
     {
         self.tables.as_slice()
     }
@@ -91,7 +93,7 @@ impl Catalog {
 
     /// A list of these tables and one more. It copies them all.
     pub fn with(&self, alloc: Global, table: TableInfo) -> Result<Catalog, NoMemory>
-        requires { length self.now < 64 }
+        requires { length self.now < MOST_TABLES }
         ensures { IfOk result (λ catalog. catalog ≡ self.now ++ table ∷ []) }
     {
         let mut tables = copied(alloc, self.tables())?;

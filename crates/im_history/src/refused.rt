@@ -3,7 +3,7 @@
 pub enum Why {
     /// A table has the name already.
     TableExists { table: u32 },
-    /// As many tables stand as may stand.
+    /// There are [`MOST_TABLES`](im_values::limits::MOST_TABLES) tables.
     TooManyTables,
     /// The session has an open transaction, which began at this place.
     TransactionOpen { place: u64 },
@@ -11,7 +11,7 @@ pub enum Why {
     ReadOnly,
     /// The session has opened this cursor already.
     CursorOpen,
-    /// The session has as many cursors open as it may have.
+    /// The session has [`MOST_CURSORS`](im_values::limits::MOST_CURSORS) cursors open beside cursor 0.
     TooManyCursors,
     /// Another session has a change to the row pending.
     RowLocked { row: u64, holder: u32 },

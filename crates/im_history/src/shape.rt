@@ -2,7 +2,8 @@ ghost use Rattle.std.specs.Prelude.{◌≡◌, ◌*◌, ◌≤◌};
 
 use std::marker::Model;
 
-/// How a table's row numbers are cut: so many to a block, and so many blocks to an extent. Each is from 1 to 64.
+/// How a table's row numbers are cut: so many to a block, and so many blocks to an extent. Each is from 1 to
+/// [`im_values::limits::MOST_IN_SHAPE`].
 #[derive(Clone, Copy, Debug)]
 pub struct Shape {
     block: u32,

@@ -1,4 +1,7 @@
-ghost use Rattle.std.specs.Prelude.{◌≡◌, ◌<◌};
+ghost use Rattle.std.specs.Prelude.{◌≡◌, ◌<◌, All};
+ghost use Rattle.im_history.specs.declared.limits.Limits.{Limits};
+ghost use Rattle.im_history.specs.History.{History};
+ghost use Rattle.im_history.specs.Legal.{IsLegal};
 
 use im_values::limits::NUMBERS;
 use std::marker::Model;
@@ -50,3 +53,9 @@ impl Who {
         self.number as usize
     }
 }
+
+/// A law, for contracts alone: whoever made an entry of a legal history has a number, so [`Who`] has them all.
+pub fn callers_have_numbers()
+    ensures { (limits : Limits) (history : History) → IsLegal limits history →
+        All (λ entry. entry.who < NUMBERS) history }
+{}
