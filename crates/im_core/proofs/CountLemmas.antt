@@ -3,6 +3,7 @@ use Rattle.std.proofs.Common.{◌≡◌, ℕ, zero, suc, ◌+◌, ◌≢◌, ◌
 use Rattle.std.proofs.lemmas.Bool.Decides.{nat_tests}
 use Rattle.std.proofs.lemmas.List.Elements.{All-head, All-tail, All-nil, All-cons}
 use Rattle.std.proofs.lemmas.List.{length_push, length-set, get_or-set_same, get_or-set_other}
+use Rattle.im_values.specs.declared.limits.TheConstants.{CHANGE_WEIGHT, MOST_TABLES}
 use Rattle.im_history.specs.declared.change.Change.{Change}
 use Rattle.im_history.specs.declared.entry.Entry.{Entry}
 use Rattle.im_history.specs.declared.entry.Mode.{Mode}
@@ -18,7 +19,7 @@ use Rattle.im_history.specs.Tables.{tables, created, given, given_by, given_afte
 use Rattle.im_history.specs.Weights.{weight, weight_after, changes_weight}
 use Rattle.im_history.proofs.Laws.{tables-push, given-push, weight-push}
 use Rattle.im_values.specs.declared.schema.Column.{Column}
-use Rattle.im_core.specs.Kept.{Counts, Gives}
+use Rattle.im_core.specs.inner.Kept.{Counts, Gives}
 
 -- entries of this kind create no table, give no row number and weigh nothing
 pub record IsLight (what : What) : Type 0 where
@@ -59,7 +60,8 @@ given-light h entry table light = given-push h entry table ∙ light.given table
 pub weight-light : (h : History) (entry : Entry) → IsLight entry.what → weight (h ++ entry ∷ []) ≡ weight h
 weight-light h entry light = weight-push h entry ∙ light.weight (weight h)
 
-pub Counts-light : (h : History) (entry : Entry) (catalog : List TableInfo) (counts : List ℕ) (weighed : ℕ) → IsLight entry.what → Counts h catalog counts weighed → Counts (h ++ entry ∷ []) catalog counts weighed
+pub Counts-light : (h : History) (entry : Entry) (catalog : List TableInfo) (counts : List ℕ) (weighed : ℕ) → IsLight entry.what
+    → Counts h catalog counts weighed → Counts (h ++ entry ∷ []) catalog counts weighed
 Counts-light h entry catalog counts weighed light c = record {
   tables = c.tables ∙ sym (tables-push h entry ∙ light.tables (tables h));
   few = c.few;
@@ -70,7 +72,8 @@ Counts-light h entry catalog counts weighed light c = record {
 }
 
 -- nothing was given of a table that does not stand
-pub given-new : (h : History) (catalog : List TableInfo) (counts : List ℕ) (weighed place : ℕ) → Counts h catalog counts weighed → length counts ≤ place → given h (place + 1) ≡ 0
+pub given-new : (h : History) (catalog : List TableInfo) (counts : List ℕ) (weighed place : ℕ) → Counts h catalog counts weighed → length counts ≤ place
+    → given h (place + 1) ≡ 0
 given-new h catalog counts weighed place c past = sym (c.gives place) ∙ get_or-past counts place past
   where
     get_or-past : (xs : List ℕ) (i : ℕ) → length xs ≤ i → get_or xs i 0 ≡ 0
@@ -79,7 +82,10 @@ given-new h catalog counts weighed place c past = sym (c.gives place) ∙ get_or
     get_or-past (x ∷ xs) (suc i) past = get_or-past xs i (omega arith)
 
 -- one more table
-pub Counts-create : (h : History) (who : ℕ) (name : List ℕ) (schema : List Column) (grid : Grid) (catalog : List TableInfo) (counts : List ℕ) (weighed : ℕ) → length catalog < 64 → Counts h catalog counts weighed → Counts (h ++ record { who = who; what = Create name schema grid } ∷ []) (catalog ++ record { name = name; schema = schema; shape = grid; memory = None } ∷ []) (counts ++ 0 ∷ []) weighed
+pub Counts-create : (h : History) (who : ℕ) (name : List ℕ) (schema : List Column) (grid : Grid) (catalog : List TableInfo) (counts : List ℕ) (weighed : ℕ)
+    → length catalog < MOST_TABLES → Counts h catalog counts weighed
+    → Counts (h ++ record { who = who; what = Create name schema grid } ∷ [])
+    (catalog ++ record { name = name; schema = schema; shape = grid; memory = None } ∷ []) (counts ++ 0 ∷ []) weighed
 Counts-create h who name schema grid catalog counts weighed room c = record {
   tables = ap (λ (ts : List TableInfo). ts ++ record { name = name; schema = schema; shape = grid; memory = None } ∷ []) c.tables ∙ sym (tables-push h entry);
   few = let long = length_push catalog (record { name = name; schema = schema; shape = grid; memory = None }) in omega arith;
@@ -108,7 +114,9 @@ length-remembered : (table : ℕ) (priority : Option Priority) (ts : List TableI
 length-remembered zero priority ts = refl
 length-remembered (suc place) priority ts = length-with_memory place priority ts
 
-pub Counts-memory : (h : History) (who table : ℕ) (priority : Option Priority) (catalog : List TableInfo) (counts : List ℕ) (weighed : ℕ) → Counts h catalog counts weighed → Counts (h ++ record { who = who; what = Memory table priority } ∷ []) (remembered table priority catalog) counts weighed
+pub Counts-memory : (h : History) (who table : ℕ) (priority : Option Priority) (catalog : List TableInfo) (counts : List ℕ) (weighed : ℕ)
+    → Counts h catalog counts weighed
+    → Counts (h ++ record { who = who; what = Memory table priority } ∷ []) (remembered table priority catalog) counts weighed
 Counts-memory h who table priority catalog counts weighed c = record {
   tables = ap (remembered table priority) c.tables ∙ sym (tables-push h entry);
   few = let same = length-remembered table priority catalog in let few = c.few in omega (arith, same, few);
@@ -121,8 +129,8 @@ Counts-memory h who table priority catalog counts weighed c = record {
     entry : Entry
     entry = record { who = who; what = Memory table priority }
 
--- an insert's changes weigh 64 each at least, and give the next row numbers
-put_from-weight : (table first : ℕ) (rows : List Row) → length rows * 64 ≤ changes_weight (put_from table first rows)
+-- an insert's changes weigh something each, and give the next row numbers
+put_from-weight : (table first : ℕ) (rows : List Row) → length rows * CHANGE_WEIGHT ≤ changes_weight (put_from table first rows)
 put_from-weight table first [] = omega arith
 put_from-weight table first (row ∷ rows) = let rest = put_from-weight table (first + 1) rows in omega arith
 
@@ -135,8 +143,11 @@ given-insert table first [] some = absurd (omega arith)
 given-insert table first (row ∷ []) some = given-step table first (record { table = table; rid = first; row = Some row }) refl ∙ omega arith
 given-insert table first (row ∷ (next ∷ rows)) some =
     let most : max first (first + 1) ≡ first + 1 = omega arith in
-    let rest : given_by table (first + 1) (put_from table (first + 1) (next ∷ rows)) ≡ first + 1 + length (next ∷ rows) = given-insert table (first + 1) (next ∷ rows) (omega arith) in
-    ap (λ (n : ℕ). given_by table n (put_from table (first + 1) (next ∷ rows))) (given-step table first (record { table = table; rid = first; row = Some row }) refl ∙ most) ∙ (rest ∙ omega arith)
+    let rest : given_by table (first + 1) (put_from table (first + 1) (next ∷ rows)) ≡ first + 1 + length (next ∷ rows) =
+    given-insert table (first + 1) (next ∷ rows) (omega arith) in
+    ap (λ (n : ℕ). given_by table n (put_from table (first + 1) (next ∷ rows)))
+    (given-step table first (record { table = table; rid = first; row = Some row }) refl ∙ most)
+    ∙ (rest ∙ omega arith)
 
 -- changes to other tables give no row number of this one
 pub given-others : (table n : ℕ) (changes : List Change) → All (λ change. (change.table == table) ≡ false) changes → given_by table n changes ≡ n
@@ -159,7 +170,8 @@ given-within table n (change ∷ changes) within =
     by false e = refl
 
 -- changes to one table are not to another
-others-of : (table other : ℕ) (changes : List Change) → other ≢ table → All (λ change. change.table ≡ table) changes → All (λ change. (change.table == other) ≡ false) changes
+others-of : (table other : ℕ) (changes : List Change) → other ≢ table → All (λ change. change.table ≡ table) changes
+    → All (λ change. (change.table == other) ≡ false) changes
 others-of table other [] different same = All-nil _
 others-of table other (change ∷ changes) different same =
     let is : change.table ≡ table = All-head (λ (c : Change). c.table ≡ table) change changes same in
@@ -169,7 +181,9 @@ others-of table other (change ∷ changes) different same =
     (others-of table other changes different (All-tail (λ (c : Change). c.table ≡ table) change changes same))
 
 -- changes are written to a table
-pub Counts-write : (h : History) (who table count : ℕ) (changes : List Change) (catalog : List TableInfo) (counts : List ℕ) (weighed : ℕ) → 1 ≤ table → table ≤ length counts → Gives h table changes count → Counts h catalog counts weighed → Counts (h ++ record { who = who; what = Write changes } ∷ []) catalog (set counts (table - 1) count) (weighed + changes_weight changes)
+pub Counts-write : (h : History) (who table count : ℕ) (changes : List Change) (catalog : List TableInfo) (counts : List ℕ) (weighed : ℕ) → 1 ≤ table
+    → table ≤ length counts → Gives h table changes count → Counts h catalog counts weighed
+    → Counts (h ++ record { who = who; what = Write changes } ∷ []) catalog (set counts (table - 1) count) (weighed + changes_weight changes)
 Counts-write h who table count changes catalog counts weighed first last gives c = record {
   tables = c.tables ∙ sym (tables-push h entry);
   few = c.few;
@@ -182,7 +196,8 @@ Counts-write h who table count changes catalog counts weighed first last gives c
     entry : Entry
     entry = record { who = who; what = Write changes }
 
-    by : (place : ℕ) (same : Bool) → (place == table - 1) ≡ same → get_or (set counts (table - 1) count) place 0 ≡ given_by (place + 1) (given h (place + 1)) changes
+    by : (place : ℕ) (same : Bool) → (place == table - 1) ≡ same
+        → get_or (set counts (table - 1) count) place 0 ≡ given_by (place + 1) (given h (place + 1)) changes
     by place true e =
         let at : place ≡ table - 1 = grind (arith, nat_tests) in
         let number : place + 1 ≡ table = omega (arith, at, first) in
@@ -190,9 +205,10 @@ Counts-write h who table count changes catalog counts weighed first last gives c
     by place false e =
         let other : place ≢ table - 1 = grind (arith, nat_tests) in
         let different : place + 1 ≢ table = λ same. other (omega (arith, same)) in
-        get_or-set_other counts (table - 1) place count 0 other ∙ (c.gives place ∙ sym (given-others (place + 1) (given h (place + 1)) changes (others-of table (place + 1) changes different gives.same)))
+        get_or-set_other counts (table - 1) place count 0 other
+        ∙ (c.gives place ∙ sym (given-others (place + 1) (given h (place + 1)) changes (others-of table (place + 1) changes different gives.same)))
 
-    light : (other : ℕ) (same : Bool) → (other == table) ≡ same → given_by other (given h other) changes * 64 ≤ weight h + changes_weight changes
+    light : (other : ℕ) (same : Bool) → (other == table) ≡ same → given_by other (given h other) changes * CHANGE_WEIGHT ≤ weight h + changes_weight changes
     light other true e = let is : other ≡ table = grind (arith, nat_tests) in rw (is, ← gives.is) gives.light
     light other false e =
         let different : other ≢ table = grind (arith, nat_tests) in
@@ -202,16 +218,20 @@ Counts-write h who table count changes catalog counts weighed first last gives c
 -- the next row numbers of a table
 put_from-same : (table first : ℕ) (rows : List Row) → All (λ change. change.table ≡ table) (put_from table first rows)
 put_from-same table first [] = All-nil _
-put_from-same table first (row ∷ rows) = All-cons (λ (c : Change). c.table ≡ table) (record { table = table; rid = first; row = Some row }) (put_from table (first + 1) rows) refl (put_from-same table (first + 1) rows)
+put_from-same table first (row ∷ rows) =
+    All-cons (λ (c : Change). c.table ≡ table) (record { table = table; rid = first; row = Some row }) (put_from table (first + 1) rows) refl
+    (put_from-same table (first + 1) rows)
 
-pub Gives-insert : (h : History) (table : ℕ) (rows : List Row) → 1 ≤ length rows → given h table * 64 ≤ weight h → Gives h table (put_from table (given h table) rows) (given h table + length rows)
+pub Gives-insert : (h : History) (table : ℕ) (rows : List Row) → 1 ≤ length rows → given h table * CHANGE_WEIGHT ≤ weight h
+    → Gives h table (put_from table (given h table) rows) (given h table + length rows)
 Gives-insert h table rows some light = record {
   same = put_from-same table (given h table) rows;
   is = sym (given-insert table (given h table) rows some);
   light = let more = put_from-weight table (given h table) rows in omega (arith, more, light);
 }
 
-pub Gives-rewrite : (h : History) (table : ℕ) (changes : List Change) → All (λ change. change.table ≡ table) changes → All (λ change. change.rid < given h table) changes → given h table * 64 ≤ weight h → Gives h table changes (given h table)
+pub Gives-rewrite : (h : History) (table : ℕ) (changes : List Change) → All (λ change. change.table ≡ table) changes
+    → All (λ change. change.rid < given h table) changes → given h table * CHANGE_WEIGHT ≤ weight h → Gives h table changes (given h table)
 Gives-rewrite h table changes same within light = record {
   same = same;
   is = sym (given-within table (given h table) changes within);

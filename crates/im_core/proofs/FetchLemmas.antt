@@ -1,16 +1,14 @@
 -- What a pin fetches.
-use Rattle.std.proofs.Common.{◌≡◌, ℕ, zero, suc, ◌+◌, ◌-◌, ◌*◌, ◌/◌, ◌<◌, ◌≤◌, Bool, true, false, min, List, [], ◌∷◌, Option, Some, None, refl, sym, ◌∙◌, subst, arith, All}
+use Rattle.std.proofs.Common.{◌≡◌, ℕ, ◌-◌, ◌*◌, ◌<◌, ◌≤◌, Bool, true, false, min, List, [], ◌∷◌, Option, Some, None, refl, sym, ◌∙◌, subst, arith, All}
 use Rattle.std.specs.List.{find}
 use Rattle.std.specs.Option.{option_map}
-use Rattle.std.proofs.Math.Nat.{div-mul-le_self, mul-le-mul_right, div-zero}
 use Rattle.std.proofs.lemmas.List.Elements.{All-head, All-tail}
+use Rattle.im_values.specs.declared.limits.TheConstants.{CHANGE_WEIGHT, MOST_ROWS, MOST_WEIGHT}
 use Rattle.im_history.specs.declared.limits.Limits.{Limits}
-use Rattle.im_history.specs.declared.look.TableInfo.{TableInfo}
 use Rattle.im_history.specs.declared.view.View.{View}
 use Rattle.im_history.specs.Stored.{Stored}
 use Rattle.im_history.specs.Cursors.{Opened, opened, cursor_at, is_cursor}
 use Rattle.im_history.specs.History.{History}
-use Rattle.im_history.specs.Rows.{rows}
 use Rattle.im_history.specs.Tables.{given}
 use Rattle.im_versions.specs.Versions.{Versions}
 use Rattle.im_blocks.specs.Chains.{rows_at}
@@ -19,14 +17,13 @@ use Rattle.im_blocks.proofs.ForCallers.{rows_at_kept}
 use Rattle.im_txn.specs.declared.cursor.Cursor.{Cursor}
 use Rattle.im_txn.specs.Activity.{cursor_in}
 use Rattle.im_txn.specs.Agrees.{kept}
-use Rattle.im_txn.specs.Standing.{Standing, activity_at}
+use Rattle.im_txn.specs.Standing.{activity_at}
 use Rattle.im_txn.proofs.ForCallers.{cursor-by}
 use Rattle.im_history.specs.Units.{Content}
 use Rattle.im_history.proofs.GridLaws.{first_within}
-use Rattle.im_directory.specs.Slots.{Kept}
-use Rattle.im_core.specs.Holds.{Holds}
+use Rattle.im_core.specs.inner.Holds.{Caches, Holds}
 use Rattle.im_core.specs.Answers.{cursor_view, view_of, committed_in, rows_in}
-use Rattle.im_core.specs.Kept.{IsView, Views}
+use Rattle.im_core.specs.inner.Kept.{IsView, Views}
 
 -- what is found in a list has what each element has
 pub found_has : {X : Type 0} (P : X → Type 0) (q : X → Bool) (xs : List X) (x : X) → All P xs → find q xs ≡ Some x → P x
@@ -47,7 +44,7 @@ pub record HasView (view : View) (extent : ℕ) (cursor : Cursor) : Type 0 where
   pub rows : cursor.rows ≡ view.rows
   pub per : cursor.per ≡ view.per
   pub first : extent * cursor.per < cursor.rows
-  pub few : cursor.rows ≤ 8388608
+  pub few : cursor.rows ≤ MOST_ROWS
 
 -- the cursor whose view has this extent is found
 pub record FindsView (view : View) (extent : ℕ) (found : Option Cursor) : Type 0 where
@@ -55,7 +52,8 @@ pub record FindsView (view : View) (extent : ℕ) (found : Option Cursor) : Type
   pub is : found ≡ Some cursor
   pub has : HasView view extent cursor
 
-pub finds_view : (h : History) (who cursor extent : ℕ) (found : Option Cursor) → Views h → ((table : ℕ) → given h table * 64 ≤ 536870912) → found ≡ option_map kept (cursor_at h who cursor) → extent < (cursor_view h who cursor).extents → FindsView (cursor_view h who cursor) extent found
+pub finds_view : (h : History) (who cursor extent : ℕ) (found : Option Cursor) → Views h → ((table : ℕ) → given h table * CHANGE_WEIGHT ≤ MOST_WEIGHT)
+    → found ≡ option_map kept (cursor_at h who cursor) → extent < (cursor_view h who cursor).extents → FindsView (cursor_view h who cursor) extent found
 finds_view h who cursor extent found views light found_is within = by (cursor_at h who cursor) refl found_is within
   where
     by : (o : Option Opened) → cursor_at h who cursor ≡ o → found ≡ option_map kept o → extent < (view_of o).extents → FindsView (view_of o) extent found
@@ -65,34 +63,49 @@ finds_view h who cursor extent found views light found_is within = by (cursor_at
         record {
           cursor = kept opened_one;
           is = is;
-          has = record { table = refl; scn = refl; rows = refl; per = refl; first = first_within opened_one.view.rows opened_one.view.per extent (rw view.cut at few); few = let most = light opened_one.view.table in let old = view.within in omega (arith, most, old) };
+          has = record {
+            table = refl;
+            scn = refl;
+            rows = refl;
+            per = refl;
+            first = first_within opened_one.view.rows opened_one.view.per extent (rw view.cut at few);
+            few = let most = light opened_one.view.table in let old = view.within in omega (arith, most, old);
+          };
         }
 
 -- the cursor that was found
-pub view_found : (view : View) (extent : ℕ) (found : Option Cursor) (cursor : Cursor) → FindsView view extent found → found ≡ Some cursor → HasView view extent cursor
+pub view_found : (view : View) (extent : ℕ) (found : Option Cursor) (cursor : Cursor) → FindsView view extent found → found ≡ Some cursor
+    → HasView view extent cursor
 view_found view extent found cursor finds is = subst (HasView view extent) (some-inj (sym finds.is ∙ is)) finds.has
   where
     some-inj : {a b : Cursor} → Some a ≡ Some b → a ≡ b
     some-inj e = cc
 
 -- what is read for it
-pub fetched_is : (h : History) (blocks : List (List Versions)) (view : View) (extent count : ℕ) (cursor : Cursor) → IsKept h blocks → HasView view extent cursor → count ≡ min cursor.per (cursor.rows - extent * cursor.per) → rows_at blocks cursor.table (extent * cursor.per) count cursor.scn ≡ committed_in h view extent
+pub fetched_is : (h : History) (blocks : List (List Versions)) (view : View) (extent count : ℕ) (cursor : Cursor) → IsKept h blocks
+    → HasView view extent cursor → count ≡ min cursor.per (cursor.rows - extent * cursor.per)
+    → rows_at blocks cursor.table (extent * cursor.per) count cursor.scn ≡ committed_in h view extent
 fetched_is h blocks view extent count cursor keeps has count_is =
     rows_at_kept h blocks keeps cursor.table (extent * cursor.per) count cursor.scn
     ∙ rw (count_is, has.table, has.scn, has.rows, has.per) refl
 
-pub rows_in_is : (view : View) (extent count : ℕ) (cursor : Cursor) → HasView view extent cursor → count ≡ min cursor.per (cursor.rows - extent * cursor.per) → count ≡ rows_in view extent
+pub rows_in_is : (view : View) (extent count : ℕ) (cursor : Cursor) → HasView view extent cursor → count ≡ min cursor.per (cursor.rows - extent * cursor.per)
+    → count ≡ rows_in view extent
 rows_in_is view extent count cursor has count_is = count_is ∙ rw (has.rows, has.per) refl
 
 -- what a store gave is few row numbers
-pub given_few : {U : Type 0} (content : U → Content) (limits : Limits) (history : Stored) (catalog : List TableInfo) (counts : List ℕ) (weighed : ℕ) (beginnings : List ℕ) (blocks : List (List Versions)) (standing : Standing) (kept : Kept U) → Holds content limits history catalog counts weighed beginnings blocks standing kept → (table : ℕ) → given history.entries table * 64 ≤ 536870912
-given_few content limits history catalog counts weighed beginnings blocks standing kept holds table =
+pub given_few : {U : Type 0} (content : U → Content) (limits : Limits) (history : Stored) (caches : Caches U) → Holds content limits history caches
+    → (table : ℕ) → given history.entries table * CHANGE_WEIGHT ≤ MOST_WEIGHT
+given_few content limits history caches holds table =
     let light = holds.tables.light table in
     let within = holds.within in
     let store = holds.small.store in
     omega (arith, light, within, store)
 
 -- the view that an open cursor of a store has
-pub store_view : {U : Type 0} (content : U → Content) (limits : Limits) (history : Stored) (catalog : List TableInfo) (counts : List ℕ) (weighed : ℕ) (beginnings : List ℕ) (blocks : List (List Versions)) (standing : Standing) (kept : Kept U) (who cursor extent : ℕ) → Holds content limits history catalog counts weighed beginnings blocks standing kept → extent < (cursor_view history.entries who cursor).extents → FindsView (cursor_view history.entries who cursor) extent (cursor_in (activity_at standing who) cursor)
-store_view content limits history catalog counts weighed beginnings blocks standing kept who cursor extent holds within =
-    finds_view history.entries who cursor extent (cursor_in (activity_at standing who) cursor) holds.views (given_few content limits history catalog counts weighed beginnings blocks standing kept holds) (cursor-by history.entries standing who cursor holds.sessions) within
+pub store_view : {U : Type 0} (content : U → Content) (limits : Limits) (history : Stored) (caches : Caches U) (who cursor extent : ℕ)
+    → Holds content limits history caches → extent < (cursor_view history.entries who cursor).extents
+    → FindsView (cursor_view history.entries who cursor) extent (cursor_in (activity_at caches.standing who) cursor)
+store_view content limits history caches who cursor extent holds within =
+    finds_view history.entries who cursor extent (cursor_in (activity_at caches.standing who) cursor) holds.views
+    (given_few content limits history caches holds) (cursor-by history.entries caches.standing who cursor holds.sessions) within

@@ -54,13 +54,15 @@ list_any-last p (first ∷ os) o it = by (p first) (list_any-last p os o it)
     by true rest = refl
     by false rest = rest
 
-opened-opening : (before h : History) (who cursor table : ℕ) → IsOpening before h who cursor table → opened h who ≡ opened before who ++ opened_by before who cursor table ∷ []
+opened-opening : (before h : History) (who cursor table : ℕ) → IsOpening before h who cursor table
+    → opened h who ≡ opened before who ++ opened_by before who cursor table ∷ []
 opened-opening before h who cursor table o =
     ap (λ (log : History). opened log who) o.is
     ∙ (opened-push before (record { who = who; what = Open cursor table }) who
     ∙ ap (λ (b : Bool). if b then opened_after before who (opened before who) (Open cursor table) else opened before who) (itself who))
 
-pub cursor_at-opening : (before h : History) (who cursor table : ℕ) → IsOpening before h who cursor table → cursor_at h who cursor ≡ Some (opened_by before who cursor table)
+pub cursor_at-opening : (before h : History) (who cursor table : ℕ) → IsOpening before h who cursor table
+    → cursor_at h who cursor ≡ Some (opened_by before who cursor table)
 cursor_at-opening before h who cursor table o =
     ap (find (is_cursor cursor)) (opened-opening before h who cursor table o)
     ∙ find-last (is_cursor cursor) (opened before who) (opened_by before who cursor table) o.shut (itself cursor)
@@ -74,7 +76,8 @@ open-opening before h who cursor table o =
     ∙ list_any-last (is_cursor cursor) (opened before who) (opened_by before who cursor table) (itself cursor)
 
 -- a write opens and shuts no cursor
-pub open-write : (h : History) (who other cursor : ℕ) (changes : List Change) → is_cursor_open h who cursor ≡ true → is_cursor_open (h ++ record { who = other; what = Write changes } ∷ []) who cursor ≡ true
+pub open-write : (h : History) (who other cursor : ℕ) (changes : List Change) → is_cursor_open h who cursor ≡ true
+    → is_cursor_open (h ++ record { who = other; what = Write changes } ∷ []) who cursor ≡ true
 open-write h who other cursor changes is_open =
     ap (list_any (is_cursor cursor)) (opened-push h (record { who = other; what = Write changes }) who ∙ if_same (other == who) (opened h who)) ∙ is_open
   where
@@ -83,11 +86,13 @@ open-write h who other cursor changes is_open =
     if_same false os = refl
 
 -- changes to other tables change nothing
-none-own : (table rid : ℕ) (changes : List Change) (x : Option Row) → filter (λ change. change.table == table) changes ≡ [] → fold (row_after table rid) x changes ≡ x
+none-own : (table rid : ℕ) (changes : List Change) (x : Option Row) → filter (λ change. change.table == table) changes ≡ []
+    → fold (row_after table rid) x changes ≡ x
 none-own table rid [] x none = refl
 none-own table rid (change ∷ changes) x none = by (change.table == table) refl (none-own table rid changes x)
   where
-    by : (b : Bool) → (change.table == table) ≡ b → (filter (λ c. c.table == table) changes ≡ [] → fold (row_after table rid) x changes ≡ x) → fold (row_after table rid) x (change ∷ changes) ≡ x
+    by : (b : Bool) → (change.table == table) ≡ b → (filter (λ c. c.table == table) changes ≡ [] → fold (row_after table rid) x changes ≡ x)
+        → fold (row_after table rid) x (change ∷ changes) ≡ x
     by true e rest = let no : change ∷ filter (λ c. c.table == table) changes ≡ [] = rw e at none in cc
     by false e rest = rw e (rest (rw e at none))
 
@@ -105,7 +110,9 @@ abbrev pub HasRow : List (ℕ × Option Row) → ℕ → Type 0
 HasRow fetched rid = IsSomeAnd (slice_get fetched rid) (λ found. IsTrue (is_some found.1))
 
 -- a row that was fetched of the first extent may be changed, where the session has nothing pending to the table
-pub may-write : (before h : History) (who cursor table rid : ℕ) (row : Row) → IsOpening before h who cursor table → own_changes before who table ≡ [] → MayInsert before table (row ∷ []) → HasRow (committed_in h (cursor_view h who cursor) 0) rid → MayWrite h who cursor (record { table = table; rid = rid; row = Some row } ∷ [])
+pub may-write : (before h : History) (who cursor table rid : ℕ) (row : Row) → IsOpening before h who cursor table → own_changes before who table ≡ []
+    → MayInsert before table (row ∷ []) → HasRow (committed_in h (cursor_view h who cursor) 0) rid
+    → MayWrite h who cursor (record { table = table; rid = rid; row = Some row } ∷ [])
 unfolding seen
 may-write before h who cursor table rid row o none may has = record {
   opened = opened_by before who cursor table;
@@ -116,7 +123,9 @@ may-write before h who cursor table rid row o none may has = record {
   rising = λ k d within. absurd (omega (arith, within));
   inside = one (λ c. c.rid < view.rows) (let within = here.0 in omega (arith, within));
   saw = one (λ c. IsTrue (is_some (seen_by h view c.rid))) (ap is_some sees ∙ found);
-  stands = one (λ c. IsTrue (is_some (still_seen h who (opened_by before who cursor table) c.rid))) (ap is_some (ap (λ (x : Option Row). fold (row_after table rid) x (pending h who)) sees ∙ quiet) ∙ found);
+  stands =
+      one (λ c. IsTrue (is_some (still_seen h who (opened_by before who cursor table) c.rid)))
+      (ap is_some (ap (λ (x : Option Row). fold (row_after table rid) x (pending h who)) sees ∙ quiet) ∙ found);
   fit = one (λ c. IsTrue (row_fits may.exists.made.schema c.row)) (All-head (λ r. IsTrue (fits r may.exists.made.schema)) row [] may.fit);
 }
   where
@@ -127,7 +136,9 @@ may-write before h who cursor table rid row o none may has = record {
     one P holds = All-cons P (record { table = table; rid = rid; row = Some row }) [] holds (All-nil P)
 
     here : (rid < rows_in view 0) × IsTrue (is_some (rows h table view.scn (0 * view.per + rid)))
-    here = in_range (λ n. (n, rows h table view.scn n)) (λ found. IsTrue (is_some found.1)) (0 * view.per) (rows_in view 0) rid (rw (view-opening before h who cursor table o) at has)
+    here =
+        in_range (λ n. (n, rows h table view.scn n)) (λ found. IsTrue (is_some found.1)) (0 * view.per) (rows_in view 0) rid
+        (rw (view-opening before h who cursor table o) at has)
 
     found : IsTrue (is_some (rows h table view.scn rid))
     found = let same : 0 * view.per + rid ≡ rid = omega arith in rw same at here.1
@@ -142,11 +153,14 @@ may-write before h who cursor table rid row o none may has = record {
         ∙ ap (λ (b : Bool). if b then pending_after (pending before who) (Open cursor table) else pending before who) (itself who))
 
     quiet : fold (row_after table rid) (rows h table view.scn rid) (pending h who) ≡ rows h table view.scn rid
-    quiet = ap (λ (changes : List Change). fold (row_after table rid) (rows h table view.scn rid) changes) pending_is ∙ none-own table rid (pending before who) (rows h table view.scn rid) none
+    quiet =
+        ap (λ (changes : List Change). fold (row_after table rid) (rows h table view.scn rid) changes) pending_is
+        ∙ none-own table rid (pending before who) (rows h table view.scn rid) none
 
     table_is : (n : ℕ) → table_at h n ≡ table_at before n
     table_is zero = refl
-    table_is (suc place) = ap (λ (ts : List TableInfo). slice_get ts place) (ap tables o.is ∙ tables-push before (record { who = who; what = Open cursor table }))
+    table_is (suc place) =
+        ap (λ (ts : List TableInfo). slice_get ts place) (ap tables o.is ∙ tables-push before (record { who = who; what = Open cursor table }))
 
 -- what a session finds by a cursor 0 of its own on the first table
 pub record Opens (before h : Seen) (who : ℕ) (view : View) : Type 0 where
@@ -163,16 +177,21 @@ has-extent before h who view o some =
     rw same (omega (arith, some))
 
 pub is-open : (before h late : Seen) (who : ℕ) (view : View) → Opens before h who view → late ≡ h → is_cursor_open late.log who 0 ≡ true
-is-open before h late who view o same = ap (λ (s : Seen). is_cursor_open s.log who 0) same ∙ open-opening before.log h.log who 0 1 (opening-of before h who view o)
+is-open before h late who view o same =
+    ap (λ (s : Seen). is_cursor_open s.log who 0) same ∙ open-opening before.log h.log who 0 1 (opening-of before h who view o)
 
 -- also after a write, or one that was refused
-pub still-open : (before h late new : Seen) (who : ℕ) (view : View) (changes : List Change) (written : Result ℕ Refused) → Opens before h who view → late ≡ h → OnOk written (Adds late who (Write changes) new) → OnErr written (new ≡ late) → is_cursor_open new.log who 0 ≡ true
+pub still-open : (before h late new : Seen) (who : ℕ) (view : View) (changes : List Change) (written : Result ℕ Refused) → Opens before h who view → late ≡ h
+    → OnOk written (Adds late who (Write changes) new) → OnErr written (new ≡ late) → is_cursor_open new.log who 0 ≡ true
 still-open before h late new who view changes (Ok place) o same added kept =
     ap (λ (s : Seen). is_cursor_open s.log who 0) added ∙ open-write late.log who who 0 changes (is-open before h late who view o same)
 still-open before h late new who view changes (Err why) o same added kept =
     ap (λ (s : Seen). is_cursor_open s.log who 0) kept ∙ is-open before h late who view o same
 
-pub may-update : (before h late : Seen) (who rid : ℕ) (row : Row) (view : View) (own changes : List Change) (fetched : List (ℕ × Option Row)) → Opens before h who view → own ≡ view.own → (length own == 0) ≡ true → MayInsert before.log 1 (row ∷ []) → late ≡ h → fetched ≡ committed_in h.log (cursor_view h.log who 0) 0 → HasRow fetched rid → changes ≡ record { table = 1; rid = rid; row = Some row } ∷ [] → MayWrite late.log who 0 changes
+pub may-update : (before h late : Seen) (who rid : ℕ) (row : Row) (view : View) (own changes : List Change) (fetched : List (ℕ × Option Row))
+    → Opens before h who view → own ≡ view.own → (length own == 0) ≡ true → MayInsert before.log 1 (row ∷ []) → late ≡ h
+    → fetched ≡ committed_in h.log (cursor_view h.log who 0) 0 → HasRow fetched rid → changes ≡ record { table = 1; rid = rid; row = Some row } ∷ []
+    → MayWrite late.log who 0 changes
 may-update before h late who rid row view own changes fetched o own_is none may same fetched_is has changes_are =
     rw (same, changes_are) (may-write before.log h.log who 0 1 rid row (opening-of before h who view o) nothing may (rw fetched_is at has))
   where
@@ -184,11 +203,14 @@ may-update before h late who rid row view own changes fetched o own_is none may 
     nothing = sym (own_is ∙ ap (λ (v : View). v.own) o.view_is) ∙ empty own none
 
 -- rows that are all like one which a table takes may be inserted
-pub may-insert : (h : History) (table : ℕ) (row : Row) (like : List Row) → MayInsert h table (row ∷ []) → All (λ one. one ≡ row) like → 0 < length like → MayInsert h table like
+pub may-insert : (h : History) (table : ℕ) (row : Row) (like : List Row) → MayInsert h table (row ∷ []) → All (λ one. one ≡ row) like → 0 < length like
+    → MayInsert h table like
 may-insert h table row like may same some = record {
   exists = may.exists;
   some = omega (arith, some);
-  fit = All-weaker (λ one. one ≡ row) (λ r. IsTrue (fits r may.exists.made.schema)) (λ one is. rw is (All-head (λ r. IsTrue (fits r may.exists.made.schema)) row [] may.fit)) like same;
+  fit =
+      All-weaker (λ one. one ≡ row) (λ r. IsTrue (fits r may.exists.made.schema))
+      (λ one is. rw is (All-head (λ r. IsTrue (fits r may.exists.made.schema)) row [] may.fit)) like same;
 }
 
 -- the first table takes a row that fits it
@@ -200,6 +222,7 @@ first-takes h row made is fit = record {
 }
 
 -- so where a test says whether it fits, it says whether the first table takes it
-pub takes-by : (h : History) (row : Row) (made : TableInfo) (b : Bool) → slice_get (tables h) 0 ≡ Some made → b ≡ fits row made.schema → OnTrue b (MayInsert h 1 (row ∷ []))
+pub takes-by : (h : History) (row : Row) (made : TableInfo) (b : Bool) → slice_get (tables h) 0 ≡ Some made → b ≡ fits row made.schema
+    → OnTrue b (MayInsert h 1 (row ∷ []))
 takes-by h row made true is fit = first-takes h row made is (sym fit)
 takes-by h row made false is fit = tt

@@ -2,6 +2,7 @@
 use Rattle.std.proofs.Common.{◌≡◌, ℕ, ◌<◌, ◌≤◌, ◌==◌, ◌&&◌, Bool, true, false, not, nat_lt, List, length, Some, None, refl, sym, ap, ◌∙◌, arith}
 use Rattle.std.proofs.lemmas.Bool.Decides.{nat_tests}
 use Rattle.std.specs.Option.{option_or}
+use Rattle.im_values.specs.declared.limits.TheConstants.{MOST_CURSORS, MOST_TABLES}
 use Rattle.im_history.specs.declared.change.Change.{Change}
 use Rattle.im_history.specs.declared.look.TableInfo.{TableInfo}
 use Rattle.im_history.specs.declared.refused.Why.TheVariants.{TableExists, TooManyTables, CursorOpen, TooManyCursors, Serialize}
@@ -14,18 +15,20 @@ use Rattle.im_history.specs.Touched.{last_touch}
 pub open_refused : (h : History) (who cursor : ℕ) → is_cursor_open h who cursor ≡ true → Some CursorOpen ≡ open_refusal h who cursor
 open_refused h who cursor opened = rw opened refl
 
-pub too_many_open : (h : History) (who cursor : ℕ) → is_cursor_open h who cursor ≡ false → (cursor == 0) ≡ false → 8 ≤ cursors_open h who → Some TooManyCursors ≡ open_refusal h who cursor
+pub too_many_open : (h : History) (who cursor : ℕ) → is_cursor_open h who cursor ≡ false → (cursor == 0) ≡ false → MOST_CURSORS ≤ cursors_open h who
+    → Some TooManyCursors ≡ open_refusal h who cursor
 too_many_open h who cursor shut other many =
-    let no : nat_lt (cursors_open h who) 8 ≡ false = grind (arith, nat_tests) in
+    let no : nat_lt (cursors_open h who) MOST_CURSORS ≡ false = grind (arith, nat_tests) in
     rw (shut, other, no) refl
 
-pub may_open : (h : History) (who cursor : ℕ) → is_cursor_open h who cursor ≡ false → cursors_open h who < 8 → None ≡ open_refusal h who cursor
+pub may_open : (h : History) (who cursor : ℕ) → is_cursor_open h who cursor ≡ false → cursors_open h who < MOST_CURSORS → None ≡ open_refusal h who cursor
 may_open h who cursor shut few = by (cursor == 0)
   where
-    room : nat_lt (cursors_open h who) 8 ≡ true
+    room : nat_lt (cursors_open h who) MOST_CURSORS ≡ true
     room = grind (arith, nat_tests)
 
-    by : (b : Bool) → None ≡ option_or (when (is_cursor_open h who cursor) CursorOpen) (when (not b && not (nat_lt (cursors_open h who) 8)) TooManyCursors)
+    by : (b : Bool)
+        → None ≡ option_or (when (is_cursor_open h who cursor) CursorOpen) (when (not b && not (nat_lt (cursors_open h who) MOST_CURSORS)) TooManyCursors)
     by true = rw shut refl
     by false = rw (shut, room) refl
 
@@ -33,26 +36,42 @@ pub may_open_own : (h : History) (who cursor : ℕ) → is_cursor_open h who cur
 may_open_own h who cursor shut own = rw (shut, own) refl
 
 -- a table has the name
-pub table_taken : (h : History) (name : List ℕ) (catalog : List TableInfo) (table : ℕ) → catalog ≡ tables h → number_among catalog name ≡ Some table → Some (TableExists table) ≡ create_refusal h name
+pub table_taken : (h : History) (name : List ℕ) (catalog : List TableInfo) (table : ℕ) → catalog ≡ tables h → number_among catalog name ≡ Some table
+    → Some (TableExists table) ≡ create_refusal h name
 table_taken h name catalog table same taken =
     let named : table_named h name ≡ Some table = ap (λ (ts : List TableInfo). number_among ts name) (sym same) ∙ taken in
     rw named refl
 
 -- none has it
-pub table_free : (h : History) (name : List ℕ) (catalog : List TableInfo) (b : Bool) → catalog ≡ tables h → number_among catalog name ≡ None → nat_lt (length catalog) 64 ≡ b → when (not b) TooManyTables ≡ create_refusal h name
+pub table_free : (h : History) (name : List ℕ) (catalog : List TableInfo) (b : Bool) → catalog ≡ tables h → number_among catalog name ≡ None
+    → nat_lt (length catalog) MOST_TABLES ≡ b → when (not b) TooManyTables ≡ create_refusal h name
 table_free h name catalog b same free room =
     let named : table_named h name ≡ None = ap (λ (ts : List TableInfo). number_among ts name) (sym same) ∙ free in
-    let few : nat_lt (length (tables h)) 64 ≡ b = ap (λ (ts : List TableInfo). nat_lt (length ts) 64) (sym same) ∙ room in
+    let few : nat_lt (length (tables h)) MOST_TABLES ≡ b = ap (λ (ts : List TableInfo). nat_lt (length ts) MOST_TABLES) (sym same) ∙ room in
     rw (named, few) refl
 
+-- what is read of the last commit that is known to have touched a row: whether it is later than an SCN, and then that it is
+-- the last that touched it
+pub record IsLatest (scn latest last : ℕ) : Type 0 where
+  pub later : nat_lt scn latest ≡ nat_lt scn last
+  pub is : scn < latest → latest ≡ last
+
+-- the last commit itself is so
+pub latest-last : (scn latest last : ℕ) → latest ≡ last → IsLatest scn latest last
+latest-last scn latest last same = record { later = ap (nat_lt scn) same; is = λ later. same }
+
 -- a commit after this SCN touched the row
-pub touch_found : (h : History) (scn last : ℕ) (change : Change) → last ≡ last_touch h change.table change.rid → scn < last → Some (Serialize change.rid last) ≡ touch_after h scn change
-touch_found h scn last change is later =
-    let yes : nat_lt scn last ≡ true = grind (arith, nat_tests) in
-    rw (← is, yes) refl
+pub touch_found : (h : History) (scn latest : ℕ) (change : Change) → IsLatest scn latest (last_touch h change.table change.rid) → scn < latest
+    → Some (Serialize change.rid latest) ≡ touch_after h scn change
+touch_found h scn latest change known later =
+    let before : nat_lt scn latest ≡ true = grind (arith, nat_tests) in
+    let yes : nat_lt scn (last_touch h change.table change.rid) ≡ true = sym known.later ∙ before in
+    rw (known.is later, yes) refl
 
 -- none did
-pub touch_none : (h : History) (scn last : ℕ) (change : Change) → last ≡ last_touch h change.table change.rid → last ≤ scn → None ≡ touch_after h scn change
-touch_none h scn last change is earlier =
-    let no : nat_lt scn last ≡ false = grind (arith, nat_tests) in
-    rw (← is, no) refl
+pub touch_none : (h : History) (scn latest : ℕ) (change : Change) → IsLatest scn latest (last_touch h change.table change.rid) → latest ≤ scn
+    → None ≡ touch_after h scn change
+touch_none h scn latest change known earlier =
+    let before : nat_lt scn latest ≡ false = grind (arith, nat_tests) in
+    let no : nat_lt scn (last_touch h change.table change.rid) ≡ false = sym known.later ∙ before in
+    rw no refl

@@ -2,11 +2,10 @@
 use Rattle.std.proofs.Common.{◌≡◌, ℕ, zero, suc, ◌*◌, ◌≤◌, inr, List, length, Option, Some, None, sym, ap, ◌∙◌, subst, arith}
 use Rattle.std.specs.Option.{option_map}
 use Rattle.std.proofs.lemmas.Option.{slice_get_within}
-use Rattle.im_versions.specs.Versions.{Versions}
+use Rattle.im_values.specs.declared.limits.TheConstants.{CHANGE_WEIGHT}
 use Rattle.im_history.specs.declared.change.Change.{Change}
 use Rattle.im_history.specs.declared.entry.What.TheVariants.{Write}
 use Rattle.im_history.specs.declared.limits.Limits.{Limits}
-use Rattle.im_history.specs.declared.look.TableInfo.{TableInfo}
 use Rattle.im_history.specs.Cursors.{Opened, opened, cursor_at, is_cursor}
 use Rattle.im_history.specs.History.{History}
 use Rattle.im_history.specs.Legal.{Exists, MayWrite, IsAllowed}
@@ -21,9 +20,8 @@ use Rattle.im_txn.specs.Standing.{Standing, activity_at}
 use Rattle.im_txn.proofs.ForCallers.{cursor-by}
 use Rattle.im_core.specs.Answers.{cursor_view, view_of}
 use Rattle.im_history.specs.Units.{Content}
-use Rattle.im_directory.specs.Slots.{Kept}
-use Rattle.im_core.specs.Holds.{Holds}
-use Rattle.im_core.specs.Kept.{IsView, Gives}
+use Rattle.im_core.specs.inner.Holds.{Caches, Holds}
+use Rattle.im_core.specs.inner.Kept.{IsView, Gives}
 use Rattle.im_core.proofs.CountLemmas.{Gives-rewrite}
 use Rattle.im_core.proofs.FetchLemmas.{found_has}
 
@@ -43,7 +41,8 @@ pub record Rewrites (limits : Limits) (h : History) (who cursor : ℕ) (changes 
   pub gives : Gives h view.table changes (given h view.table)
   pub allowed : write_refusal limits h who view.scn changes ≡ None → IsAllowed limits h who (Write changes)
 
-kept_of : (limits : Limits) (h : History) (who cursor : ℕ) (changes : List Change) (may : MayWrite h who cursor changes) → IsView h may.opened.view → given h may.opened.view.table * 64 ≤ weight h → Rewrites limits h who cursor changes (kept may.opened)
+kept_of : (limits : Limits) (h : History) (who cursor : ℕ) (changes : List Change) (may : MayWrite h who cursor changes) → IsView h may.opened.view
+    → given h may.opened.view.table * CHANGE_WEIGHT ≤ weight h → Rewrites limits h who cursor changes (kept may.opened)
 kept_of limits h who cursor changes may view light = record {
   exists = may.exists;
   range = exists_range h may.opened.view.table may.exists;
@@ -54,14 +53,20 @@ kept_of limits h who cursor changes may view light = record {
 }
 
 -- the cursor that a session has open is the one that it keeps
-pub kept_is : (h : History) (standing : Standing) (who cursor : ℕ) (opened_one : Opened) → Agrees h standing → cursor_at h who cursor ≡ Some opened_one → cursor_in (activity_at standing who) cursor ≡ Some (kept opened_one)
+pub kept_is : (h : History) (standing : Standing) (who cursor : ℕ) (opened_one : Opened) → Agrees h standing → cursor_at h who cursor ≡ Some opened_one
+    → cursor_in (activity_at standing who) cursor ≡ Some (kept opened_one)
 kept_is h standing who cursor opened_one agrees is = cursor-by h standing who cursor agrees ∙ ap (option_map kept) is
 
-pub rewrites : {U : Type 0} (content : U → Content) (limits : Limits) (history : Stored) (catalog : List TableInfo) (counts : List ℕ) (weighed : ℕ) (beginnings : List ℕ) (blocks : List (List Versions)) (standing : Standing) (units : Kept U) (who cursor : ℕ) (changes : List Change) (view : Cursor) → Holds content limits history catalog counts weighed beginnings blocks standing units → MayWrite history.entries who cursor changes → cursor_in (activity_at standing who) cursor ≡ Some view → Rewrites limits history.entries who cursor changes view
-rewrites content limits history catalog counts weighed beginnings blocks standing units who cursor changes view holds may found =
-    let is = kept_is history.entries standing who cursor may.opened holds.sessions may.is in
-    let seen : IsView history.entries may.opened.view = found_has (λ (o : Opened). IsView history.entries o.view) (is_cursor cursor) (opened history.entries who) may.opened (holds.views.each who) may.is in
-    subst (Rewrites limits history.entries who cursor changes) (some-inj (sym is ∙ found)) (kept_of limits history.entries who cursor changes may seen (holds.tables.light may.opened.view.table))
+pub rewrites : {U : Type 0} (content : U → Content) (limits : Limits) (history : Stored) (caches : Caches U) (who cursor : ℕ)
+    (changes : List Change) (view : Cursor)
+    → Holds content limits history caches → MayWrite history.entries who cursor changes → cursor_in (activity_at caches.standing who) cursor ≡ Some view
+    → Rewrites limits history.entries who cursor changes view
+rewrites content limits history caches who cursor changes view holds may found =
+    let is = kept_is history.entries caches.standing who cursor may.opened holds.sessions may.is in
+    let seen : IsView history.entries may.opened.view =
+    found_has (λ (o : Opened). IsView history.entries o.view) (is_cursor cursor) (opened history.entries who) may.opened (holds.views.each who) may.is in
+    subst (Rewrites limits history.entries who cursor changes) (some-inj (sym is ∙ found))
+    (kept_of limits history.entries who cursor changes may seen (holds.tables.light may.opened.view.table))
   where
     some-inj : {a b : Cursor} → Some a ≡ Some b → a ≡ b
     some-inj e = cc

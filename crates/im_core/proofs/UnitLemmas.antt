@@ -1,7 +1,7 @@
 -- What is kept agrees with the history, one entry of the column store on.
-use Rattle.std.proofs.Common.{◌≡◌, ℕ, ◌+◌, ◌-◌, ◌≤◌, Bool, true, false, List, [], ◌∷◌, ◌++◌, length, set, Option, Some, None, count_by, is_none, is_some, ◌&&◌, refl, sym, ap, ◌∙◌, arith}
+use Rattle.std.proofs.Common.{◌≡◌, ℕ, ◌+◌, ◌-◌, ◌<◌, ◌≤◌, Bool, true, false, List, [], ◌∷◌, ◌++◌, length, set, Option, Some, None, count_by, is_none, is_some, ◌&&◌, refl, sym, ap, ◌∙◌, arith}
 use Rattle.std.specs.Option.{option_map}
-use Rattle.im_versions.specs.Versions.{Versions}
+use Rattle.im_values.specs.declared.limits.TheConstants.{NUMBERS}
 use Rattle.im_history.specs.declared.entry.Entry.{Entry}
 use Rattle.im_values.specs.declared.priority.Priority.{Priority}
 use Rattle.im_history.specs.declared.entry.What.{What}
@@ -10,12 +10,12 @@ use Rattle.im_history.specs.declared.limits.Limits.{Limits}
 use Rattle.im_history.specs.declared.look.TableInfo.{TableInfo}
 use Rattle.im_history.specs.declared.task.Held.{Held}
 use Rattle.im_history.specs.Commits.{moves_clock}
-use Rattle.im_history.specs.Legal.{Exists, IsAllowed, MayEnd, MaySetMemory}
+use Rattle.im_history.specs.Legal.{Exists, IsAllowed, MaySetMemory}
 use Rattle.im_history.specs.History.{History}
 use Rattle.im_history.specs.Stored.{Stored}
 use Rattle.im_history.specs.Tables.{remembered, table_at}
 use Rattle.im_history.specs.Transactions.{begun, begun_after}
-use Rattle.im_history.specs.Units.{Content, builds, content_at, held_at, is_member, living, may_populate, unit}
+use Rattle.im_history.specs.Units.{Content, builds, content_at, held_at, is_member, living, may_populate, unit, unit_content}
 use Rattle.im_history.proofs.Laws.{IsLegal-push, weight-push}
 use Rattle.im_blocks.proofs.ForCallers.{IsKept-quiet}
 use Rattle.im_directory.specs.Agreement.{next_build}
@@ -25,9 +25,8 @@ use Rattle.im_directory.specs.Slots.{Kept, Stock, told_at, unit_in}
 use Rattle.im_directory.proofs.CountLaws.{count-begun, count-killed, count-one-ended}
 use Rattle.im_directory.proofs.ForCallers.{Agrees-apart as units-apart, Agrees-begin, Agrees-cancel, Agrees-drop, Agrees-switch}
 use Rattle.im_txn.specs.Agrees.{is_apart}
-use Rattle.im_txn.specs.Standing.{Standing}
 use Rattle.im_txn.proofs.ForCallers.{Agrees-apart}
-use Rattle.im_core.specs.Holds.{Holds, owed}
+use Rattle.im_core.specs.inner.Holds.{Caches, Holds, owed}
 use Rattle.im_core.proofs.BeginLemmas.{as_it_was, Began-kept}
 use Rattle.im_core.proofs.CountLemmas.{IsLight, Counts-light, Counts-memory, light-build, light-cancel, light-evict, light-switch, weight-light}
 use Rattle.im_core.proofs.HoldsLemmas.{Grew, grew-spare}
@@ -53,107 +52,162 @@ pub alone-by : (h : History) (table extent : ℕ) → may_populate h table exten
 alone-by h table extent may = no_one (living h table extent) (both _ _ (both (is_member (table_at h table)) _ may).1).1
 
 -- the unit that is kept of an extent is the history's
-scn_by : {U : Type 0} (content : U → Content) (current : Option (Stock U)) (of : U) → option_map (λ (stock : Stock U). stock.unit) current ≡ Some of → scn_of content current ≡ Some (content of).scn
+scn_by : {U : Type 0} (content : U → Content) (current : Option (Stock U)) (of : U) → option_map (λ (stock : Stock U). stock.unit) current ≡ Some of
+    → scn_of content current ≡ Some (content of).scn
 scn_by content None of is = cc
 scn_by content (Some stock) of is = let same : stock.unit ≡ of = cc in ap (λ u. Some (content u).scn) same
 
-pub unit-by : {U : Type 0} (content : U → Content) (h : History) (kept : Kept U) (table extent : ℕ) (of : U) → IsOf content h kept → unit_in kept table extent ≡ Some of → unit h table extent ≡ Some (content of).scn
+pub unit-by : {U : Type 0} (content : U → Content) (h : History) (kept : Kept U) (table extent : ℕ) (of : U) → IsOf content h kept
+    → unit_in kept table extent ≡ Some of → unit h table extent ≡ Some (content of).scn
 unit-by content h kept table extent of agrees is = sym (agrees.units table extent) ∙ scn_by content (told_at kept table extent).current of is
 
-module _ {U : Type 0} (content : U → Content) (limits : Limits) (history : Stored) (catalog : List TableInfo) (counts : List ℕ) (weighed : ℕ) (beginnings : List ℕ) (blocks : List (List Versions)) (standing : Standing) (kept : Kept U) where
-  store_step : (after : Stored) (entry : Entry) (room : ℕ) (new : Kept U) → Holds content limits history catalog counts weighed beginnings blocks standing kept → Grew history after entry room → IsOfStore entry.what → IsAllowed limits history.entries entry.who entry.what → IsOf content (history.entries ++ entry ∷ []) new → owed standing new + 1 ≤ room → Holds content limits after catalog counts weighed beginnings blocks standing new
-  store_step after entry room new holds grew of allowed units few = record {
+-- one function after another
+pub option_map-both : {X Y Z : Type 0} (f : Y → Z) (g : X → Y) (x : Option X) → option_map (λ (x : X). f (g x)) x ≡ option_map f (option_map g x)
+option_map-both f g None = refl
+option_map-both f g (Some x) = refl
+
+-- and so is what it holds
+pub unit_content-by : {U : Type 0} (content : U → Content) (h : History) (kept : Kept U) (table extent : ℕ) → IsOf content h kept
+    → option_map content (unit_in kept table extent) ≡ unit_content h table extent
+unit_content-by {U} content h kept table extent agrees = by (told_at kept table extent).current refl
+  where
+    by : (o : Option (Stock U)) → (told_at kept table extent).current ≡ o
+        → option_map content (option_map (λ (stock : Stock U). stock.unit) o) ≡ unit_content h table extent
+    by None is = ap (option_map (content_at h table extent)) (ap (scn_of content) (sym is) ∙ agrees.units table extent)
+    by (Some stock) is =
+        ap Some (agrees.stock table extent stock is).holds
+        ∙ ap (option_map (content_at h table extent)) (ap (scn_of content) (sym is) ∙ agrees.units table extent)
+
+module _ {U : Type 0} (content : U → Content) (limits : Limits) (history : Stored) (caches : Caches U) where
+  store_step : (after : Stored) (entry : Entry) (room : ℕ) (new : Kept U) → Holds content limits history caches → entry.who < NUMBERS
+      → Grew history after entry room → IsOfStore entry.what → IsAllowed limits history.entries entry.who entry.what
+      → IsOf content (history.entries ++ entry ∷ []) new → owed caches.standing new + 1 ≤ room → Holds content limits after (record caches { kept = new })
+  store_step after entry room new holds known grew of allowed units few = record {
     small = holds.small;
-    legal = rw grew.entries (IsLegal-push limits history.entries entry holds.legal allowed);
+    legal = rw grew.entries (IsLegal-push limits history.entries entry holds.legal known allowed);
     within = rw (grew.entries, weight-light history.entries entry of.light) holds.within;
-    tables = rw grew.entries (Counts-light history.entries entry catalog counts weighed of.light holds.tables);
-    began = rw grew.entries (Began-kept history.entries entry beginnings (as_it_was (of.begins (length history.entries) (begun history.entries entry.who))) holds.began);
+    tables = rw grew.entries (Counts-light history.entries entry caches.catalog caches.counts caches.weighed of.light holds.tables);
+    began =
+        rw grew.entries
+        (Began-kept history.entries entry caches.beginnings (as_it_was (of.begins (length history.entries) (begun history.entries entry.who))) holds.began);
     views = rw grew.entries (Views-push history.entries entry holds.views);
-    rows = rw grew.entries (IsKept-quiet history.entries entry blocks of.quiet holds.rows);
-    sessions = rw grew.entries (Agrees-apart history.entries entry.who entry.what standing of.apart holds.sessions);
+    rows = rw grew.entries (IsKept-quiet history.entries entry caches.blocks of.quiet holds.rows);
+    sessions = rw grew.entries (Agrees-apart history.entries entry.who entry.what caches.standing of.apart holds.sessions);
     units = rw grew.entries units;
     room = let more = grew.spare in omega (arith, more, few);
   }
 
   -- a build begins
-  pub Holds-build : (after : Stored) (who table extent : ℕ) (trickle : Bool) (held : Held) (new : Kept U) → Holds content limits history catalog counts weighed beginnings blocks standing kept → Exists history.entries table → may_populate history.entries table extent ≡ true → living history.entries table extent ≡ None → held ≡ next_build history.entries who table extent trickle → Grew history after (record { who = who; what = Build (builds history.entries + 1) table extent trickle }) (owed standing kept + 2) → IsBegun kept new held → Holds content limits after catalog counts weighed beginnings blocks standing new
-  Holds-build after who table extent trickle held new holds exists may alone held_is grew begun_one =
-      let more : count_by is_some new.builds ≡ count_by is_some kept.builds + 1 = ap (count_by is_some) begun_one.builds ∙ count-begun kept.builds held in
-      store_step after (record { who = who; what = Build (builds history.entries + 1) table extent trickle }) (owed standing kept + 2) new holds grew
+  pub Holds-build : (after : Stored) (who table extent : ℕ) (trickle : Bool) (held : Held) (new : Kept U) → Holds content limits history caches
+      → who < NUMBERS → Exists history.entries table → may_populate history.entries table extent ≡ true → living history.entries table extent ≡ None
+      → held ≡ next_build history.entries who table extent trickle
+      → Grew history after (record { who = who; what = Build (builds history.entries + 1) table extent trickle }) (owed caches.standing caches.kept + 2)
+      → IsBegun caches.kept new held → Holds content limits after (record caches { kept = new })
+  Holds-build after who table extent trickle held new holds known exists may alone held_is grew begun_one =
+      let more : count_by is_some new.builds ≡ count_by is_some caches.kept.builds + 1 =
+      ap (count_by is_some) begun_one.builds ∙ count-begun caches.kept.builds held in
+      store_step after (record { who = who; what = Build (builds history.entries + 1) table extent trickle }) (owed caches.standing caches.kept + 2) new holds
+      known grew
       (record { light = light-build (builds history.entries + 1) table extent trickle; quiet = refl; apart = refl; begins = λ place began. refl })
       (record { exists = exists; may = may; next = refl })
-      (Agrees-begin content history.entries who table extent trickle held kept new holds.units exists alone held_is begun_one)
+      (Agrees-begin content history.entries who table extent trickle held caches.kept new holds.units exists alone held_is begun_one)
       (omega (arith, more))
 
   -- a room is owed for the end of a held build
-  pub owed-held : (id : ℕ) (held : Held) → Holds content limits history catalog counts weighed beginnings blocks standing kept → held_at history.entries id ≡ Some held → 1 ≤ history.spare
+  pub owed-held : (id : ℕ) (held : Held) → Holds content limits history caches → held_at history.entries id ≡ Some held → 1 ≤ history.spare
   owed-held id held holds is =
-      let fewer = count-one-ended kept.builds id held (holds.units.held id ∙ is) in
+      let fewer = count-one-ended caches.kept.builds id held (holds.units.held id ∙ is) in
       let room = holds.room in
       omega (arith, fewer, room)
 
   -- one build less is held
-  ended : (id : ℕ) (held : Held) (new : Kept U) → Holds content limits history catalog counts weighed beginnings blocks standing kept → held_at history.entries id ≡ Some held → held.task.id ≡ id → new.builds ≡ set kept.builds (held.task.id - 1) None → count_by is_some new.builds + 1 ≡ count_by is_some kept.builds
+  ended : (id : ℕ) (held : Held) (new : Kept U) → Holds content limits history caches → held_at history.entries id ≡ Some held → held.task.id ≡ id
+      → new.builds ≡ set caches.kept.builds (held.task.id - 1) None → count_by is_some new.builds + 1 ≡ count_by is_some caches.kept.builds
   ended id held new holds is numbered builds_are =
-      ap (λ (b : List (Option Held)). count_by is_some b + 1) (builds_are ∙ ap (λ n. set kept.builds (n - 1) None) numbered)
-      ∙ count-one-ended kept.builds id held (holds.units.held id ∙ is)
+      ap (λ (b : List (Option Held)). count_by is_some b + 1) (builds_are ∙ ap (λ n. set caches.kept.builds (n - 1) None) numbered)
+      ∙ count-one-ended caches.kept.builds id held (holds.units.held id ∙ is)
 
   -- a build's unit becomes current
-  pub Holds-switch : (after : Stored) (who id : ℕ) (held : Held) (of : U) (new : Kept U) → Holds content limits history catalog counts weighed beginnings blocks standing kept → held_at history.entries id ≡ Some held → held.who ≡ who → held.killed ≡ None → held.task.id ≡ id → content of ≡ content_at history.entries held.task.table held.task.extent held.task.scn → after ≡ record { entries = history.entries ++ record { who = who; what = Switch id } ∷ []; spare = history.spare - 1 } → IsSwitched kept new held of → Holds content limits after catalog counts weighed beginnings blocks standing new
-  Holds-switch after who id held of new holds is mine lives numbered holds_rows added switched =
-      let count : count_by is_some new.builds + 1 ≡ count_by is_some kept.builds = ended id held new holds is numbered switched.builds in
+  pub Holds-switch : (after : Stored) (who id : ℕ) (held : Held) (of : U) (new : Kept U) → Holds content limits history caches → who < NUMBERS
+      → held_at history.entries id ≡ Some held → held.who ≡ who → held.killed ≡ None → held.task.id ≡ id
+      → content of ≡ content_at history.entries held.task.table held.task.extent held.task.scn
+      → after ≡ record { entries = history.entries ++ record { who = who; what = Switch id } ∷ []; spare = history.spare - 1 }
+      → IsSwitched caches.kept new held of → Holds content limits after (record caches { kept = new })
+  Holds-switch after who id held of new holds known is mine lives numbered holds_rows added switched =
+      let count : count_by is_some new.builds + 1 ≡ count_by is_some caches.kept.builds = ended id held new holds is numbered switched.builds in
       let room = holds.room in
-      store_step after (record { who = who; what = Switch id }) history.spare new holds (grew-spare history after (record { who = who; what = Switch id }) (owed-held id held holds is) added)
+      store_step after (record { who = who; what = Switch id }) history.spare new holds known
+      (grew-spare history after (record { who = who; what = Switch id }) (owed-held id held holds is) added)
       (record { light = light-switch id; quiet = refl; apart = refl; begins = λ place began. refl })
       (record { may = record { held = held; is = is; mine = mine }; lives = lives })
-      (Agrees-switch content history.entries who id held of kept new holds.units is lives holds_rows switched)
+      (Agrees-switch content history.entries who id held of caches.kept new holds.units is lives holds_rows switched)
       (omega (arith, count, room))
 
   -- a build is cancelled
-  pub Holds-cancel : (after : Stored) (who id : ℕ) (held : Held) (new : Kept U) → Holds content limits history catalog counts weighed beginnings blocks standing kept → held_at history.entries id ≡ Some held → held.who ≡ who → held.task.id ≡ id → after ≡ record { entries = history.entries ++ record { who = who; what = Cancel id false } ∷ []; spare = history.spare - 1 } → IsCancelled kept new held → Holds content limits after catalog counts weighed beginnings blocks standing new
-  Holds-cancel after who id held new holds is mine numbered added cancelled =
-      let count : count_by is_some new.builds + 1 ≡ count_by is_some kept.builds = ended id held new holds is numbered cancelled.builds in
+  pub Holds-cancel : (after : Stored) (who id : ℕ) (held : Held) (new : Kept U) → Holds content limits history caches → who < NUMBERS
+      → held_at history.entries id ≡ Some held → held.who ≡ who → held.task.id ≡ id
+      → after ≡ record { entries = history.entries ++ record { who = who; what = Cancel id false } ∷ []; spare = history.spare - 1 }
+      → IsCancelled caches.kept new held → Holds content limits after (record caches { kept = new })
+  Holds-cancel after who id held new holds known is mine numbered added cancelled =
+      let count : count_by is_some new.builds + 1 ≡ count_by is_some caches.kept.builds = ended id held new holds is numbered cancelled.builds in
       let room = holds.room in
-      store_step after (record { who = who; what = Cancel id false }) history.spare new holds (grew-spare history after (record { who = who; what = Cancel id false }) (owed-held id held holds is) added)
+      store_step after (record { who = who; what = Cancel id false }) history.spare new holds known
+      (grew-spare history after (record { who = who; what = Cancel id false }) (owed-held id held holds is) added)
       (record { light = light-cancel id false; quiet = refl; apart = refl; begins = λ place began. refl })
       (record { held = held; is = is; mine = mine }, refl)
-      (Agrees-cancel content history.entries who id false held kept new holds.units is cancelled)
+      (Agrees-cancel content history.entries who id false held caches.kept new holds.units is cancelled)
       (omega (arith, count, room))
 
   -- a unit is evicted
-  pub Holds-evict : (after : Stored) (who table extent place : ℕ) (new : Kept U) → Holds content limits history catalog counts weighed beginnings blocks standing kept → is_some (unit history.entries table extent) ≡ true → place ≡ length history.entries → Grew history after (record { who = who; what = Evict table extent }) (owed standing kept + 1) → IsDropped kept new place (Evict table extent) → Holds content limits after catalog counts weighed beginnings blocks standing new
-  Holds-evict after who table extent place new holds there place_is grew dropped =
-      let count : count_by is_some new.builds ≡ count_by is_some kept.builds = ap (count_by is_some) dropped.builds ∙ count-killed kept.builds _ in
-      store_step after (record { who = who; what = Evict table extent }) (owed standing kept + 1) new holds grew
+  pub Holds-evict : (after : Stored) (who table extent place : ℕ) (new : Kept U) → Holds content limits history caches → who < NUMBERS
+      → is_some (unit history.entries table extent) ≡ true → place ≡ length history.entries
+      → Grew history after (record { who = who; what = Evict table extent }) (owed caches.standing caches.kept + 1)
+      → IsDropped caches.kept new place (Evict table extent) → Holds content limits after (record caches { kept = new })
+  Holds-evict after who table extent place new holds known there place_is grew dropped =
+      let count : count_by is_some new.builds ≡ count_by is_some caches.kept.builds =
+      ap (count_by is_some) dropped.builds ∙ count-killed caches.kept.builds _ in
+      store_step after (record { who = who; what = Evict table extent }) (owed caches.standing caches.kept + 1) new holds known grew
       (record { light = light-evict table extent; quiet = refl; apart = refl; begins = λ place began. refl })
       there
-      (Agrees-drop content history.entries who (Evict table extent) kept new refl holds.units (rw place_is at dropped))
+      (Agrees-drop content history.entries who (Evict table extent) caches.kept new refl holds.units (rw place_is at dropped))
       (omega (arith, count))
 
   -- a table joins the column store or leaves it
-  pub Holds-memory : (after : Stored) (who table : ℕ) (priority : Option Priority) (new_catalog : List TableInfo) (new : Kept U) → Holds content limits history catalog counts weighed beginnings blocks standing kept → MaySetMemory history.entries who table → new_catalog ≡ remembered table priority catalog → IsOf content (history.entries ++ record { who = who; what = Memory table priority } ∷ []) new → owed standing new ≡ owed standing kept → Grew history after (record { who = who; what = Memory table priority }) (owed standing kept + 1) → Holds content limits after new_catalog counts weighed beginnings blocks standing new
-  Holds-memory after who table priority new_catalog new holds may catalog_is units same grew =
+  pub Holds-memory : (after : Stored) (who table : ℕ) (priority : Option Priority) (new_catalog : List TableInfo) (new : Kept U)
+      → Holds content limits history caches → who < NUMBERS → MaySetMemory history.entries who table → new_catalog ≡ remembered table priority caches.catalog
+      → IsOf content (history.entries ++ record { who = who; what = Memory table priority } ∷ []) new
+      → owed caches.standing new ≡ owed caches.standing caches.kept
+      → Grew history after (record { who = who; what = Memory table priority }) (owed caches.standing caches.kept + 1)
+      → Holds content limits after (record caches { catalog = new_catalog; kept = new })
+  Holds-memory after who table priority new_catalog new holds known may catalog_is units same grew =
       let h = history.entries in
       let entry : Entry = record { who = who; what = Memory table priority } in
       record {
         small = holds.small;
-        legal = rw grew.entries (IsLegal-push limits h entry holds.legal may);
+        legal = rw grew.entries (IsLegal-push limits h entry holds.legal known may);
         within = rw (grew.entries, weight-push h entry) holds.within;
-        tables = rw (grew.entries, catalog_is) (Counts-memory h who table priority catalog counts weighed holds.tables);
-        began = rw grew.entries (Began-kept h entry beginnings (as_it_was refl) holds.began);
+        tables = rw (grew.entries, catalog_is) (Counts-memory h who table priority caches.catalog caches.counts caches.weighed holds.tables);
+        began = rw grew.entries (Began-kept h entry caches.beginnings (as_it_was refl) holds.began);
         views = rw grew.entries (Views-push h entry holds.views);
-        rows = rw grew.entries (IsKept-quiet h entry blocks refl holds.rows);
-        sessions = rw grew.entries (Agrees-apart h who (Memory table priority) standing refl holds.sessions);
+        rows = rw grew.entries (IsKept-quiet h entry caches.blocks refl holds.rows);
+        sessions = rw grew.entries (Agrees-apart h who (Memory table priority) caches.standing refl holds.sessions);
         units = rw grew.entries units;
         room = let more = grew.spare in omega (arith, more, same);
       }
 
-  pub Holds-joined : (after : Stored) (who table : ℕ) (level : Priority) (new_catalog : List TableInfo) → Holds content limits history catalog counts weighed beginnings blocks standing kept → MaySetMemory history.entries who table → new_catalog ≡ remembered table (Some level) catalog → Grew history after (record { who = who; what = Memory table (Some level) }) (owed standing kept + 1) → Holds content limits after new_catalog counts weighed beginnings blocks standing kept
-  Holds-joined after who table level new_catalog holds may catalog_is grew =
-      Holds-memory after who table (Some level) new_catalog kept holds may catalog_is (units-apart content history.entries who (Memory table (Some level)) kept refl holds.units) refl grew
+  pub Holds-joined : (after : Stored) (who table : ℕ) (level : Priority) (new_catalog : List TableInfo) → Holds content limits history caches → who < NUMBERS
+      → MaySetMemory history.entries who table → new_catalog ≡ remembered table (Some level) caches.catalog
+      → Grew history after (record { who = who; what = Memory table (Some level) }) (owed caches.standing caches.kept + 1)
+      → Holds content limits after (record caches { catalog = new_catalog })
+  Holds-joined after who table level new_catalog holds known may catalog_is grew =
+      Holds-memory after who table (Some level) new_catalog caches.kept holds known may catalog_is
+      (units-apart content history.entries who (Memory table (Some level)) caches.kept refl holds.units) refl grew
 
-  pub Holds-left : (after : Stored) (who table place : ℕ) (new_catalog : List TableInfo) (new : Kept U) → Holds content limits history catalog counts weighed beginnings blocks standing kept → MaySetMemory history.entries who table → new_catalog ≡ remembered table None catalog → place ≡ length history.entries → Grew history after (record { who = who; what = Memory table None }) (owed standing kept + 1) → IsDropped kept new place (Memory table None) → Holds content limits after new_catalog counts weighed beginnings blocks standing new
-  Holds-left after who table place new_catalog new holds may catalog_is place_is grew dropped =
-      Holds-memory after who table None new_catalog new holds may catalog_is
-      (Agrees-drop content history.entries who (Memory table None) kept new refl holds.units (rw place_is at dropped))
-      (ap (λ n. standing.owed + n) (ap (count_by is_some) dropped.builds ∙ count-killed kept.builds _)) grew
+  pub Holds-left : (after : Stored) (who table place : ℕ) (new_catalog : List TableInfo) (new : Kept U) → Holds content limits history caches → who < NUMBERS
+      → MaySetMemory history.entries who table → new_catalog ≡ remembered table None caches.catalog → place ≡ length history.entries
+      → Grew history after (record { who = who; what = Memory table None }) (owed caches.standing caches.kept + 1)
+      → IsDropped caches.kept new place (Memory table None) → Holds content limits after (record caches { catalog = new_catalog; kept = new })
+  Holds-left after who table place new_catalog new holds known may catalog_is place_is grew dropped =
+      Holds-memory after who table None new_catalog new holds known may catalog_is
+      (Agrees-drop content history.entries who (Memory table None) caches.kept new refl holds.units (rw place_is at dropped))
+      (ap (λ n. caches.standing.owed + n) (ap (count_by is_some) dropped.builds ∙ count-killed caches.kept.builds _)) grew

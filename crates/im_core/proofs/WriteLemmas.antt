@@ -3,6 +3,7 @@ use Rattle.std.proofs.Common.{◌≡◌, ℕ, suc, ◌+◌, ◌-◌, ◌<◌, �
 use Rattle.std.proofs.lemmas.Bool.Decides.{nat_tests}
 use Rattle.std.proofs.lemmas.List.Elements.{All-nil, All-cons}
 use Rattle.std.specs.Option.{option_map, option_or}
+use Rattle.im_values.specs.declared.limits.TheConstants.{MOST_TABLES}
 use Rattle.im_history.specs.declared.change.Change.{Change}
 use Rattle.im_history.specs.declared.entry.What.TheVariants.{Write}
 use Rattle.im_history.specs.declared.limits.Limits.{Limits}
@@ -34,30 +35,37 @@ when_none true why e = cc
 when_none false why e = refl
 
 -- where the store is not full there is room for the changes
-store-room : (limits : Limits) (h : History) (changes : List Change) → weight h ≤ limits.store → store_full limits h changes ≡ None → weight h + changes_weight changes ≤ limits.store
+store-room : (limits : Limits) (h : History) (changes : List Change) → weight h ≤ limits.store → store_full limits h changes ≡ None
+    → weight h + changes_weight changes ≤ limits.store
 store-room limits h changes within none =
     let no : nat_lt (limits.store - weight h) (changes_weight changes) ≡ false = when_none _ _ none in
     grind (arith, nat_tests)
 
-insert-store : (limits : Limits) (h : History) (who : ℕ) (changes : List Change) → insert_refusal limits h who changes ≡ None → store_full limits h changes ≡ None
+insert-store : (limits : Limits) (h : History) (who : ℕ) (changes : List Change) → insert_refusal limits h who changes ≡ None
+    → store_full limits h changes ≡ None
 insert-store limits h who changes none = right_none (too_many_changes limits h who changes) _ (right_none (read_only h who) _ none)
 
-write-store : (limits : Limits) (h : History) (who s : ℕ) (changes : List Change) → write_refusal limits h who s changes ≡ None → store_full limits h changes ≡ None
+write-store : (limits : Limits) (h : History) (who s : ℕ) (changes : List Change) → write_refusal limits h who s changes ≡ None
+    → store_full limits h changes ≡ None
 write-store limits h who s changes none =
-    right_none (too_many_changes limits h who changes) _ (right_none (serialize h s changes) _ (right_none (row_locked h who changes) _ (right_none (read_only h who) _ none)))
+    right_none (too_many_changes limits h who changes) _
+    (right_none (serialize h s changes) _ (right_none (row_locked h who changes) _ (right_none (read_only h who) _ none)))
 
 -- a write that is allowed has room in the store
-pub room_left : (limits : Limits) (h : History) (who : ℕ) (changes : List Change) → weight h ≤ limits.store → IsAllowed limits h who (Write changes) → weight h + changes_weight changes ≤ limits.store
+pub room_left : (limits : Limits) (h : History) (who : ℕ) (changes : List Change) → weight h ≤ limits.store → IsAllowed limits h who (Write changes)
+    → weight h + changes_weight changes ≤ limits.store
 room_left limits h who changes within allowed =
     ⊎_elim (λ (i : IsInsert limits h who changes). store-room limits h changes within (insert-store limits h who changes i.allowed))
     (λ (r : IsRewrite limits h who changes). store-room limits h changes within (write-store limits h who r.may.opened.view.scn changes r.allowed))
     allowed
 
 -- no row of the changes is locked
-unlocked : (h : History) (who : ℕ) (changes : List Change) → row_locked h who changes ≡ None → All (λ change. holder h who change.table change.rid ≡ None) changes
+unlocked : (h : History) (who : ℕ) (changes : List Change) → row_locked h who changes ≡ None
+    → All (λ change. holder h who change.table change.rid ≡ None) changes
 unlocked h who [] none = All-nil _
 unlocked h who (change ∷ changes) none =
-    All-cons (λ (c : Change). holder h who c.table c.rid ≡ None) change changes (no_holder (holder h who change.table change.rid) (left_none (lock_on h who change) (first_cause (lock_on h who) changes) none))
+    All-cons (λ (c : Change). holder h who c.table c.rid ≡ None) change changes
+    (no_holder (holder h who change.table change.rid) (left_none (lock_on h who change) (first_cause (lock_on h who) changes) none))
     (unlocked h who changes (right_none (lock_on h who change) (first_cause (lock_on h who) changes) none))
   where
     no_holder : (o : Option ℕ) → option_map (λ other. RowLocked change.rid other) o ≡ None → o ≡ None
@@ -65,23 +73,29 @@ unlocked h who (change ∷ changes) none =
     no_holder (Some u) e = cc
 
 -- an insert's row numbers are new
-past_given : (h : History) (table first : ℕ) (rows : List Row) → given h table ≤ first → All (λ change. given h change.table ≤ change.rid) (put_from table first rows)
+past_given : (h : History) (table first : ℕ) (rows : List Row) → given h table ≤ first
+    → All (λ change. given h change.table ≤ change.rid) (put_from table first rows)
 past_given h table first [] past = All-nil _
 past_given h table first (row ∷ rows) past =
     All-cons (λ (c : Change). given h c.table ≤ c.rid) (record { table = table; rid = first; row = Some row }) (put_from table (first + 1) rows) past
     (past_given h table (first + 1) rows (omega (arith, past)))
 
 -- nobody else holds a row of a write that is allowed
-pub free_allowed : (limits : Limits) (h : History) (standing : Standing) (who : ℕ) (changes : List Change) → Agrees h standing → IsAllowed limits h who (Write changes) → IsFree standing who changes
+pub free_allowed : (limits : Limits) (h : History) (standing : Standing) (who : ℕ) (changes : List Change) → Agrees h standing
+    → IsAllowed limits h who (Write changes) → IsFree standing who changes
 free_allowed limits h standing who changes agrees allowed =
-    ⊎_elim (λ (i : IsInsert limits h who changes). IsFree-past-given h standing who changes agrees (rw i.next (past_given h i.table (given h i.table) i.rows (omega arith))))
-    (λ (r : IsRewrite limits h who changes). IsFree-by h standing who changes agrees (unlocked h who changes (left_none (row_locked h who changes) _ (right_none (read_only h who) _ r.allowed))))
+    ⊎_elim
+    (λ (i : IsInsert limits h who changes). IsFree-past-given h standing who changes agrees
+    (rw i.next (past_given h i.table (given h i.table) i.rows (omega arith))))
+    (λ (r : IsRewrite limits h who changes). IsFree-by h standing who changes agrees
+    (unlocked h who changes (left_none (row_locked h who changes) _ (right_none (read_only h who) _ r.allowed))))
     allowed
 
 -- a table may be created: there is room for it
-pub table_room : (h : History) (name : List ℕ) → create_refusal h name ≡ None → length (tables h) < 64
+pub table_room : (h : History) (name : List ℕ) → create_refusal h name ≡ None → length (tables h) < MOST_TABLES
 table_room h name none =
-    let no : not (nat_lt (length (tables h)) 64) ≡ false = when_none _ _ (right_none (option_map (λ table. TableExists table) (table_named h name)) _ none) in
+    let no : not (nat_lt (length (tables h)) MOST_TABLES) ≡ false =
+    when_none _ _ (right_none (option_map (λ table. TableExists table) (table_named h name)) _ none) in
     grind (arith, nat_tests)
 
 -- a cursor that may be opened is not open
@@ -93,11 +107,13 @@ length-put_from table first [] = refl
 length-put_from table first (row ∷ rows) = ap suc (length-put_from table (first + 1) rows)
 
 -- one more row is put
-pub put_from-push : (table first : ℕ) (rows : List Row) (row : Row) → put_from table first (rows ++ row ∷ []) ≡ put_from table first rows ++ record { table = table; rid = first + length rows; row = Some row } ∷ []
+pub put_from-push : (table first : ℕ) (rows : List Row) (row : Row)
+    → put_from table first (rows ++ row ∷ []) ≡ put_from table first rows ++ record { table = table; rid = first + length rows; row = Some row } ∷ []
 put_from-push table first [] row = ap (λ (n : ℕ). record { table = table; rid = n; row = Some row } ∷ []) (omega arith)
 put_from-push table first (r ∷ rows) row =
     ap (λ (cs : List Change). record { table = table; rid = first; row = Some r } ∷ cs)
-    (put_from-push table (first + 1) rows row ∙ ap (λ (n : ℕ). put_from table (first + 1) rows ++ record { table = table; rid = n; row = Some row } ∷ []) (omega arith))
+    (put_from-push table (first + 1) rows row
+    ∙ ap (λ (n : ℕ). put_from table (first + 1) rows ++ record { table = table; rid = n; row = Some row } ∷ []) (omega arith))
 
 -- a list without elements
 pub nil_of_len : {X : Type 0} (xs : List X) → length xs ≡ 0 → xs ≡ []

@@ -1,15 +1,14 @@
--- What calls of the store answer, told from its history.
+-- What calls of the store answer, read from its history.
 use Rattle.std.specs.Prelude.{◌≡◌, ℕ, ◌⊎◌, ◌+◌, ◌-◌, ◌*◌, Bool, true, false, min, List, [], length, map, Option, Some, None, is_none}
 use Rattle.std.specs.Option.{option_map}
 use Rattle.std.specs.List.{range_with_len}
 use Rattle.std.specs.declared.sync.Arc.{Arc}
 use Rattle.std.specs.declared.alloc.Global.{Global}
-use Rattle.im_core.specs.declared.answers.Evicted.{Evicted}
 use Rattle.im_core.specs.declared.answers.Offer.{Offer}
 use Rattle.im_core.specs.declared.answers.Offer.TheVariants.{Task, Idle}
 use Rattle.im_core.specs.declared.answers.Switched.{Switched}
 use Rattle.im_core.specs.declared.answers.Switched.TheVariants.{Done, AreaFull, Cancelled}
-use Rattle.im_history.specs.declared.entry.What.TheVariants.{Build, Switch, Cancel, Evict}
+use Rattle.im_history.specs.declared.entry.What.TheVariants.{Build, Switch, Cancel}
 use Rattle.im_history.specs.declared.refused.Refused.{Refused}
 use Rattle.im_history.specs.declared.refused.Why.{Why}
 use Rattle.im_history.specs.declared.refused.Why.TheVariants.{NoMemory, NoUnit}
@@ -20,10 +19,10 @@ use Rattle.im_history.specs.Cursors.{Opened, cursor_at}
 use Rattle.im_history.specs.History.{History}
 use Rattle.im_history.specs.Refusals.{when}
 use Rattle.im_history.specs.Rows.{Row, rows}
-use Rattle.im_history.specs.Units.{Content, builds, held_at, may_populate, task_at, unit}
+use Rattle.im_history.specs.Units.{Content, builds, held_at, may_populate, task_at, unit, unit_content}
 use Rattle.im_core.specs.Seen.{Seen, Adds}
 
--- a call was refused at this history: for the cause that applies, or for want of memory
+-- a call was refused at this history: for the cause that applies, or for being out of memory
 pub record IsRefusal (history : History) (cause : Option Why) (refused : Refused) : Type 0 where
   pub place : refused.place ≡ length history
   pub why : (refused.why ≡ NoMemory) ⊎ (cause ≡ Some refused.why)
@@ -91,25 +90,18 @@ abbrev pub evict_refusal : History → ℕ → ℕ → Option Why
 evict_refusal history table extent = when (is_none (unit history table extent)) NoUnit
 
 module _ {U : Type 0} (content : U → Content) where
-  -- the SCN of a unit that is lent or handed back
-  abbrev pub scn_in : Option (Arc U Global) → Option ℕ
-  scn_in unit = option_map (λ (unit : Arc U Global). (content unit.value).scn) unit
+  -- what a unit that is lent or handed back holds
+  abbrev pub content_in : Option (Arc U Global) → Option Content
+  content_in unit = option_map (λ (unit : Arc U Global). content unit.value) unit
 
-  -- a finished build became current, or was found dead
+  -- a finished build became current, and the unit that was current is handed back; or the build was found dead
   abbrev pub IsSwitch : Seen → ℕ → TaskInfo → Switched U → Seen → Type 0
   IsSwitch old who task (Done place used before) new =
       (killed_of (held_at old.log task.id) ≡ None)
       × (place ≡ length old.log)
       × (used ≡ 0)
-      × (scn_in before ≡ unit old.log task.table task.extent)
+      × (content_in before ≡ unit_content old.log task.table task.extent)
       × Adds old who (Switch task.id) new
   IsSwitch old who task (AreaFull place need free) new = ⊥
   IsSwitch old who task (Cancelled place at) new =
       (killed_of (held_at old.log task.id) ≡ Some at) × (place ≡ length old.log) × Adds old who (Cancel task.id false) new
-
-  -- a unit was evicted
-  pub record IsEvicted (old : Seen) (who table extent : ℕ) (evicted : Evicted U) (new : Seen) : Type 0 where
-    pub place : evicted.place ≡ length old.log
-    pub used : evicted.used ≡ 0
-    pub unit_was : unit old.log table extent ≡ Some (content evicted.old.value).scn
-    pub adds : Adds old who (Evict table extent) new

@@ -1,4 +1,3 @@
+pub mod inner
 pub mod Answers
-pub mod Holds
-pub mod Kept
 pub mod Seen

@@ -6,14 +6,15 @@ ghost use Rattle.im_history.specs.Refusals.{open_refusal};
 ghost use Rattle.im_history.specs.Rows.{snapshot};
 ghost use Rattle.im_history.specs.Views.{view_at};
 ghost use Rattle.im_core.specs.Answers.{IsRefusal, cursor_view, committed_in, rows_in};
-ghost use Rattle.im_core.specs.Kept.{beginning_at};
+ghost use Rattle.im_core.specs.inner.Kept.{beginning_at};
 ghost use Rattle.im_core.specs.Seen.{Adds};
 
 use crate::answers::Pin;
 use crate::fetched::Fetched;
-use crate::store::{Core, NUMBERS, owed};
-use im_history::{Entry, Mode, Refused, UnitLike, View, What, Why};
+use crate::store::{Core, owed};
+use im_history::{Entry, Mode, Refused, UnitLike, View, What, Who, Why};
 use im_txn::Cursor;
+use im_values::limits::{MOST_ROWS, NUMBERS};
 use im_values::{NoMemory, Steps};
 use std::sync::ledger::Ledger;
 
@@ -26,27 +27,27 @@ impl<U: UnitLike> Core<U> {
         ensures ok { OnOk result (Adds self.old who (what.Open cursor table) self.new) }
         ensures allowed { OnOk result (open_refusal self.old.log who cursor ≡ None) }
         ensures view { IfOk result (λ view. view ≡ view_at self.old.log who table) }
-        ensures few { IfOk result (λ view. view.rows ≤ 8388608) }
+        ensures few { IfOk result (λ view. view.rows ≤ MOST_ROWS) }
         ensures some { IfOk result (λ view. 1 ≤ view.per) }
         ensures err { OnErr result (self.new ≡ self.old) }
         ensures refused { IfErr result (λ why. IsRefusal self.old.log (open_refusal self.old.log who cursor) why) }
     {
-        if let Some(why) = self.open_refusal(who, cursor) {
+        let caller = Who::of(who);
+        if let Some(why) = self.open_refusal(caller, cursor) {
             return Err(self.refused(why));
         }
-        match self.record_open(who, cursor, table) {
+        match self.record_open(caller, cursor, table) {
             Ok(view) => Ok(view),
             Err(NoMemory) => Err(self.refused(Why::NoMemory)),
         }
     }
 
-    fn record_open(&mut self, who: u32, cursor: u32, table: u32) -> Result<View, NoMemory>
-        requires session { who < NUMBERS }
+    fn record_open(&mut self, who: Who, cursor: u32, table: u32) -> Result<View, NoMemory>
         requires exists { Exists self.old.log table }
         requires allowed { open_refusal self.old.log who cursor ≡ None }
         ensures ok { OnOk result (Adds self.old who (what.Open cursor table) self.new) }
         ensures view { IfOk result (λ view. view ≡ view_at self.old.log who table) }
-        ensures few { IfOk result (λ view. view.rows ≤ 8388608) }
+        ensures few { IfOk result (λ view. view.rows ≤ MOST_ROWS) }
         ensures some { IfOk result (λ view. 1 ≤ view.per) }
         ensures err { OnErr result (self.new ≡ self.old) }
     {
@@ -65,18 +66,17 @@ impl<U: UnitLike> Core<U> {
             },
         );
         self.history.append(Entry {
-            who,
+            who: who.number(),
             what: What::Open { cursor, table },
         });
         Ok(view)
     }
 
     /// The view that an opening has now.
-    fn view(&self, who: u32, table: u32) -> Result<View, NoMemory>
-        requires session { who < NUMBERS }
+    fn view(&self, who: Who, table: u32) -> Result<View, NoMemory>
         requires exists { Exists self.now.log table }
         ensures view { IfOk result (λ view. view ≡ view_at self.now.log who table) }
-        ensures few { IfOk result (λ view. view.rows ≤ 8388608) }
+        ensures few { IfOk result (λ view. view.rows ≤ MOST_ROWS) }
         ensures some { IfOk result (λ view. 1 ≤ view.per) }
     {
         let rows = self.given_of(table);
@@ -93,8 +93,7 @@ impl<U: UnitLike> Core<U> {
     }
 
     /// The SCN that a statement of the session reads at.
-    fn snapshot(&self, who: u32) -> u64
-        requires session { who < NUMBERS }
+    fn snapshot(&self, who: Who) -> u64
         ensures { result ≡ snapshot self.now.log who }
     {
         match self.sessions.mode(who) {
@@ -104,12 +103,11 @@ impl<U: UnitLike> Core<U> {
     }
 
     /// The SCN that the session's transaction began at, or that it would begin at now.
-    pub(crate) fn beginning(&self, who: u32) -> u64
-        requires session { who < NUMBERS }
+    pub(crate) fn beginning(&self, who: Who) -> u64
         ensures { result ≡ beginning_at self.now.log who }
     {
         match self.sessions.begun(who) {
-            Some(_) => self.beginnings[who as usize],
+            Some(_) => self.beginnings[who.index()],
             None => self.history.scn(),
         }
     }
@@ -134,7 +132,8 @@ impl<U: UnitLike> Core<U> {
         ensures steps { steps.new ≤ steps.old + rows_in (cursor_view self.old.log who cursor) extent }
         ensures err { IfErr result (λ why. IsRefusal self.old.log None why) }
     {
-        match self.fetch(who, cursor, extent, steps) {
+        let caller = Who::of(who);
+        match self.fetch(caller, cursor, extent, steps) {
             Ok(fetched) => Ok(Pin {
                 place: self.len(),
                 unit: None,
@@ -146,12 +145,11 @@ impl<U: UnitLike> Core<U> {
 
     fn fetch<L: Ledger>(
         &self,
-        who: u32,
+        who: Who,
         cursor: u32,
         extent: u64,
         steps: &mut Steps<L>,
     ) -> Result<Fetched, NoMemory>
-        requires session { who < NUMBERS }
         requires within { extent < (cursor_view self.now.log who cursor).extents }
         ensures fetched { IfOk result (λ fetched.
             fetched ≡ committed_in self.now.log (cursor_view self.now.log who cursor) extent) }
@@ -173,8 +171,9 @@ impl<U: UnitLike> Core<U> {
         ensures added { Adds self.old who (what.Shut cursor) self.new }
         ensures place { result ≡ length self.old.log }
     {
+        let caller = Who::of(who);
         let place = self.history.len();
-        self.sessions.shut(who, cursor);
+        self.sessions.shut(caller, cursor);
         self.history.append(Entry {
             who,
             what: What::Shut { cursor },

@@ -1,15 +1,15 @@
 //! The store: tables of versioned rows, sessions with their transactions, locks and cursors, and one recorded history.
 //!
 //! Contracts see a [`Core`] as its limits and its history, and nothing else (`specs/Seen.antt`). Each call adds exactly the
-//! entry that it names, or none, and what it answers is told from the history: the definitions are those of `im_history`.
-//! A refusal has exactly its cause (`specs/Refusals.antt` there), and leaves the store as it was; for want of memory any call
+//! entry that it names, or none, and what it answers is read from the history: the definitions are those of `im_history`.
+//! A refusal has exactly its cause (`specs/Refusals.antt` there), and leaves the store as it was; out of memory any call
 //! may be refused whose answer can say so. [`Core::shut`] and [`Core::rollback`] are never refused: what they need was
 //! reserved when the cursor was opened and the transaction began.
 //!
 //! The main promise is that the history is legal: no write is lost, since a row that another session has changed, or that
 //! was committed after the writer's snapshot, is refused at once.
 //!
-//! Start with `specs/Seen.antt` and `store.rt`; `specs/Holds.antt` says how what is kept agrees with the history.
+//! Start with `specs/Seen.antt` and `store.rt`; `specs/inner/Holds.antt` says how what is kept agrees with the history.
 #![tactic(auto)]
 
 mod answers;
@@ -25,7 +25,7 @@ mod writes;
 
 pub use answers::{Begun, Committed, Evicted, Made, Offer, Pin, Switched, Wrote};
 pub use fetched::Fetched;
-pub use store::{Core, NUMBERS};
+pub use store::Core;
 
 #[cfg(test)]
 mod tests;

@@ -1,16 +1,11 @@
 ghost use Rattle.std.specs.Prelude.{◌≡◌, ◌<◌, IfOk};
 ghost use Rattle.im_history.specs.Refusals as refusal;
 
-use crate::store::{Core, NUMBERS};
+use crate::store::Core;
 use crate::weights::weight_of;
-use im_history::{Change, Mode, UnitLike, Why};
+use im_history::{Change, Mode, UnitLike, Who, Why};
 use im_values::NoMemory;
-
-/// As many tables may stand.
-const MOST_TABLES: usize = 64;
-
-/// As many cursors of a session may be open beside cursor 0.
-const MOST_CURSORS: u64 = 8;
+use im_values::limits::{MOST_CURSORS, MOST_TABLES};
 
 impl<U: UnitLike> Core<U> {
     pub(crate) fn create_refusal(&self, name: &[u8]) -> Option<Why>
@@ -26,8 +21,7 @@ impl<U: UnitLike> Core<U> {
         }
     }
 
-    pub(crate) fn open_refusal(&self, who: u32, cursor: u32) -> Option<Why>
-        requires { who < NUMBERS }
+    pub(crate) fn open_refusal(&self, who: Who, cursor: u32) -> Option<Why>
         ensures { result ≡ refusal.open_refusal self.now.log who cursor }
     {
         if self.sessions.cursor(who, cursor).is_some() {
@@ -39,8 +33,7 @@ impl<U: UnitLike> Core<U> {
         }
     }
 
-    fn read_only(&self, who: u32) -> Option<Why>
-        requires { who < NUMBERS }
+    fn read_only(&self, who: Who) -> Option<Why>
         ensures { result ≡ refusal.read_only self.now.log who }
     {
         match self.sessions.mode(who) {
@@ -50,8 +43,7 @@ impl<U: UnitLike> Core<U> {
     }
 
     /// Whether another session holds the row of a change.
-    fn lock_on(&self, who: u32, change: &Change) -> Option<Why>
-        requires { who < NUMBERS }
+    fn lock_on(&self, who: Who, change: &Change) -> Option<Why>
         ensures { result ≡ refusal.lock_on self.now.log who change.now }
     {
         let holder = self.sessions.holder(who, change.table, change.rid)?;
@@ -62,8 +54,7 @@ impl<U: UnitLike> Core<U> {
     }
 
     /// The first row that another session holds.
-    fn row_locked(&self, who: u32, changes: &[Change]) -> Option<Why>
-        requires { who < NUMBERS }
+    fn row_locked(&self, who: Who, changes: &[Change]) -> Option<Why>
         ensures { result ≡ refusal.row_locked self.now.log who changes.now }
     {
         for change in changes {
@@ -103,8 +94,7 @@ impl<U: UnitLike> Core<U> {
         None
     }
 
-    fn too_many_changes(&self, who: u32, changes: &[Change]) -> Option<Why>
-        requires { who < NUMBERS }
+    fn too_many_changes(&self, who: Who, changes: &[Change]) -> Option<Why>
         ensures { result ≡ refusal.too_many_changes self.now.limits self.now.log who changes.now }
     {
         let pending = self.sessions.pending(who).len() as u64;
@@ -133,8 +123,7 @@ impl<U: UnitLike> Core<U> {
         }
     }
 
-    fn no_room(&self, who: u32, changes: &[Change]) -> Result<Option<Why>, NoMemory>
-        requires { who < NUMBERS }
+    fn no_room(&self, who: Who, changes: &[Change]) -> Result<Option<Why>, NoMemory>
         ensures { IfOk result (λ cause. cause ≡ refusal.no_room self.now.limits self.now.log who changes.now) }
     {
         match self.too_many_changes(who, changes) {
@@ -145,10 +134,9 @@ impl<U: UnitLike> Core<U> {
 
     pub(crate) fn insert_refusal(
         &self,
-        who: u32,
+        who: Who,
         changes: &[Change],
     ) -> Result<Option<Why>, NoMemory>
-        requires { who < NUMBERS }
         ensures { IfOk result (λ cause. cause ≡ refusal.insert_refusal self.now.limits self.now.log who changes.now) }
     {
         match self.read_only(who) {
@@ -159,11 +147,10 @@ impl<U: UnitLike> Core<U> {
 
     pub(crate) fn write_refusal(
         &self,
-        who: u32,
+        who: Who,
         scn: u64,
         changes: &[Change],
     ) -> Result<Option<Why>, NoMemory>
-        requires { who < NUMBERS }
         ensures { IfOk result (λ cause. cause ≡ refusal.write_refusal self.now.limits self.now.log who scn changes.now) }
     {
         if let Some(why) = self.read_only(who) {

@@ -1,25 +1,17 @@
 ghost use Rattle.std.specs.Prelude.{◌≡◌, ◌+◌, ◌^◌, ◌<◌, ◌≤◌, [], length, IfOk, IfErr, OnErr, None};
-ghost use Rattle.im_history.specs.Legal.{IsLegal};
+ghost use Rattle.im_history.specs.Legal.{IsLawful, IsLegal};
 ghost use Rattle.im_history.specs.Views.{look_at};
 ghost use Rattle.im_core.specs.Answers.{IsRefusal};
-ghost use Rattle.im_core.specs.Holds.{owed as owed_by};
+ghost use Rattle.im_core.specs.inner.Holds.{owed as owed_by};
 
 use im_blocks::Blocks;
 use im_directory::Directory;
-use im_history::{Catalog, History, Limits, Look, Refused, UnitLike, Why};
+use im_history::{Catalog, History, Limits, Look, Refused, UnitLike, Who, Why};
 use im_txn::Sessions;
 use im_values::NoMemory;
+use im_values::limits::{MOST_CHANGES, MOST_WEIGHT, NUMBERS};
 use std::alloc::Global;
 use std::marker::Model;
-
-/// Sessions and workers have numbers below this.
-pub const NUMBERS: u32 = 25;
-
-/// The greatest limit of the weight of all changes.
-pub const MOST_WEIGHT: u64 = 536_870_912;
-
-/// The greatest limit of the changes of one transaction.
-pub const MOST_CHANGES: u64 = 65_536;
 
 /// A store of tables, over column units of the type `U`.
 ///
@@ -46,11 +38,19 @@ impl<U: UnitLike> Model for Core<U> {
 
     ghost Value = { Seen };
 
-    ghost use Rattle.im_core.specs.Holds.{Holds};
+    ghost use Rattle.im_core.specs.inner.Holds.{Holds};
 
     ghost view = { λ c. record { limits = c.limits; log = c.history.entries } };
 
-    ghost invariant = { λ c. Holds U.content c.limits c.history c.catalog c.given.items c.weight c.beginnings c.blocks c.sessions c.directory };
+    ghost invariant = { λ c. Holds U.content c.limits c.history (record {
+      catalog = c.catalog;
+      counts = c.given.items;
+      weighed = c.weight;
+      beginnings = c.beginnings;
+      blocks = c.blocks;
+      standing = c.sessions;
+      kept = c.directory;
+    }) };
 }
 
 impl<U: UnitLike> Core<U> {
@@ -89,6 +89,14 @@ impl<U: UnitLike> Core<U> {
         })
     }
 
+    /// What is true of every store: its limits are small, and its history is legal. That is a fact of its type, which
+    /// reaches a caller only through a call.
+    pub fn known(&self)
+        ensures { IsLawful self.now.limits self.now.log }
+    {
+        let _ = &self.limits;
+    }
+
     /// How many entries the history has. It takes no memory.
     pub fn len(&self) -> u64
         ensures { result ≡ length self.now.log }
@@ -106,7 +114,7 @@ impl<U: UnitLike> Core<U> {
 
     /// What a session finds: the place, the SCN, its transaction, and the tables. It adds no entry.
     ///
-    /// The history of a store is always legal; this call tells its caller so.
+    /// The history of a store is always legal, which this call says too.
     pub fn look(&mut self, who: u32) -> Result<Look, Refused>
         requires session { who < NUMBERS }
         ensures same { self.new ≡ self.old }
@@ -114,12 +122,13 @@ impl<U: UnitLike> Core<U> {
         ensures ok { IfOk result (λ look. look ≡ look_at self.old.log who) }
         ensures err { IfErr result (λ why. IsRefusal self.old.log None why) }
     {
+        let caller = Who::of(who);
         match self.catalog.share() {
             Ok(tables) => Ok(Look {
                 place: self.len(),
                 scn: self.history.scn(),
-                begun: self.sessions.begun(who),
-                mode: self.sessions.mode(who),
+                begun: self.sessions.begun(caller),
+                mode: self.sessions.mode(caller),
                 tables,
             }),
             Err(NoMemory) => Err(self.refused(Why::NoMemory)),

@@ -8,8 +8,9 @@ ghost use Rattle.im_core.specs.Answers.{IsRefusal};
 ghost use Rattle.im_core.specs.Seen.{Adds};
 
 use crate::answers::Made;
-use crate::store::{Core, NUMBERS, owed};
-use im_history::{Entry, Refused, Shape, TableInfo, UnitLike, What, Why};
+use crate::store::{Core, owed};
+use im_history::{Entry, Refused, Shape, TableInfo, UnitLike, What, Who, Why};
+use im_values::limits::NUMBERS;
 use im_values::{Name, NoMemory, Schema};
 use std::alloc::Global;
 
@@ -34,10 +35,11 @@ impl<U: UnitLike> Core<U> {
         ensures err { OnErr result (self.new ≡ self.old) }
         ensures refused { IfErr result (λ why. IsRefusal self.old.log (create_refusal self.old.log name) why) }
     {
+        let caller = Who::of(who);
         if let Some(why) = self.create_refusal(name.bytes()) {
             return Err(self.refused(why));
         }
-        match self.record_create(who, name, schema, shape) {
+        match self.record_create(caller, name, schema, shape) {
             Ok(made) => Ok(made),
             Err(NoMemory) => Err(self.refused(Why::NoMemory)),
         }
@@ -45,12 +47,11 @@ impl<U: UnitLike> Core<U> {
 
     fn record_create(
         &mut self,
-        who: u32,
+        who: Who,
         name: Name,
         schema: Schema,
         shape: Shape,
     ) -> Result<Made, NoMemory>
-        requires session { who < NUMBERS }
         requires idle { is_open self.old.log who ≡ false }
         requires allowed { create_refusal self.old.log name ≡ None }
         ensures ok { OnOk result (Adds self.old who (what.Create name schema shape) self.new) }
@@ -74,7 +75,7 @@ impl<U: UnitLike> Core<U> {
         self.given.push(0)?;
         self.catalog = catalog;
         self.history.append(Entry {
-            who,
+            who: who.number(),
             what: What::Create {
                 name,
                 schema,

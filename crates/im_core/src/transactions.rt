@@ -7,9 +7,10 @@ ghost use Rattle.im_core.specs.Answers.{IsRefusal};
 ghost use Rattle.im_core.specs.Seen.{Adds};
 
 use crate::answers::{Begun, Committed};
-use crate::store::{Core, NUMBERS, owed};
-use im_history::{Entry, Mode, Refused, UnitLike, What, Why};
+use crate::store::{Core, owed};
+use im_history::{Entry, Mode, Refused, UnitLike, What, Who, Why};
 use im_values::NoMemory;
+use im_values::limits::NUMBERS;
 
 impl<U: UnitLike> Core<U> {
     /// Begins a transaction of a mode. It is refused where one is open.
@@ -21,17 +22,17 @@ impl<U: UnitLike> Core<U> {
         ensures err { OnErr result (self.new ≡ self.old) }
         ensures refused { IfErr result (λ why. IsRefusal self.old.log (begin_refusal self.old.log who) why) }
     {
-        if let Some(place) = self.sessions.begun(who) {
+        let caller = Who::of(who);
+        if let Some(place) = self.sessions.begun(caller) {
             return Err(self.refused(Why::TransactionOpen { place }));
         }
-        match self.record_begin(who, mode) {
+        match self.record_begin(caller, mode) {
             Ok(begun) => Ok(begun),
             Err(NoMemory) => Err(self.refused(Why::NoMemory)),
         }
     }
 
-    fn record_begin(&mut self, who: u32, mode: Mode) -> Result<Begun, NoMemory>
-        requires session { who < NUMBERS }
+    fn record_begin(&mut self, who: Who, mode: Mode) -> Result<Begun, NoMemory>
         requires allowed { begin_refusal self.old.log who ≡ None }
         ensures ok { OnOk result (Adds self.old who (what.Begin mode) self.new) }
         ensures begun { IfOk result (λ begun. begun ≡ record { place = length self.old.log; scn = scn self.old.log }) }
@@ -43,10 +44,10 @@ impl<U: UnitLike> Core<U> {
             place: self.history.len(),
             scn: self.history.scn(),
         };
-        self.beginnings[who as usize] = begun.scn;
+        self.beginnings[who.index()] = begun.scn;
         self.sessions.begin(who, begun.place, mode);
         self.history.append(Entry {
-            who,
+            who: who.number(),
             what: What::Begin { mode },
         });
         Ok(begun)
@@ -60,14 +61,14 @@ impl<U: UnitLike> Core<U> {
         ensures err { OnErr result (self.new ≡ self.old) }
         ensures refused { IfErr result (λ why. IsRefusal self.old.log None why) }
     {
-        match self.record_commit(who) {
+        let caller = Who::of(who);
+        match self.record_commit(caller) {
             Ok(committed) => Ok(committed),
             Err(NoMemory) => Err(self.refused(Why::NoMemory)),
         }
     }
 
-    fn record_commit(&mut self, who: u32) -> Result<Committed, NoMemory>
-        requires session { who < NUMBERS }
+    fn record_commit(&mut self, who: Who) -> Result<Committed, NoMemory>
         ensures ok { OnOk result (Adds self.old who what.Commit self.new) }
         ensures committed { IfOk result (λ done. done ≡ record { place = length self.old.log; scn = scn self.old.log + 1 }) }
         ensures err { OnErr result (self.new ≡ self.old) }
@@ -86,7 +87,7 @@ impl<U: UnitLike> Core<U> {
             .note(&self.catalog, committed.scn, changes.items());
         self.blocks.apply(committed.scn, changes.into_items());
         self.history.append(Entry {
-            who,
+            who: who.number(),
             what: What::Commit,
         });
         Ok(committed)
@@ -99,8 +100,9 @@ impl<U: UnitLike> Core<U> {
         ensures added { Adds self.old who what.Rollback self.new }
         ensures place { result ≡ length self.old.log }
     {
+        let caller = Who::of(who);
         let place = self.history.len();
-        drop(self.sessions.clear(who));
+        drop(self.sessions.clear(caller));
         self.history.append(Entry {
             who,
             what: What::Rollback,

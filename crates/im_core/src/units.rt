@@ -1,14 +1,15 @@
 ghost use Rattle.std.specs.Prelude.{◌≡◌, ◌+◌, ◌≤◌, ◌<◌, length, true, false, Some, None, IfOk, IfErr, OnOk, OnErr};
 ghost use Rattle.im_history.specs.declared.entry.What.TheVariants as what;
 ghost use Rattle.im_history.specs.Legal.{Exists, MaySetMemory};
-ghost use Rattle.im_history.specs.Units.{IsOwn, builds, content_at, held_at, may_populate, task_at};
-ghost use Rattle.im_core.specs.Answers.{IsEvicted, IsOffer, IsRefusal, IsHeld, IsSwitch, evict_refusal, killed_of, task_fetched, task_rows};
+ghost use Rattle.im_history.specs.Units.{IsOwn, builds, held_at, may_populate, task_at, task_content, unit_content};
+ghost use Rattle.im_core.specs.Answers.{IsOffer, IsRefusal, IsHeld, IsSwitch, content_in, evict_refusal, killed_of, task_fetched, task_rows};
 ghost use Rattle.im_core.specs.Seen.{Adds};
 
 use crate::answers::{Evicted, Offer, Pin, Switched};
 use crate::fetched::Fetched;
-use crate::store::{Core, NUMBERS, owed};
-use im_history::{Entry, Held, Priority, Refused, Task, UnitLike, What, Why};
+use crate::store::{Core, owed};
+use im_history::{Entry, Held, Priority, Refused, Task, UnitLike, What, Who, Why};
+use im_values::limits::NUMBERS;
 use im_values::{NoMemory, Steps};
 use std::sync::Arc;
 use std::sync::ledger::Ledger;
@@ -29,9 +30,10 @@ impl<U: UnitLike> Core<U> {
         ensures err { OnErr result (self.new ≡ self.old) }
         ensures refused { IfErr result (λ why. IsRefusal self.old.log None why) }
     {
+        let caller = Who::of(who);
         let set = match priority {
-            Some(level) => self.record_joined(who, table, level),
-            None => self.record_left(who, table),
+            Some(level) => self.record_joined(caller, table, level),
+            None => self.record_left(caller, table),
         };
         match set {
             Ok(place) => Ok(place),
@@ -39,8 +41,7 @@ impl<U: UnitLike> Core<U> {
         }
     }
 
-    fn record_joined(&mut self, who: u32, table: u32, level: Priority) -> Result<u64, NoMemory>
-        requires session { who < NUMBERS }
+    fn record_joined(&mut self, who: Who, table: u32, level: Priority) -> Result<u64, NoMemory>
         requires may { MaySetMemory self.old.log who table }
         ensures ok { OnOk result (Adds self.old who (what.Memory table (Some level)) self.new) }
         ensures place { IfOk result (λ place. place ≡ length self.old.log) }
@@ -53,14 +54,13 @@ impl<U: UnitLike> Core<U> {
         let place = self.history.len();
         self.catalog = catalog;
         self.history.append(Entry {
-            who,
+            who: who.number(),
             what: What::Memory { table, priority },
         });
         Ok(place)
     }
 
-    fn record_left(&mut self, who: u32, table: u32) -> Result<u64, NoMemory>
-        requires session { who < NUMBERS }
+    fn record_left(&mut self, who: Who, table: u32) -> Result<u64, NoMemory>
         requires may { MaySetMemory self.old.log who table }
         ensures ok { OnOk result (Adds self.old who (what.Memory table None) self.new) }
         ensures place { IfOk result (λ place. place ≡ length self.old.log) }
@@ -74,7 +74,7 @@ impl<U: UnitLike> Core<U> {
         self.catalog = catalog;
         self.directory.drop_table(place, table);
         self.history.append(Entry {
-            who,
+            who: who.number(),
             what: What::Memory { table, priority },
         });
         Ok(place)
@@ -95,13 +95,14 @@ impl<U: UnitLike> Core<U> {
         ensures err { OnErr result (self.new ≡ self.old) }
         ensures refused { IfErr result (λ why. IsRefusal self.old.log None why) }
     {
+        let caller = Who::of(who);
         if !self.may_populate(table, extent) {
             return Ok(Offer::Idle {
                 place: self.len(),
                 left: 0,
             });
         }
-        match self.record_build(who, table, extent, trickle) {
+        match self.record_build(caller, table, extent, trickle) {
             Ok(offer) => Ok(offer),
             Err(NoMemory) => Err(self.refused(Why::NoMemory)),
         }
@@ -136,12 +137,11 @@ impl<U: UnitLike> Core<U> {
 
     fn record_build(
         &mut self,
-        who: u32,
+        who: Who,
         table: u32,
         extent: u64,
         trickle: bool,
     ) -> Result<Offer, NoMemory>
-        requires session { who < NUMBERS }
         requires exists { Exists self.old.log table }
         requires may { may_populate self.old.log table extent ≡ true }
         ensures ok { IfOk result (λ offer. IsOffer self.old who table extent trickle offer self.new) }
@@ -153,13 +153,13 @@ impl<U: UnitLike> Core<U> {
         self.history
             .reserve(owed(&self.sessions, &self.directory) + 2)?;
         self.directory.begin(Held {
-            who,
+            who: who.number(),
             task: held,
             given,
             killed: None,
         })?;
         self.history.append(Entry {
-            who,
+            who: who.number(),
             what: What::Build {
                 id: task.id,
                 table,
@@ -170,27 +170,32 @@ impl<U: UnitLike> Core<U> {
         Ok(Offer::Task(task))
     }
 
-    /// Evicts an extent's unit, and kills its living build. It is refused where there is no unit.
+    /// Evicts an extent's current unit, which it hands back, and kills its living build. It is refused where there is no
+    /// unit.
     pub fn evict(&mut self, who: u32, table: u32, extent: u64) -> Result<Evicted<U>, Refused>
         requires session { who < NUMBERS }
         requires exists { Exists self.old.log table }
-        ensures ok { IfOk result (λ evicted. IsEvicted U.content self.old who table extent evicted self.new) }
+        ensures ok { OnOk result (Adds self.old who (what.Evict table extent) self.new) }
+        ensures answer { IfOk result (λ evicted. (evicted.place ≡ length self.old.log) × (evicted.used ≡ 0)) }
+        ensures was { IfOk result (λ evicted. unit_content self.old.log table extent ≡ Some (U.content evicted.old.value)) }
         ensures err { OnErr result (self.new ≡ self.old) }
         ensures refused { IfErr result (λ why. IsRefusal self.old.log (evict_refusal self.old.log table extent) why) }
     {
+        let caller = Who::of(who);
         if self.directory.unit(table, extent).is_none() {
             return Err(self.refused(Why::NoUnit));
         }
-        match self.record_evict(who, table, extent) {
+        match self.record_evict(caller, table, extent) {
             Ok(evicted) => Ok(evicted),
             Err(NoMemory) => Err(self.refused(Why::NoMemory)),
         }
     }
 
-    fn record_evict(&mut self, who: u32, table: u32, extent: u64) -> Result<Evicted<U>, NoMemory>
-        requires session { who < NUMBERS }
+    fn record_evict(&mut self, who: Who, table: u32, extent: u64) -> Result<Evicted<U>, NoMemory>
         requires allowed { evict_refusal self.old.log table extent ≡ None }
-        ensures ok { IfOk result (λ evicted. IsEvicted U.content self.old who table extent evicted self.new) }
+        ensures ok { OnOk result (Adds self.old who (what.Evict table extent) self.new) }
+        ensures answer { IfOk result (λ evicted. (evicted.place ≡ length self.old.log) × (evicted.used ≡ 0)) }
+        ensures was { IfOk result (λ evicted. unit_content self.old.log table extent ≡ Some (U.content evicted.old.value)) }
         ensures err { OnErr result (self.new ≡ self.old) }
     {
         self.history
@@ -198,7 +203,7 @@ impl<U: UnitLike> Core<U> {
         let place = self.history.len();
         let old = self.directory.evict(place, table, extent).unwrap();
         self.history.append(Entry {
-            who,
+            who: who.number(),
             what: What::Evict { table, extent },
         });
         Ok(Evicted {
@@ -250,16 +255,25 @@ impl<U: UnitLike> Core<U> {
         Ok(Fetched::of(rows))
     }
 
-    /// Makes the unit of a finished build current: with the journal of what was touched since the build began. A build
-    /// that was killed is cancelled. It takes no memory.
+    /// Makes the unit of a finished build current, with the journal of what was touched since the build began, and hands
+    /// back the unit that was. A build that was killed is cancelled. It takes no memory.
     pub fn switch(&mut self, who: u32, task: Task, unit: Arc<U>) -> Switched<U>
         requires session { who < NUMBERS }
         requires own { IsOwn self.old.log who task }
-        requires holds { U.content unit.value ≡ content_at self.old.log task.table task.extent task.scn }
+        requires holds { U.content unit.value ≡ task_content self.old.log task }
         ensures { IsSwitch U.content self.old who task result self.new }
     {
+        let caller = Who::of(who);
         match self.directory.build(task.id).unwrap().killed {
-            None => self.record_switch(who, task, unit),
+            None => {
+                let place = self.len();
+                let old = self.record_switch(caller, task, unit);
+                Switched::Done {
+                    place,
+                    used: 0,
+                    old,
+                }
+            }
             Some(at) => {
                 let place = self.cancel(who, task);
                 Switched::Cancelled { place, at }
@@ -267,24 +281,20 @@ impl<U: UnitLike> Core<U> {
         }
     }
 
-    fn record_switch(&mut self, who: u32, task: Task, unit: Arc<U>) -> Switched<U>
-        requires session { who < NUMBERS }
+    /// Records that a unit became current, and hands back the one that was.
+    fn record_switch(&mut self, who: Who, task: Task, unit: Arc<U>) -> Option<Arc<U>>
         requires own { IsOwn self.old.log who task }
         requires lives { killed_of (held_at self.old.log task.id) ≡ None }
-        requires holds { U.content unit.value ≡ content_at self.old.log task.table task.extent task.scn }
-        ensures { IsSwitch U.content self.old who task result self.new }
+        requires holds { U.content unit.value ≡ task_content self.old.log task }
+        ensures adds { Adds self.old who (what.Switch task.id) self.new }
+        ensures was { content_in U.content result ≡ unit_content self.old.log task.table task.extent }
     {
-        let place = self.history.len();
         let old = self.directory.switch(task.id, unit);
         self.history.append(Entry {
-            who,
+            who: who.number(),
             what: What::Switch { id: task.id },
         });
-        Switched::Done {
-            place,
-            used: 0,
-            old,
-        }
+        old
     }
 
     /// Cancels a build, and answers the place of the entry. It takes no memory.

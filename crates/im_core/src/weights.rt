@@ -2,13 +2,8 @@ ghost use Rattle.std.specs.Prelude.{◌≡◌, ◌+◌, IfOk};
 ghost use Rattle.im_history.specs.Weights as weight;
 
 use im_history::Change;
+use im_values::limits::{CHANGE_WEIGHT, VALUE_WEIGHT};
 use im_values::{NoMemory, Row, Value};
-
-/// What a change weighs beside its row.
-const CHANGE_WEIGHT: u64 = 64;
-
-/// What a value weighs beside the bytes of a text.
-const VALUE_WEIGHT: u64 = 32;
 
 /// The sum of two weights. What weighs more than 64 bits can say has no room in memory.
 fn add(a: u64, b: u64) -> Result<u64, NoMemory>
@@ -40,7 +35,7 @@ fn row_weight(row: &Row) -> Result<u64, NoMemory>
 }
 
 fn change_weight(change: &Change) -> Result<u64, NoMemory>
-    ensures { IfOk result (λ weighed. weighed ≡ 64 + weight.put_weight change.now.row) }
+    ensures { IfOk result (λ weighed. weighed ≡ CHANGE_WEIGHT + weight.put_weight change.now.row) }
 {
     match &change.row {
         Some(row) => add(CHANGE_WEIGHT, row_weight(row)?),

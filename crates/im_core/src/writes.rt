@@ -4,13 +4,14 @@ ghost use Rattle.im_history.specs.Legal.{Exists, MayInsert, MayWrite, IsAllowed,
 ghost use Rattle.im_history.specs.Refusals.{insert_refusal, write_refusal};
 ghost use Rattle.im_history.specs.Tables.{tables, given};
 ghost use Rattle.im_core.specs.Answers.{IsRefusal, cursor_view};
-ghost use Rattle.im_core.specs.Kept.{Gives};
+ghost use Rattle.im_core.specs.inner.Kept.{Gives};
 ghost use Rattle.im_core.specs.Seen.{Adds};
 
 use crate::answers::Wrote;
-use crate::store::{Core, NUMBERS, owed};
+use crate::store::{Core, owed};
 use crate::weights::weight_of;
-use im_history::{Change, Changes, Entry, Refused, UnitLike, What, Why};
+use im_history::{Change, Changes, Entry, Refused, UnitLike, What, Who, Why};
+use im_values::limits::{MOST_ROWS, NUMBERS};
 use im_values::{NoMemory, Row};
 use std::alloc::Global;
 
@@ -32,17 +33,18 @@ impl<U: UnitLike> Core<U> {
         ensures refused { IfErr result (λ why. IsRefusal self.old.log (insert_refusal self.old.limits self.old.log who
             (put_from table (given self.old.log table) rows.items)) why) }
     {
+        let caller = Who::of(who);
         let first = self.given_of(table);
         let count = first + rows.len() as u64;
         let Ok(changes) = put_from(self.alloc, table, first, rows) else {
             return Err(self.refused(Why::NoMemory));
         };
-        match self.insert_refusal(who, changes.as_slice()) {
+        match self.insert_refusal(caller, changes.as_slice()) {
             Err(NoMemory) => return Err(self.refused(Why::NoMemory)),
             Ok(Some(why)) => return Err(self.refused(why)),
             Ok(None) => {}
         }
-        match self.record_write(who, table, count, changes) {
+        match self.record_write(caller, table, count, changes) {
             Ok(place) => Ok(Wrote { place, first }),
             Err(NoMemory) => Err(self.refused(Why::NoMemory)),
         }
@@ -62,14 +64,15 @@ impl<U: UnitLike> Core<U> {
         ensures refused { IfErr result (λ why. IsRefusal self.old.log (write_refusal self.old.limits self.old.log who
             (cursor_view self.old.log who cursor).scn changes.items) why) }
     {
-        let view = self.sessions.cursor(who, cursor).unwrap();
-        match self.write_refusal(who, view.scn, changes.as_slice()) {
+        let caller = Who::of(who);
+        let view = self.sessions.cursor(caller, cursor).unwrap();
+        match self.write_refusal(caller, view.scn, changes.as_slice()) {
             Err(NoMemory) => return Err(self.refused(Why::NoMemory)),
             Ok(Some(cause)) => return Err(self.refused(cause)),
             Ok(None) => {}
         }
         let count = self.given_of(view.table);
-        match self.record_write(who, view.table, count, changes) {
+        match self.record_write(caller, view.table, count, changes) {
             Ok(place) => Ok(place),
             Err(NoMemory) => Err(self.refused(Why::NoMemory)),
         }
@@ -79,7 +82,7 @@ impl<U: UnitLike> Core<U> {
     pub(crate) fn given_of(&self, table: u32) -> u64
         requires { Exists self.now.log table }
         ensures given { result ≡ given self.now.log table }
-        ensures few { result ≤ 8388608 }
+        ensures few { result ≤ MOST_ROWS }
     {
         self.given[table as usize - 1]
     }
@@ -87,12 +90,11 @@ impl<U: UnitLike> Core<U> {
     /// Records changes to one table, of which so many row numbers are given then.
     fn record_write(
         &mut self,
-        who: u32,
+        who: Who,
         table: u32,
         count: u64,
         changes: Vec<Change>,
     ) -> Result<u64, NoMemory>
-        requires session { who < NUMBERS }
         requires table { (1 ≤ table) × (table ≤ length (tables self.old.log)) }
         requires allowed { IsAllowed self.old.limits self.old.log who (what.Write changes.items) }
         requires gives { Gives self.old.log table changes.items count }
@@ -109,10 +111,10 @@ impl<U: UnitLike> Core<U> {
         let place = self.history.len();
         self.weight += weight;
         self.given[table as usize - 1] = count;
-        self.beginnings[who as usize] = beginning;
+        self.beginnings[who.index()] = beginning;
         self.sessions.write(who, place, changes);
         self.history.append(Entry {
-            who,
+            who: who.number(),
             what: What::Write { changes: kept },
         });
         Ok(place)

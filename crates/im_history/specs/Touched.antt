@@ -17,14 +17,10 @@ is_to table rid change = (change.table == table) && (change.rid == rid)
 abbrev pub touches : List Change → ℕ → ℕ → Bool
 touches changes table rid = list_any (is_to table rid) changes
 
--- whoever calls a store has a number below this
-abbrev pub most_numbers : ℕ
-most_numbers = NUMBERS
-
 -- another session that has a change to the row pending: it locks the row
 abbrev pub holder : History → ℕ → ℕ → ℕ → Option ℕ
 holder history who table rid =
-    find (λ other. not (other == who) && touches (pending history other) table rid) (range_with_len 0 most_numbers)
+    find (λ other. not (other == who) && touches (pending history other) table rid) (range_with_len 0 NUMBERS)
 
 -- the last commit that touched a row, after one more entry
 abbrev pub touched_after : ℕ → ℕ → History → ℕ → ℕ → What → ℕ

@@ -11,7 +11,8 @@ use Rattle.im_plan.specs.Plan.{Plan, End, Turn, made, counted}
 pub same_after : (old new : History) → After Nobody old new → new ≡ old
 same_after old new after = after.log ∙ (ap (λ (h : History). old ++ h) after.lawful.none ∙ append-nil old)
 
-pub play-goes : {R : Type 0} (who : ℕ) (old : History) (plan : Plan R) (result : R) (new : History) → Goes Nobody who old plan result new → play who old plan ≡ record { result = result; history = new }
+pub play-goes : {R : Type 0} (who : ℕ) (old : History) (plan : Plan R) (result : R) (new : History) → Goes Nobody who old plan result new
+    → play who old plan ≡ record { result = result; history = new }
 play-goes who old (End value) result new goes = rw (goes.value_is, same_after old new goes.after) refl
 play-goes {R} who old (Turn decides adds on) result new goes =
     subst (λ (at : History). play who (at ++ made who (adds at)) (on at) ≡ record { result = result; history = new }) (same_after old goes.0 goes.1)
@@ -23,7 +24,8 @@ cut-zero who amends k old (End value) = refl
 cut-zero who amends k old (Turn decides adds on) = refl
 
 -- a turn that added so many entries, with so many to be made after it
-cut-turn : {R : Type 0} (who : ℕ) (amends : ℕ → Plan R) (k left : ℕ) (old : History) (decides : Bool) (adds : History → Option What) (on : History → Plan R) → cut who amends k (counted (adds old) left) old (Turn decides adds on) ≡ cut who amends k left (old ++ made who (adds old)) (on old)
+cut-turn : {R : Type 0} (who : ℕ) (amends : ℕ → Plan R) (k left : ℕ) (old : History) (decides : Bool) (adds : History → Option What) (on : History → Plan R)
+    → cut who amends k (counted (adds old) left) old (Turn decides adds on) ≡ cut who amends k left (old ++ made who (adds old)) (on old)
 cut-turn {R} who amends k left old decides adds on = by_turn (counted (adds old) left) ∙ by_count (adds old) left
   where
     turn : Option What → ℕ → Played R
@@ -53,11 +55,14 @@ record IsCut {R : Type 0} (who : ℕ) (amends : ℕ → Plan R) (k : ℕ) (old :
   pub within : left ≤ undecided who old plan
   pub same : cut who amends (k + left) left old plan ≡ record { result = result; history = new }
 
-lacks-cut : {R : Type 0} (who : ℕ) (amends : ℕ → Plan R) (k : ℕ) (old : History) (plan : Plan R) (result : R) (new : History) → Lacks Nobody who amends k old plan result new → IsCut who amends k old plan result new
-lacks-cut who amends k old (End value) result new lacks = record { left = 0; within = omega arith; same = rw add-zero (play-goes who old (amends k) result new lacks) }
+lacks-cut : {R : Type 0} (who : ℕ) (amends : ℕ → Plan R) (k : ℕ) (old : History) (plan : Plan R) (result : R) (new : History)
+    → Lacks Nobody who amends k old plan result new → IsCut who amends k old plan result new
+lacks-cut who amends k old (End value) result new lacks =
+    record { left = 0; within = omega arith; same = rw add-zero (play-goes who old (amends k) result new lacks) }
 lacks-cut {R} who amends k old (Turn decides adds on) result new lacks = elim lacks [
   | inl amended ↦ record { left = 0; within = omega arith; same = rw add-zero (play-goes who old (amends k) result new amended) }
-  | inr later ↦ onward later.0 (same_after old later.0 later.1) later.2 (lacks-cut who amends (counted (adds later.0) k) (later.0 ++ made who (adds later.0)) (on later.0) result new later.3)
+  | inr later ↦ onward later.0 (same_after old later.0 later.1) later.2
+      (lacks-cut who amends (counted (adds later.0) k) (later.0 ++ made who (adds later.0)) (on later.0) result new later.3)
 ]
   where
     here : History → Type 0
@@ -76,7 +81,8 @@ lacks-cut {R} who amends k old (Turn decides adds on) result new lacks = elim la
     onward at e undone cut_there = gone (subst (λ (h : History). (decides && is_some (adds h)) ≡ false) e undone) (subst here e cut_there)
 
 -- a line that is played with nobody between is the machine's
-pub line_alone : {R : Type 0} (who : ℕ) (amends : ℕ → Plan R) (old : History) (plan : Plan R) (result : R) (new : History) → Line Nobody who amends old plan result new → IsMachine who amends old plan result new
+pub line_alone : {R : Type 0} (who : ℕ) (amends : ℕ → Plan R) (old : History) (plan : Plan R) (result : R) (new : History)
+    → Line Nobody who amends old plan result new → IsMachine who amends old plan result new
 line_alone who amends old plan result new line = elim line.whole.played [
   | inl goes ↦ record { lacked = None; lawful = refl; same = play-goes who old plan result new goes }
   | inr lacks ↦ lacked_so (lacks-cut who amends 0 old plan result new lacks)

@@ -19,7 +19,7 @@ abbrev pub still : Option What → ℕ → ℕ
 still None left = suc left
 still (Some what) left = left
 
--- the line up to the moment where `left` more of its entries are made: there memory lacks, after k entries in all
+-- the line up to the moment where `left` more of its entries are made: there memory runs out, after k entries in all
 abbrev pub cut : {R : Type 0} → ℕ → (ℕ → Plan R) → ℕ → ℕ → History → Plan R → Played R
 cut who amends k left old (End value) = play who old (amends k)
 cut who amends k zero old (Turn decides adds on) = play who old (amends k)
@@ -34,17 +34,17 @@ undecided who old (Turn decides adds on) =
     then 0
     else counted (adds old) (undecided who (old ++ made who (adds old)) (on old))
 
--- the line as it is played where memory does not lack, or lacks after so many entries
+-- the line as it is played where memory does not run out, or runs out after so many entries
 abbrev pub play_or_cut : {R : Type 0} → ℕ → (ℕ → Plan R) → Option ℕ → History → Plan R → Played R
 play_or_cut who amends None old plan = play who old plan
 play_or_cut who amends (Some k) old plan = cut who amends k k old plan
 
--- memory may lack so: not at all, or before the deciding entry is made
+-- memory may run out so: not at all, or before the deciding entry is made
 abbrev pub may_lack : {R : Type 0} → ℕ → History → Plan R → Option ℕ → Bool
 may_lack who old plan None = true
 may_lack who old plan (Some k) = nat_le k (undecided who old plan)
 
--- a line that somebody played alone is the machine's, memory having lacked so or not at all
+-- a line that somebody played alone is the machine's, memory having run out so or not at all
 pub record IsMachine {R : Type 0} (who : ℕ) (amends : ℕ → Plan R) (old : History) (plan : Plan R) (result : R) (new : History) : Type 0 where
   pub lacked : Option ℕ
   pub lawful : may_lack who old plan lacked ≡ true

@@ -24,8 +24,8 @@ Goes others who old (End value) result new = Ends others old value result new
 Goes others who old (Turn decides adds on) result new =
     (at : History) × After others old at × Goes others who (at ++ made who (adds at)) (on at) result new
 
--- the line may lack memory, k entries of it having been made already: it amends what it did and ends. Memory does not lack
--- any more once the deciding entry is made
+-- the line may be out of memory, k entries of it having been made already: it amends what it did and ends. Memory does not
+-- run out any more once the deciding entry is made
 abbrev pub Lacks : {R : Type 0} → (History → Type 0) → ℕ → (ℕ → Plan R) → ℕ → History → Plan R → R → History → Type 0
 Lacks others who amends k old (End value) result new = Goes others who old (amends k) result new
 Lacks others who amends k old (Turn decides adds on) result new =
@@ -33,10 +33,12 @@ Lacks others who amends k old (Turn decides adds on) result new =
     ⊎ ((at : History) × After others old at × ((decides && is_some (adds at)) ≡ false)
     × Lacks others who amends (counted (adds at) k) (at ++ made who (adds at)) (on at) result new)
 
--- what is left of a line, k entries of it having been made already: it goes by the plan, or lacks memory on the way
-pub record Rest {R : Type 0} (others : History → Type 0) (who : ℕ) (amends : ℕ → Plan R) (k : ℕ) (old : History) (plan : Plan R) (result : R) (new : History) : Type 0 where
+-- what is left of a line, k entries of it having been made already: it goes by the plan, or runs out of memory on the way
+pub record Rest {R : Type 0} (others : History → Type 0) (who : ℕ) (amends : ℕ → Plan R) (k : ℕ) (old : History) (plan : Plan R) (result : R)
+    (new : History) : Type 0 where
   pub played : Goes others who old plan result new ⊎ Lacks others who amends k old plan result new
 
 -- a line of a script, played
-pub record Line {R : Type 0} (others : History → Type 0) (who : ℕ) (amends : ℕ → Plan R) (old : History) (plan : Plan R) (result : R) (new : History) : Type 0 where
+pub record Line {R : Type 0} (others : History → Type 0) (who : ℕ) (amends : ℕ → Plan R) (old : History) (plan : Plan R) (result : R)
+    (new : History) : Type 0 where
   pub whole : Rest others who amends 0 old plan result new

@@ -5,8 +5,8 @@ use Rattle.im_history.specs.declared.entry.What.{What}
 use Rattle.im_history.specs.History.{History}
 
 -- what a line does: turns, then its result. A turn reads the history at its own place, adds at most one entry there, and
--- says how the line goes on. Where a turn decides and adds its entry, want of memory
--- can no longer undo the line.
+-- says how the line goes on. Where a turn decides and adds its entry, the line can no longer be undone for being out of
+-- memory.
 pub data Plan (R : Type 0) : Type 0 where
   End : R → Plan R
   Turn : (decides : Bool) → (adds : History → Option What) → (on : History → Plan R) → Plan R

@@ -18,7 +18,9 @@ impl<U: UnitLike> Reach<U> for Sole<U> {
     ghost known = { λ s. record { side = sole; limits = s.core.limits; log = s.core.log } };
 
     fn look<R: Wait>(&mut self, _rt: &R, who: u32) -> Result<Look, Refused> {
-        self.core.look(who)
+        let answer = self.core.look(who);
+        self.core.known();
+        answer
     }
 
     fn create<R: Wait>(
@@ -29,19 +31,27 @@ impl<U: UnitLike> Reach<U> for Sole<U> {
         schema: Schema,
         shape: Shape,
     ) -> Result<Made, Refused> {
-        self.core.create(who, name, schema, shape)
+        let answer = self.core.create(who, name, schema, shape);
+        self.core.known();
+        answer
     }
 
     fn begin<R: Wait>(&mut self, _rt: &R, who: u32, mode: Mode) -> Result<Begun, Refused> {
-        self.core.begin(who, mode)
+        let answer = self.core.begin(who, mode);
+        self.core.known();
+        answer
     }
 
     fn commit<R: Wait>(&mut self, _rt: &R, who: u32) -> Result<Committed, Refused> {
-        self.core.commit(who)
+        let answer = self.core.commit(who);
+        self.core.known();
+        answer
     }
 
     fn rollback<R: Wait>(&mut self, _rt: &R, who: u32) -> u64 {
-        self.core.rollback(who)
+        let answer = self.core.rollback(who);
+        self.core.known();
+        answer
     }
 
     fn open_cursor<R: Wait>(
@@ -51,7 +61,9 @@ impl<U: UnitLike> Reach<U> for Sole<U> {
         cursor: u32,
         table: u32,
     ) -> Result<View, Refused> {
-        self.core.open_cursor(who, cursor, table)
+        let answer = self.core.open_cursor(who, cursor, table);
+        self.core.known();
+        answer
     }
 
     fn pin<R: Wait, L: Ledger>(
@@ -62,11 +74,15 @@ impl<U: UnitLike> Reach<U> for Sole<U> {
         extent: u64,
         steps: &mut Steps<L>,
     ) -> Result<Pin<U>, Refused> {
-        self.core.pin(who, cursor, extent, steps)
+        let answer = self.core.pin(who, cursor, extent, steps);
+        self.core.known();
+        answer
     }
 
     fn shut<R: Wait>(&mut self, _rt: &R, who: u32, cursor: u32) -> u64 {
-        self.core.shut(who, cursor)
+        let answer = self.core.shut(who, cursor);
+        self.core.known();
+        answer
     }
 
     fn insert<R: Wait>(
@@ -76,7 +92,9 @@ impl<U: UnitLike> Reach<U> for Sole<U> {
         table: u32,
         rows: Vec<Row>,
     ) -> Result<Wrote, Refused> {
-        self.core.insert(who, table, rows)
+        let answer = self.core.insert(who, table, rows);
+        self.core.known();
+        answer
     }
 
     fn write<R: Wait>(
@@ -86,7 +104,9 @@ impl<U: UnitLike> Reach<U> for Sole<U> {
         cursor: u32,
         changes: Vec<Change>,
     ) -> Result<u64, Refused> {
-        self.core.write(who, cursor, changes)
+        let answer = self.core.write(who, cursor, changes);
+        self.core.known();
+        answer
     }
 }
 

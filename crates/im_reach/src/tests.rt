@@ -2,8 +2,9 @@ ghost use Rattle.std.specs.Prelude.{◌≡◌, ◌<◌, true};
 ghost use Rattle.im_reach.specs.Sides.{speaks};
 
 use crate::{Reach, Sole};
-use im_core::{Core, NUMBERS};
+use im_core::Core;
 use im_history::{Limits, Mode, Refused, Shape, UnitLike, Why};
+use im_values::limits::NUMBERS;
 use im_values::{Column, Kind, Name, NoMemory, Schema};
 use std::alloc::Global;
 use std::sync::Wait;

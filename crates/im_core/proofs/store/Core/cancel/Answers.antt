@@ -9,4 +9,5 @@ invariant_of-self g c =
     let own = subst (λ (s : Seen). IsOwn s.log c.args.who c.args.task) (sym c.self.view_is) c.requires.own in
     let kept = c.self.invariant.units.held c.args.task.id ∙ own.is in
     let numbered = c.self.invariant.units.sound.numbered c.args.task.id own.held kept in
-    Holds-cancel _ _ c.self.inside.history _ _ _ _ _ _ _ _ c.args.who c.args.task.id own.held _ c.self.invariant own.is own.mine numbered c.append.ensures.added (c.cancel.ensures own.held kept)
+    Holds-cancel _ _ c.self.inside.history _ _ c.args.who c.args.task.id own.held _ c.self.invariant c.requires.session own.is own.mine numbered
+    c.append.ensures.added (c.cancel.ensures own.held kept)

@@ -7,13 +7,13 @@ use Rattle.im_core.proofs.store.Core.fetch.Goals as goal
 pub unwrap-view-requires : goal.unwrap-view-requires
 unwrap-view-requires g c =
     let within = subst (λ (s : Seen). c.args.extent < (cursor_view s.log c.args.who c.args.cursor).extents) (sym c.self.view_is) c.requires.within in
-    let finds = store_view _ _ c.self.inside.history _ _ _ _ _ _ _ c.args.who c.args.cursor c.args.extent c.self.invariant within in
+    let finds = store_view _ _ c.self.inside.history _ c.args.who c.args.cursor c.args.extent c.self.invariant within in
     rw (c.cursor.ensures ∙ finds.is) refl
 
 pub overflow_mul-first : goal.overflow_mul-first
 overflow_mul-first g c =
     let within = subst (λ (s : Seen). c.args.extent < (cursor_view s.log c.args.who c.args.cursor).extents) (sym c.self.view_is) c.requires.within in
-    let finds = store_view _ _ c.self.inside.history _ _ _ _ _ _ _ c.args.who c.args.cursor c.args.extent c.self.invariant within in
+    let finds = store_view _ _ c.self.inside.history _ c.args.who c.args.cursor c.args.extent c.self.invariant within in
     let has = view_found _ c.args.extent _ c.unwrap-view.result finds (sym c.cursor.ensures ∙ c.unwrap-view.ensures) in
     let first = has.first in
     let few = has.few in
@@ -22,7 +22,7 @@ overflow_mul-first g c =
 pub overflow_sub-view : goal.overflow_sub-view
 overflow_sub-view g c =
     let within = subst (λ (s : Seen). c.args.extent < (cursor_view s.log c.args.who c.args.cursor).extents) (sym c.self.view_is) c.requires.within in
-    let finds = store_view _ _ c.self.inside.history _ _ _ _ _ _ _ c.args.who c.args.cursor c.args.extent c.self.invariant within in
+    let finds = store_view _ _ c.self.inside.history _ c.args.who c.args.cursor c.args.extent c.self.invariant within in
     let has = view_found _ c.args.extent _ c.unwrap-view.result finds (sym c.cursor.ensures ∙ c.unwrap-view.ensures) in
     let first = has.first in
     omega (arith, first)
@@ -30,7 +30,7 @@ overflow_sub-view g c =
 pub extent_rows-requires : goal.extent_rows-requires
 extent_rows-requires g c =
     let within = subst (λ (s : Seen). c.args.extent < (cursor_view s.log c.args.who c.args.cursor).extents) (sym c.self.view_is) c.requires.within in
-    let finds = store_view _ _ c.self.inside.history _ _ _ _ _ _ _ c.args.who c.args.cursor c.args.extent c.self.invariant within in
+    let finds = store_view _ _ c.self.inside.history _ c.args.who c.args.cursor c.args.extent c.self.invariant within in
     let has = view_found _ c.args.extent _ c.unwrap-view.result finds (sym c.cursor.ensures ∙ c.unwrap-view.ensures) in
     let first = has.first in
     let few = has.few in
@@ -40,16 +40,18 @@ extent_rows-requires g c =
 pub returns-in_err-rows-clause-steps : goal.returns-in_err-rows-clause-steps
 returns-in_err-rows-clause-steps g c =
     let within = subst (λ (s : Seen). c.args.extent < (cursor_view s.log c.args.who c.args.cursor).extents) (sym c.self.view_is) c.requires.within in
-    let finds = store_view _ _ c.self.inside.history _ _ _ _ _ _ _ c.args.who c.args.cursor c.args.extent c.self.invariant within in
+    let finds = store_view _ _ c.self.inside.history _ c.args.who c.args.cursor c.args.extent c.self.invariant within in
     let has = view_found _ c.args.extent _ c.unwrap-view.result finds (sym c.cursor.ensures ∙ c.unwrap-view.ensures) in
     let few = c.extent_rows.ensures.few in
-    let same = rows_in_is _ c.args.extent _ c.unwrap-view.result has c.min-count.ensures ∙ ap (λ (s : Seen). rows_in (cursor_view s.log c.args.who c.args.cursor) c.args.extent) c.self.view_is in
+    let same =
+    rows_in_is _ c.args.extent _ c.unwrap-view.result has c.min-count.ensures
+    ∙ ap (λ (s : Seen). rows_in (cursor_view s.log c.args.who c.args.cursor) c.args.extent) c.self.view_is in
     omega (arith, few, same)
 
 pub returns-clause-fetched : goal.returns-clause-fetched
 returns-clause-fetched g c =
     let within = subst (λ (s : Seen). c.args.extent < (cursor_view s.log c.args.who c.args.cursor).extents) (sym c.self.view_is) c.requires.within in
-    let finds = store_view _ _ c.self.inside.history _ _ _ _ _ _ _ c.args.who c.args.cursor c.args.extent c.self.invariant within in
+    let finds = store_view _ _ c.self.inside.history _ c.args.who c.args.cursor c.args.extent c.self.invariant within in
     let has = view_found _ c.args.extent _ c.unwrap-view.result finds (sym c.cursor.ensures ∙ c.unwrap-view.ensures) in
     c.of.ensures
     ∙ (c.in_ok-rows.ensures.rows
@@ -59,8 +61,10 @@ returns-clause-fetched g c =
 pub returns-clause-steps : goal.returns-clause-steps
 returns-clause-steps g c =
     let within = subst (λ (s : Seen). c.args.extent < (cursor_view s.log c.args.who c.args.cursor).extents) (sym c.self.view_is) c.requires.within in
-    let finds = store_view _ _ c.self.inside.history _ _ _ _ _ _ _ c.args.who c.args.cursor c.args.extent c.self.invariant within in
+    let finds = store_view _ _ c.self.inside.history _ c.args.who c.args.cursor c.args.extent c.self.invariant within in
     let has = view_found _ c.args.extent _ c.unwrap-view.result finds (sym c.cursor.ensures ∙ c.unwrap-view.ensures) in
     let few = c.extent_rows.ensures.few in
-    let same = rows_in_is _ c.args.extent _ c.unwrap-view.result has c.min-count.ensures ∙ ap (λ (s : Seen). rows_in (cursor_view s.log c.args.who c.args.cursor) c.args.extent) c.self.view_is in
+    let same =
+    rows_in_is _ c.args.extent _ c.unwrap-view.result has c.min-count.ensures
+    ∙ ap (λ (s : Seen). rows_in (cursor_view s.log c.args.who c.args.cursor) c.args.extent) c.self.view_is in
     omega (arith, few, same)

@@ -9,7 +9,7 @@ pub overflow_mul-first : goal.overflow_mul-first
 overflow_mul-first g c =
     let held = subst (λ (s : Seen). IsHeld s.log c.args.task.now) (sym c.self.view_is) c.requires.held in
     let found = sym c.build.ensures ∙ ap option_copied c.unwrap.ensures in
-    let has = has_task _ _ c.self.inside.history _ _ _ _ _ _ _ c.args.task.now c.unwrap.result.now c.self.invariant held found in
+    let has = has_task _ _ c.self.inside.history _ c.args.task.now c.unwrap.result.now c.self.invariant held found in
     let first = has.first in
     let few = has.few in
     omega (arith, first, few)
@@ -18,7 +18,7 @@ pub overflow_sub-given : goal.overflow_sub-given
 overflow_sub-given g c =
     let held = subst (λ (s : Seen). IsHeld s.log c.args.task.now) (sym c.self.view_is) c.requires.held in
     let found = sym c.build.ensures ∙ ap option_copied c.unwrap.ensures in
-    let has = has_task _ _ c.self.inside.history _ _ _ _ _ _ _ c.args.task.now c.unwrap.result.now c.self.invariant held found in
+    let has = has_task _ _ c.self.inside.history _ c.args.task.now c.unwrap.result.now c.self.invariant held found in
     let first = has.first in
     omega (arith, first)
 
@@ -26,7 +26,7 @@ pub extent_rows-requires : goal.extent_rows-requires
 extent_rows-requires g c =
     let held = subst (λ (s : Seen). IsHeld s.log c.args.task.now) (sym c.self.view_is) c.requires.held in
     let found = sym c.build.ensures ∙ ap option_copied c.unwrap.ensures in
-    let has = has_task _ _ c.self.inside.history _ _ _ _ _ _ _ c.args.task.now c.unwrap.result.now c.self.invariant held found in
+    let has = has_task _ _ c.self.inside.history _ c.args.task.now c.unwrap.result.now c.self.invariant held found in
     let first = has.first in
     let few = has.few in
     let count = c.min-count.ensures in
@@ -36,7 +36,7 @@ pub returns-clause-fetched : goal.returns-clause-fetched
 returns-clause-fetched g c =
     let held = subst (λ (s : Seen). IsHeld s.log c.args.task.now) (sym c.self.view_is) c.requires.held in
     let found = sym c.build.ensures ∙ ap option_copied c.unwrap.ensures in
-    let has = has_task _ _ c.self.inside.history _ _ _ _ _ _ _ c.args.task.now c.unwrap.result.now c.self.invariant held found in
+    let has = has_task _ _ c.self.inside.history _ c.args.task.now c.unwrap.result.now c.self.invariant held found in
     c.of.ensures
     ∙ (c.in_ok-rows.ensures.rows
     ∙ (task_fetched_is c.self.inside.history.entries _ c.args.task.now _ _ c.self.invariant.rows has c.min-count.ensures
@@ -46,7 +46,9 @@ pub returns-clause-steps : goal.returns-clause-steps
 returns-clause-steps g c =
     let held = subst (λ (s : Seen). IsHeld s.log c.args.task.now) (sym c.self.view_is) c.requires.held in
     let found = sym c.build.ensures ∙ ap option_copied c.unwrap.ensures in
-    let has = has_task _ _ c.self.inside.history _ _ _ _ _ _ _ c.args.task.now c.unwrap.result.now c.self.invariant held found in
+    let has = has_task _ _ c.self.inside.history _ c.args.task.now c.unwrap.result.now c.self.invariant held found in
     let few = c.extent_rows.ensures.few in
-    let same = task_rows_are c.self.inside.history.entries c.args.task.now _ _ has c.min-count.ensures ∙ ap (λ (s : Seen). task_rows s.log c.args.task.now) c.self.view_is in
+    let same =
+    task_rows_are c.self.inside.history.entries c.args.task.now _ _ has c.min-count.ensures
+    ∙ ap (λ (s : Seen). task_rows s.log c.args.task.now) c.self.view_is in
     omega (arith, few, same)

@@ -10,12 +10,14 @@ use Rattle.im_core.proofs.store.Core.open_refusal.Goals.{else-cursor-ne0-via-the
 
 pub returns-then-is_some : goal.returns-then-is_some
 returns-then-is_some g c =
-    let opened : is_cursor_open c.self.inside.history.entries c.args.who c.args.cursor ≡ true = is_cursor_open-by _ _ c.args.who c.args.cursor c.self.invariant.sessions ∙ (ap is_some (sym c.cursor.ensures) ∙ sym c.if-is_some.ensures) in
+    let opened : is_cursor_open c.self.inside.history.entries c.args.who c.args.cursor ≡ true =
+    is_cursor_open-by _ _ c.args.who c.args.cursor c.self.invariant.sessions ∙ (ap is_some (sym c.cursor.ensures) ∙ sym c.if-is_some.ensures) in
     open_refused _ _ _ opened ∙ ap (λ (s : Seen). open_refusal s.log c.args.who c.args.cursor) c.self.view_is
 
 pub returns-then-cursors_open-ge-MOST_CURSORS : goal.returns-then-cursors_open-ge-MOST_CURSORS
 returns-then-cursors_open-ge-MOST_CURSORS g c =
-    let shut : is_cursor_open c.self.inside.history.entries c.args.who c.args.cursor ≡ false = is_cursor_open-by _ _ c.args.who c.args.cursor c.self.invariant.sessions ∙ (ap is_some (sym c.cursor.ensures) ∙ sym c.if-is_some.ensures) in
+    let shut : is_cursor_open c.self.inside.history.entries c.args.who c.args.cursor ≡ false =
+    is_cursor_open-by _ _ c.args.who c.args.cursor c.self.invariant.sessions ∙ (ap is_some (sym c.cursor.ensures) ∙ sym c.if-is_some.ensures) in
     let count = c.cursors_open.ensures ∙ cursors_open-by _ _ c.args.who c.self.invariant.sessions in
     let many = c.if-cursors_open-ge-MOST_CURSORS.true in
     let no = c.if-cursor-ne0.true in
@@ -24,7 +26,8 @@ returns-then-cursors_open-ge-MOST_CURSORS g c =
 
 pub returns-else-cursor-ne0 : goal.returns-else-cursor-ne0
 returns-else-cursor-ne0 g c =
-    let shut : is_cursor_open c.self.inside.history.entries c.args.who c.args.cursor ≡ false = is_cursor_open-by _ _ c.args.who c.args.cursor c.self.invariant.sessions ∙ (ap is_some (sym c.cursor.ensures) ∙ sym c.if-is_some.ensures) in
+    let shut : is_cursor_open c.self.inside.history.entries c.args.who c.args.cursor ≡ false =
+    is_cursor_open-by _ _ c.args.who c.args.cursor c.self.invariant.sessions ∙ (ap is_some (sym c.cursor.ensures) ∙ sym c.if-is_some.ensures) in
     (elim c.else-cursor-ne0.branch [
       | else-cursor-ne0-via-then-cursor-ne0+else-cursors_open-ge-MOST_CURSORS w ↦
           let count = w.cursors_open.ensures ∙ cursors_open-by _ _ c.args.who c.self.invariant.sessions in

@@ -15,4 +15,5 @@ append-requires g c =
 pub invariant_of-self : goal.invariant_of-self
 invariant_of-self g c =
     let opened = subst (λ (s : Seen). is_cursor_open s.log c.args.who c.args.cursor ≡ true) (sym c.self.view_is) c.requires.cursor in
-    Holds-shut _ _ c.self.inside.history _ _ _ _ _ _ _ _ c.args.who c.args.cursor _ c.self.invariant c.requires.session opened c.append.ensures.added c.shut.ensures
+    Holds-shut _ _ c.self.inside.history _ _ c.args.who c.args.cursor _ c.self.invariant c.requires.session opened c.append.ensures.added
+    (rw c.of-caller.ensures at c.shut.ensures)

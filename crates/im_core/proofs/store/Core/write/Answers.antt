@@ -10,46 +10,85 @@ use Rattle.im_core.proofs.store.Core.write.Goals as goal
 pub unwrap-view-requires : goal.unwrap-view-requires
 unwrap-view-requires g c =
     let may = subst (λ (s : Seen). MayWrite s.log c.args.who c.args.cursor c.args.changes.items) (sym c.self.view_is) c.requires.may in
-    rw (c.cursor.ensures ∙ kept_is c.self.inside.history.entries _ c.args.who c.args.cursor may.opened c.self.invariant.sessions may.is) refl
+    rw
+    ((rw c.of-caller.ensures at c.cursor.ensures)
+    ∙ kept_is c.self.inside.history.entries _ c.args.who c.args.cursor may.opened c.self.invariant.sessions may.is)
+    refl
 
 pub returns-in-Ok-Some-clause-refused : goal.returns-in-Ok-Some-clause-refused
 returns-in-Ok-Some-clause-refused g c =
     let may = subst (λ (s : Seen). MayWrite s.log c.args.who c.args.cursor c.args.changes.items) (sym c.self.view_is) c.requires.may in
-    let facts = subst (λ (s : Seen). Rewrites s.limits s.log c.args.who c.args.cursor c.args.changes.items c.unwrap-view.result) c.self.view_is (rewrites _ _ c.self.inside.history _ _ _ _ _ _ _ c.args.who c.args.cursor c.args.changes.items c.unwrap-view.result c.self.invariant may (sym c.cursor.ensures ∙ c.unwrap-view.ensures)) in
-    let cause = c.in-Ok-Some.ensures ∙ ap (λ (cs : List Change). write_refusal c.args.self.now.limits c.args.self.now.log c.args.who c.unwrap-view.result.scn cs) c.as_slice.ensures.value in
+    let facts =
+    subst (λ (s : Seen). Rewrites s.limits s.log c.args.who c.args.cursor c.args.changes.items c.unwrap-view.result) c.self.view_is
+    (rewrites _ _ c.self.inside.history _ c.args.who c.args.cursor c.args.changes.items c.unwrap-view.result c.self.invariant may
+    (rw c.of-caller.ensures at (sym c.cursor.ensures ∙ c.unwrap-view.ensures)))
+    in
+    let cause =
+    (rw c.of-caller.ensures at c.in-Ok-Some.ensures)
+    ∙ ap (λ (cs : List Change). write_refusal c.args.self.now.limits c.args.self.now.log c.args.who c.unwrap-view.result.scn cs) c.as_slice.ensures.value
+    in
     record {
       place = c.refused-in-Ok-Some.ensures.place;
-      why = inr (ap (λ n. write_refusal c.args.self.now.limits c.args.self.now.log c.args.who n c.args.changes.items) (sym facts.scn) ∙ (sym cause ∙ (c.in-Ok-Some.field-0-is ∙ ap (λ (w : Why). Some w) (sym c.refused-in-Ok-Some.ensures.why))));
+      why =
+          inr
+          (ap (λ n. write_refusal c.args.self.now.limits c.args.self.now.log c.args.who n c.args.changes.items) (sym facts.scn)
+          ∙ (sym cause ∙ (c.in-Ok-Some.field-0-is ∙ ap (λ (w : Why). Some w) (sym c.refused-in-Ok-Some.ensures.why))));
     }
 
 pub given_of-count-requires : goal.given_of-count-requires
 given_of-count-requires g c =
     let may = subst (λ (s : Seen). MayWrite s.log c.args.who c.args.cursor c.args.changes.items) (sym c.self.view_is) c.requires.may in
-    let facts = subst (λ (s : Seen). Rewrites s.limits s.log c.args.who c.args.cursor c.args.changes.items c.unwrap-view.result) c.self.view_is (rewrites _ _ c.self.inside.history _ _ _ _ _ _ _ c.args.who c.args.cursor c.args.changes.items c.unwrap-view.result c.self.invariant may (sym c.cursor.ensures ∙ c.unwrap-view.ensures)) in
+    let facts =
+    subst (λ (s : Seen). Rewrites s.limits s.log c.args.who c.args.cursor c.args.changes.items c.unwrap-view.result) c.self.view_is
+    (rewrites _ _ c.self.inside.history _ c.args.who c.args.cursor c.args.changes.items c.unwrap-view.result c.self.invariant may
+    (rw c.of-caller.ensures at (sym c.cursor.ensures ∙ c.unwrap-view.ensures)))
+    in
     facts.exists
 
 pub record_write-requires-clause-table : goal.record_write-requires-clause-table
 record_write-requires-clause-table g c =
     let may = subst (λ (s : Seen). MayWrite s.log c.args.who c.args.cursor c.args.changes.items) (sym c.self.view_is) c.requires.may in
-    let facts = subst (λ (s : Seen). Rewrites s.limits s.log c.args.who c.args.cursor c.args.changes.items c.unwrap-view.result) c.self.view_is (rewrites _ _ c.self.inside.history _ _ _ _ _ _ _ c.args.who c.args.cursor c.args.changes.items c.unwrap-view.result c.self.invariant may (sym c.cursor.ensures ∙ c.unwrap-view.ensures)) in
+    let facts =
+    subst (λ (s : Seen). Rewrites s.limits s.log c.args.who c.args.cursor c.args.changes.items c.unwrap-view.result) c.self.view_is
+    (rewrites _ _ c.self.inside.history _ c.args.who c.args.cursor c.args.changes.items c.unwrap-view.result c.self.invariant may
+    (rw c.of-caller.ensures at (sym c.cursor.ensures ∙ c.unwrap-view.ensures)))
+    in
     facts.range
 
 pub record_write-requires-clause-allowed : goal.record_write-requires-clause-allowed
 record_write-requires-clause-allowed g c =
     let may = subst (λ (s : Seen). MayWrite s.log c.args.who c.args.cursor c.args.changes.items) (sym c.self.view_is) c.requires.may in
-    let facts = subst (λ (s : Seen). Rewrites s.limits s.log c.args.who c.args.cursor c.args.changes.items c.unwrap-view.result) c.self.view_is (rewrites _ _ c.self.inside.history _ _ _ _ _ _ _ c.args.who c.args.cursor c.args.changes.items c.unwrap-view.result c.self.invariant may (sym c.cursor.ensures ∙ c.unwrap-view.ensures)) in
-    let cause = c.in-Ok-None.ensures ∙ ap (λ (cs : List Change). write_refusal c.args.self.now.limits c.args.self.now.log c.args.who c.unwrap-view.result.scn cs) c.as_slice.ensures.value in
-    facts.allowed (sym cause ∙ c.in-Ok-None.field-0-is)
+    let facts =
+    subst (λ (s : Seen). Rewrites s.limits s.log c.args.who c.args.cursor c.args.changes.items c.unwrap-view.result) c.self.view_is
+    (rewrites _ _ c.self.inside.history _ c.args.who c.args.cursor c.args.changes.items c.unwrap-view.result c.self.invariant may
+    (rw c.of-caller.ensures at (sym c.cursor.ensures ∙ c.unwrap-view.ensures)))
+    in
+    let cause =
+    (rw c.of-caller.ensures at c.in-Ok-None.ensures)
+    ∙ ap (λ (cs : List Change). write_refusal c.args.self.now.limits c.args.self.now.log c.args.who c.unwrap-view.result.scn cs) c.as_slice.ensures.value
+    in
+    rw c.of-caller.ensures (facts.allowed (sym cause ∙ c.in-Ok-None.field-0-is))
 
 pub record_write-requires-clause-gives : goal.record_write-requires-clause-gives
 record_write-requires-clause-gives g c =
     let may = subst (λ (s : Seen). MayWrite s.log c.args.who c.args.cursor c.args.changes.items) (sym c.self.view_is) c.requires.may in
-    let facts = subst (λ (s : Seen). Rewrites s.limits s.log c.args.who c.args.cursor c.args.changes.items c.unwrap-view.result) c.self.view_is (rewrites _ _ c.self.inside.history _ _ _ _ _ _ _ c.args.who c.args.cursor c.args.changes.items c.unwrap-view.result c.self.invariant may (sym c.cursor.ensures ∙ c.unwrap-view.ensures)) in
+    let facts =
+    subst (λ (s : Seen). Rewrites s.limits s.log c.args.who c.args.cursor c.args.changes.items c.unwrap-view.result) c.self.view_is
+    (rewrites _ _ c.self.inside.history _ c.args.who c.args.cursor c.args.changes.items c.unwrap-view.result c.self.invariant may
+    (rw c.of-caller.ensures at (sym c.cursor.ensures ∙ c.unwrap-view.ensures)))
+    in
     rw c.given_of-count.ensures.given facts.gives
 
 pub returns-in-Ok-clause-allowed : goal.returns-in-Ok-clause-allowed
 returns-in-Ok-clause-allowed g c =
     let may = subst (λ (s : Seen). MayWrite s.log c.args.who c.args.cursor c.args.changes.items) (sym c.self.view_is) c.requires.may in
-    let facts = subst (λ (s : Seen). Rewrites s.limits s.log c.args.who c.args.cursor c.args.changes.items c.unwrap-view.result) c.self.view_is (rewrites _ _ c.self.inside.history _ _ _ _ _ _ _ c.args.who c.args.cursor c.args.changes.items c.unwrap-view.result c.self.invariant may (sym c.cursor.ensures ∙ c.unwrap-view.ensures)) in
-    let cause = c.in-Ok-None.ensures ∙ ap (λ (cs : List Change). write_refusal c.args.self.now.limits c.args.self.now.log c.args.who c.unwrap-view.result.scn cs) c.as_slice.ensures.value in
+    let facts =
+    subst (λ (s : Seen). Rewrites s.limits s.log c.args.who c.args.cursor c.args.changes.items c.unwrap-view.result) c.self.view_is
+    (rewrites _ _ c.self.inside.history _ c.args.who c.args.cursor c.args.changes.items c.unwrap-view.result c.self.invariant may
+    (rw c.of-caller.ensures at (sym c.cursor.ensures ∙ c.unwrap-view.ensures)))
+    in
+    let cause =
+    (rw c.of-caller.ensures at c.in-Ok-None.ensures)
+    ∙ ap (λ (cs : List Change). write_refusal c.args.self.now.limits c.args.self.now.log c.args.who c.unwrap-view.result.scn cs) c.as_slice.ensures.value
+    in
     ap (λ n. write_refusal c.args.self.now.limits c.args.self.now.log c.args.who n c.args.changes.items) (sym facts.scn) ∙ (sym cause ∙ c.in-Ok-None.field-0-is)

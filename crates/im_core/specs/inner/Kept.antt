@@ -1,5 +1,6 @@
 -- What a store keeps of its history's tables, beginnings and views.
 use Rattle.std.specs.Prelude.{◌≡◌, ℕ, ◌+◌, ◌*◌, ◌≤◌, List, length, slice_index_or, All, Option, Some, None}
+use Rattle.im_values.specs.declared.limits.TheConstants.{CHANGE_WEIGHT, MOST_TABLES, NUMBERS}
 use Rattle.im_history.specs.declared.change.Change.{Change}
 use Rattle.im_history.specs.declared.look.TableInfo.{TableInfo}
 use Rattle.im_history.specs.declared.view.View.{View}
@@ -12,19 +13,19 @@ use Rattle.im_history.specs.Tables.{tables, given, given_by}
 use Rattle.im_history.specs.Transactions.{begun}
 use Rattle.im_history.specs.Weights.{weight, changes_weight}
 
--- the tables are those of the history, with the row numbers given of each, and what was written weighs so much. A row number
--- weighs 64 at least, so they are few
+-- the tables are those of the history, with the row numbers given of each, and what was written weighs so much. Each
+-- row number was given by a change, which weighs something, so they are few
 pub record Counts (history : History) (catalog : List TableInfo) (counts : List ℕ) (weighed : ℕ) : Type 0 where
   pub tables : catalog ≡ tables history
-  pub few : length catalog ≤ 64
+  pub few : length catalog ≤ MOST_TABLES
   pub long : length counts ≡ length catalog
   pub gives : (place : ℕ) → slice_index_or counts place 0 ≡ given history (place + 1)
   pub weighs : weighed ≡ weight history
-  pub light : (table : ℕ) → given history table * 64 ≤ weight history
+  pub light : (table : ℕ) → given history table * CHANGE_WEIGHT ≤ weight history
 
 -- a session's open transaction began at this SCN
 pub record Began (history : History) (beginnings : List ℕ) : Type 0 where
-  pub numbers : length beginnings ≡ 25
+  pub numbers : length beginnings ≡ NUMBERS
   pub earlier : (who place : ℕ) → begun history who ≡ Some place → place ≤ length history
   pub at : (who place : ℕ) → begun history who ≡ Some place → slice_index_or beginnings who 0 ≡ scn_at history place
 
@@ -49,4 +50,4 @@ pub record Views (history : History) : Type 0 where
 pub record Gives (history : History) (table : ℕ) (changes : List Change) (count : ℕ) : Type 0 where
   pub same : All (λ change. change.table ≡ table) changes
   pub is : count ≡ given_by table (given history table) changes
-  pub light : count * 64 ≤ weight history + changes_weight changes
+  pub light : count * CHANGE_WEIGHT ≤ weight history + changes_weight changes

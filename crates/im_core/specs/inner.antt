@@ -1,0 +1,3 @@
+-- What only the proofs need: how what a store keeps agrees with its history.
+pub mod Holds
+pub mod Kept
