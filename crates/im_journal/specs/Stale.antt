@@ -1,6 +1,7 @@
 -- Notes of touched rows, and the rows that are stale at an SCN.
-use Rattle.std.specs.Prelude.{ℕ, ◌==◌, Bool, List, [], ◌∷◌, ◌++◌, fold, filter, map, length, nat_le, nat_lt, Option, slice_get, ◌-◌, if◌then◌else◌}
+use Rattle.std.specs.Prelude.{◌≡◌, ℕ, ◌==◌, Bool, List, [], ◌∷◌, ◌++◌, fold, filter, map, length, nat_le, nat_lt, Option, slice_get, ◌-◌, if◌then◌else◌}
 use Rattle.std.specs.List.{list_any}
+use Rattle.std.specs.List.Sorted.{IsNonDecreasingBy}
 use Rattle.std.specs.Option.{option_map}
 
 -- a row number, and the SCN of a commit that touched the row
@@ -58,3 +59,8 @@ stale_rows notes = rising (rows_of notes)
 -- the row numbers that were noted at or below an SCN, rising
 abbrev pub stale_rows_at : List Note → ℕ → List ℕ
 stale_rows_at notes scn = stale_rows (notes_to scn notes)
+
+-- where the SCNs do not fall, the first notes make the same rows stale as all notes do, at each SCN and at all
+pub record FirstNotesSuffice (notes : List Note) : Type 0 where
+  pub at : (scn : ℕ) → IsNonDecreasingBy (λ note. note.1) notes → stale_rows_at (first_notes notes) scn ≡ stale_rows_at notes scn
+  pub ever : IsNonDecreasingBy (λ note. note.1) notes → stale_rows (first_notes notes) ≡ stale_rows notes

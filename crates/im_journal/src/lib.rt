@@ -3,13 +3,15 @@
 //! A commit notes each row number that it touches with its SCN. A row is stale at an SCN where it was noted at or below
 //! it. So only the first note of a row number changes an answer, and contracts see a [`Journal`] as the list of these
 //! first notes and its spare room. `specs/Stale.antt` says what is stale for any list of notes, and
-//! `proofs/ForCallers.antt` that the first notes give the same answers as all notes.
+//! [`first_notes_suffice`] that the first notes give the same answers as all notes.
 //!
 //! Start with `specs/Stale.antt` and then `journal.rt`.
 #![tactic(auto)]
 
+mod first_notes;
 mod journal;
 #[cfg(test)]
 mod tests;
 
+pub use first_notes::first_notes_suffice;
 pub use journal::Journal;

@@ -16,7 +16,7 @@ use Rattle.im_history.proofs.Laws.{pending-push, begun-push, mode-push, opened-p
 use Rattle.im_txn.specs.Activity.{Activity, is_number, owed_by, transactions}
 use Rattle.im_txn.specs.Agrees.{Agrees, kept, owed, owes}
 use Rattle.im_txn.specs.Effects.{Becomes}
-use Rattle.im_txn.specs.LockCells.{Cells, cell_at}
+use Rattle.im_txn.specs.LockCells.{Locks, lock_of}
 use Rattle.im_txn.specs.Standing.{Standing, activity_at, lock_at}
 use Rattle.im_txn.proofs.ListLemmas.{sum_by-moves, sum_by-equal}
 
@@ -95,7 +95,7 @@ if-same false x = refl
 -- the cells stay where nothing becomes pending or ceases to be
 pub Locked-same : (h : History) (who : ℕ) (what : What) (old new : Standing) → Agrees h old → new.locks ≡ old.locks → ((so_far : List Change) → pending_after so_far what ≡ so_far) → Locked (with_entry h who what) new
 Locked-same h who what old new agrees same stays =
-    let cell = λ (table rid : ℕ). ap (λ (all : Cells). cell_at all table rid) same in
+    let cell = λ (table rid : ℕ). ap (λ (all : Locks). lock_of all table rid) same in
     let list = λ (other : ℕ). pending-push h (record { who = who; what = what }) other ∙ (ap (λ (l : List Change). if who == other then l else pending h other) (stays (pending h other)) ∙ if-same (who == other) (pending h other)) in
     record {
       locks = λ table rid other below.

@@ -13,7 +13,7 @@ use Rattle.im_history.specs.Transactions.{pending, pending_after}
 use Rattle.im_history.proofs.Laws.{pending-push}
 use Rattle.im_txn.specs.Agrees.{Agrees}
 use Rattle.im_txn.specs.Effects.{IsWritten, IsEnded}
-use Rattle.im_txn.specs.LockCells.{Cells, cell_at, other_in}
+use Rattle.im_txn.specs.LockCells.{Locks, lock_of, other_in}
 use Rattle.im_txn.specs.Standing.{Standing, activity_at, lock_at, IsFree}
 use Rattle.im_txn.proofs.AgreesLemmas.{with_entry, Locked}
 use Rattle.im_txn.proofs.ListLemmas.{find-none, find-one, cases_bool}
@@ -31,17 +31,17 @@ and_right true c e = e
 and_right false c e = absurd (false≢true e)
 
 -- no other holds a row of the changes
-free-at : (cells : Cells) (who : ℕ) (changes : List Change) (table rid : ℕ) → All (λ change. other_in who (cell_at cells change.table change.rid) ≡ None) changes → touches changes table rid ≡ true → other_in who (cell_at cells table rid) ≡ None
+free-at : (cells : Locks) (who : ℕ) (changes : List Change) (table rid : ℕ) → All (λ change. other_in who (lock_of cells change.table change.rid) ≡ None) changes → touches changes table rid ≡ true → other_in who (lock_of cells table rid) ≡ None
 free-at cells who [] table rid free touched = absurd (false≢true touched)
 free-at cells who (change ∷ changes) table rid free touched =
     ⊎_elim (λ (here : is_to table rid change ≡ true).
     let same_table : change.table ≡ table = eq-true change.table table (and_left (change.table == table) (change.rid == rid) here) in
     let same_rid : change.rid ≡ rid = eq-true change.rid rid (and_right (change.table == table) (change.rid == rid) here) in
-    let first = All-head (λ (c : Change). other_in who (cell_at cells c.table c.rid) ≡ None) change changes free in
-    subst (λ (t : ℕ). other_in who (cell_at cells t rid) ≡ None) same_table (subst (λ (r : ℕ). other_in who (cell_at cells change.table r) ≡ None) same_rid first))
+    let first = All-head (λ (c : Change). other_in who (lock_of cells c.table c.rid) ≡ None) change changes free in
+    subst (λ (t : ℕ). other_in who (lock_of cells t rid) ≡ None) same_table (subst (λ (r : ℕ). other_in who (lock_of cells change.table r) ≡ None) same_rid first))
     (λ (off : is_to table rid change ≡ false).
     let later : touches changes table rid ≡ true = rw off at touched in
-    free-at cells who changes table rid (All-tail (λ (c : Change). other_in who (cell_at cells c.table c.rid) ≡ None) change changes free) later)
+    free-at cells who changes table rid (All-tail (λ (c : Change). other_in who (lock_of cells c.table c.rid) ≡ None) change changes free) later)
     (cases_bool (is_to table rid change))
 
 none-not : (b : Bool) (owner : ℕ) → (if b then None else Some owner) ≡ None → b ≡ true

@@ -9,15 +9,16 @@ use Rattle.im_values.specs.declared.limits.TheConstants.{NUMBERS}
 use Rattle.im_history.specs.declared.change.Change.{Change}
 use Rattle.im_history.specs.declared.entry.Mode.{Mode}
 use Rattle.im_history.specs.Touched.{touches}
+use Rattle.im_tables.proofs.ForCallers.{cell_at-nil}
 use Rattle.im_txn.specs.declared.cursor.Cursor.{Cursor}
 use Rattle.im_txn.specs.Activity.{Activity, idle, owed_by, transactions, with_mode, with_cursor, without_cursor, with_changes, ended}
 use Rattle.im_txn.specs.Effects.{Becomes, IsIdle, IsWritten, IsEnded, IsRoomier, IsGrown}
-use Rattle.im_txn.specs.LockCells.{Cells, cell_at, set_cells, HasCells, IsLonger}
+use Rattle.im_txn.specs.LockCells.{Locks, lock_of, set_cells, HasCells, IsLonger}
 use Rattle.im_txn.specs.Standing.{Standing, activity_at, IsCounted, IsFew, HasRoom}
-use Rattle.im_txn.proofs.CellLemmas.{cell_at-set_cells}
+use Rattle.im_txn.proofs.CellLemmas.{lock_of-set_cells}
 
 -- the standing with one activity set, the cells and what is owed
-abbrev pub moved : Standing → ℕ → Activity → Cells → ℕ → Standing
+abbrev pub moved : Standing → ℕ → Activity → Locks → ℕ → Standing
 moved old who after locks owed = record { activities = set old.activities who after; locks = locks; owed = owed }
 
 -- a call changes one activity, and what is owed moves with it
@@ -35,7 +36,7 @@ pub before-is : (old : Standing) (who : ℕ) (before after : Activity) (now : �
 before-is old who before after now turns = get_or_read old.activities who before (inside old who before after now turns) turns.was idle
 
 -- the activity becomes what the call makes of it
-pub Turns-becomes : (old : Standing) (who : ℕ) (before after : Activity) (locks : Cells) (now : ℕ) (makes : Activity → Activity) → Turns old who before after now → after ≡ makes before → Becomes old (moved old who after locks now) who (makes (activity_at old who))
+pub Turns-becomes : (old : Standing) (who : ℕ) (before after : Activity) (locks : Locks) (now : ℕ) (makes : Activity → Activity) → Turns old who before after now → after ≡ makes before → Becomes old (moved old who after locks now) who (makes (activity_at old who))
 Turns-becomes old who before after locks now makes turns made =
     let is = before-is old who before after now turns in
     let all : after ≡ makes (activity_at old who) = made ∙ ap makes is in
@@ -49,7 +50,7 @@ pub activity-few : (old : Standing) (who : ℕ) → IsCounted old → who < NUMB
 activity-few old who counted number = All-get_or IsFew old.activities who idle (omega (arith, counted.numbers)) counted.few
 
 -- it stays counted
-pub Turns-counted : (old : Standing) (who : ℕ) (before after : Activity) (locks : Cells) (now : ℕ) → Turns old who before after now → IsCounted (moved old who after locks now)
+pub Turns-counted : (old : Standing) (who : ℕ) (before after : Activity) (locks : Locks) (now : ℕ) → Turns old who before after now → IsCounted (moved old who after locks now)
 Turns-counted old who before after locks now turns =
     let is = before-is old who before after now turns in
     let sums = sum_by-set owed_by old.activities who after idle (inside old who before after now turns) in
@@ -149,7 +150,7 @@ roomier-turns old who before after counted number was roomier few =
     let long : length after.cursors ≡ length before.cursors = ap length roomier.cursors in
     cursor-turns old who before after old.owed counted number was roomier.begun few (omega (arith, long))
 
-pub roomier-grown : (old : Standing) (who : ℕ) (before after : Activity) (locks : Cells) → Turns old who before after old.owed → IsRoomier before after → IsLonger old.locks locks → IsGrown old (moved old who after locks old.owed)
+pub roomier-grown : (old : Standing) (who : ℕ) (before after : Activity) (locks : Locks) → Turns old who before after old.owed → IsRoomier before after → IsLonger old.locks locks → IsGrown old (moved old who after locks old.owed)
 roomier-grown old who before after locks turns roomier longer = record {
   activities = λ other.
       ⊎_elim (λ (is : other ≡ who).
@@ -163,12 +164,12 @@ roomier-grown old who before after locks turns roomier longer = record {
 }
 
 -- the activity that has more room is that of the session
-pub roomier-at : (old : Standing) (who : ℕ) (before after : Activity) (locks : Cells) → Turns old who before after old.owed → activity_at (moved old who after locks old.owed) who ≡ after
+pub roomier-at : (old : Standing) (who : ℕ) (before after : Activity) (locks : Locks) → Turns old who before after old.owed → activity_at (moved old who after locks old.owed) who ≡ after
 roomier-at old who before after locks turns = get_or-set_same old.activities who after idle (inside old who before after old.owed turns)
 
 -- nothing is going on at first
 
-pub idle-counted : (locks : Cells) → IsCounted (record { activities = replicate NUMBERS idle; locks = locks; owed = 0 })
+pub idle-counted : (locks : Locks) → IsCounted (record { activities = replicate NUMBERS idle; locks = locks; owed = 0 })
 idle-counted locks = record {
   numbers = length-replicate NUMBERS idle;
   few = All-replicate IsFew NUMBERS idle (omega arith);
@@ -179,7 +180,7 @@ pub idle-idle : IsIdle (record { activities = replicate NUMBERS idle; locks = []
 idle-idle = record {
   activities = λ who.
       ⊎_elim (λ (below : who < NUMBERS). get_or-replicate NUMBERS who idle idle below) (λ (past : NUMBERS ≤ who). get_or_past (replicate NUMBERS idle) who idle (omega (arith, length-replicate NUMBERS idle))) (cases_lt who NUMBERS);
-  locks = λ table rid. refl;
+  locks = λ table rid. cell_at-nil 0 table rid;
   owed = refl;
 }
 
@@ -190,26 +191,26 @@ same-read old who a b counted number read again =
     get_or_read old.activities who a within read idle ∙ sym (get_or_read old.activities who b within again idle)
 
 -- the rows of the changes are held
-pub written-set : (old : Standing) (who place : ℕ) (changes : List Change) (before after : Activity) (locks : Cells) (now : ℕ) → Turns old who before after now → after ≡ with_changes place changes before → locks ≡ set_cells (who + 1) old.locks changes → HasCells old.locks changes → IsWritten old (moved old who after locks now) who place changes
+pub written-set : (old : Standing) (who place : ℕ) (changes : List Change) (before after : Activity) (locks : Locks) (now : ℕ) → Turns old who before after now → after ≡ with_changes place changes before → locks ≡ set_cells (who + 1) old.locks changes → HasCells old.locks changes → IsWritten old (moved old who after locks now) who place changes
 written-set old who place changes before after locks now turns made cells has = record {
   activity = Turns-becomes old who before after locks now (with_changes place changes) turns made;
-  locks = λ table rid. ap (λ (all : Cells). cell_at all table rid) cells ∙ cell_at-set_cells (who + 1) old.locks changes table rid (inl has);
+  locks = λ table rid. ap (λ (all : Locks). lock_of all table rid) cells ∙ lock_of-set_cells (who + 1) old.locks changes table rid (inl has);
 }
 
 -- the rows of the pending changes are free
-pub ended-set : (old : Standing) (who : ℕ) (changes : List Change) (before after : Activity) (locks : Cells) (now : ℕ) → Turns old who before after now → after ≡ ended before → locks ≡ set_cells 0 old.locks changes → changes ≡ before.pending → IsEnded old (moved old who after locks now) who
+pub ended-set : (old : Standing) (who : ℕ) (changes : List Change) (before after : Activity) (locks : Locks) (now : ℕ) → Turns old who before after now → after ≡ ended before → locks ≡ set_cells 0 old.locks changes → changes ≡ before.pending → IsEnded old (moved old who after locks now) who
 ended-set old who changes before after locks now turns made cells handed =
     let all : changes ≡ (activity_at old who).pending = handed ∙ ap (λ (a : Activity). a.pending) (before-is old who before after now turns) in
     record {
       activity = Turns-becomes old who before after locks now ended turns made;
       locks = λ table rid.
-          ap (λ (all : Cells). cell_at all table rid) cells
-          ∙ (cell_at-set_cells 0 old.locks changes table rid (inr refl)
-          ∙ ap (λ (list : List Change). if touches list table rid then 0 else cell_at old.locks table rid) all);
+          ap (λ (all : Locks). lock_of all table rid) cells
+          ∙ (lock_of-set_cells 0 old.locks changes table rid (inr refl)
+          ∙ ap (λ (list : List Change). if touches list table rid then 0 else lock_of old.locks table rid) all);
     }
 
 -- there is room for changes once the session and the cells have it
-pub HasRoom-grown : (old : Standing) (who : ℕ) (changes : List Change) (before after : Activity) (locks : Cells) → Turns old who before after old.owed → length changes ≤ after.room → HasCells locks changes → HasRoom (moved old who after locks old.owed) who changes
+pub HasRoom-grown : (old : Standing) (who : ℕ) (changes : List Change) (before after : Activity) (locks : Locks) → Turns old who before after old.owed → length changes ≤ after.room → HasCells locks changes → HasRoom (moved old who after locks old.owed) who changes
 HasRoom-grown old who changes before after locks turns room has = record {
   pending = rw (roomier-at old who before after locks turns) room;
   cells = has;

@@ -4,13 +4,13 @@ use Rattle.std.specs.List.{sum_by}
 use Rattle.im_values.specs.declared.limits.TheConstants.{NUMBERS}
 use Rattle.im_history.specs.declared.change.Change.{Change}
 use Rattle.im_txn.specs.Activity.{Activity, idle, owed_by}
-use Rattle.im_txn.specs.LockCells.{Cells, cell_at, HasCells, other_in}
+use Rattle.im_txn.specs.LockCells.{Locks, lock_of, HasCells, other_in}
 
 -- the activity of each number from 0 on, the lock cells of each table, and how many entries all together will need
 -- without fail
 pub record Standing : Type 0 where
   pub activities : List Activity
-  pub locks : Cells
+  pub locks : Locks
   pub owed : ℕ
 
 -- the activity of a number, nothing past the last
@@ -19,7 +19,7 @@ activity_at standing who = slice_index_or standing.activities who idle
 
 -- the lock cell of a row
 abbrev pub lock_at : Standing → ℕ → ℕ → ℕ
-lock_at standing table rid = cell_at standing.locks table rid
+lock_at standing table rid = lock_of standing.locks table rid
 
 -- another number that holds the row
 abbrev pub holder_in : Standing → ℕ → ℕ → ℕ → Option ℕ

@@ -13,7 +13,6 @@
 
 mod agreement;
 mod cursor;
-mod lock_row;
 mod locks;
 mod session;
 mod sessions;

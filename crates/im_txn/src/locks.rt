@@ -1,25 +1,24 @@
-ghost use Rattle.std.specs.Prelude.{◌≡◌, ◌<◌, [], length, OnOk};
-ghost use Rattle.im_txn.specs.LockCells.{HasCell, HasCells, IsLonger, cell_at, set_cell, set_cells};
+ghost use Rattle.std.specs.Prelude.{◌≡◌, [], OnOk};
+ghost use Rattle.im_txn.specs.LockCells.{HasCells, IsLonger, lock_of, set_cell, set_cells};
 
-use crate::lock_row::LockRow;
 use im_history::Change;
+use im_tables::Cells;
 use im_values::NoMemory;
 use std::alloc::Global;
 use std::marker::Model;
 
-/// The lock cells of all tables, by table and row number. A cell is found at once.
+/// The lock cells of all rows: 0 where the row is free, else one more than the number of its holder.
 #[derive(Debug, Drop)]
 pub struct Locks {
-    alloc: Global,
-    rows: Vec<LockRow>,
+    cells: Cells<u8>,
 }
 
 impl Model for Locks {
-    ghost use Rattle.im_txn.specs.LockCells.{Cells};
+    ghost use Rattle.im_txn.specs.LockCells.{Locks as AllLocks};
 
-    ghost Value = { Cells };
+    ghost Value = { AllLocks };
 
-    ghost view = { λ l. l.rows.items };
+    ghost view = { λ l. l.cells };
 }
 
 impl Locks {
@@ -28,19 +27,15 @@ impl Locks {
         ensures { result ≡ [] }
     {
         Locks {
-            alloc,
-            rows: Vec::new(alloc),
+            cells: Cells::new(alloc),
         }
     }
 
     /// The cell of a row, 0 past the last.
     pub fn cell(&self, table: u32, rid: u64) -> u8
-        ensures { result ≡ cell_at self.now table rid }
+        ensures { result ≡ lock_of self.now table rid }
     {
-        match self.rows.as_slice().get(table as usize) {
-            Some(row) => row.cell(rid),
-            None => 0,
-        }
+        self.cells.get(table, rid).copied().unwrap_or(0)
     }
 
     /// Makes a cell for the row of each of these changes, free where it is new.
@@ -49,27 +44,7 @@ impl Locks {
         ensures ok { OnOk result (HasCells self.new changes.now) }
     {
         for change in changes {
-            self.reserve_cell(change)?;
-        }
-        Ok(())
-    }
-
-    /// Makes a cell for the row of a change.
-    fn reserve_cell(&mut self, change: &Change) -> Result<(), NoMemory>
-        ensures same { IsLonger self.old self.new }
-        ensures ok { OnOk result (HasCell self.new change.now) }
-    {
-        self.reserve_table(change.table)?;
-        self.rows[change.table as usize].reserve(change.rid)
-    }
-
-    /// Makes a row of cells for each table up to this one.
-    fn reserve_table(&mut self, table: u32) -> Result<(), NoMemory>
-        ensures same { IsLonger self.old self.new }
-        ensures ok { OnOk result (table < length self.new) }
-    {
-        for _count in self.rows.len()..table as usize + 1 {
-            self.rows.push(LockRow::new(self.alloc))?;
+            self.cells.reserve(change.table, change.rid)?;
         }
         Ok(())
     }
@@ -87,8 +62,8 @@ impl Locks {
     fn set(&mut self, change: &Change, value: u8)
         ensures { self.new ≡ set_cell value self.old change.now }
     {
-        if (change.table as usize) < self.rows.len() {
-            self.rows[change.table as usize].set(change.rid, value);
+        if let Some(cell) = self.cells.get_mut(change.table, change.rid) {
+            *cell = value;
         }
     }
 }

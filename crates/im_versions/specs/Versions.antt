@@ -1,5 +1,5 @@
 -- The versions of one row, and the row at an SCN.
-use Rattle.std.specs.Prelude.{ℕ, ◌-◌, ◌<◌, List, length, filter, nat_le, Option, slice_get, option_and_then}
+use Rattle.std.specs.Prelude.{ℕ, ◌-◌, ◌<◌, List, [], length, filter, nat_le, Option, slice_get, option_and_then}
 use Rattle.std.specs.List.{AllAdjacentBelow}
 use Rattle.std.specs.Option.{option_map}
 use Rattle.im_values.specs.declared.value.Value.{Value}
@@ -9,6 +9,10 @@ use Rattle.im_versions.specs.declared.version.Version.{Version}
 pub record Versions : Type 0 where
   pub versions : List Version
   pub spare : ℕ
+
+-- a chain without versions and without room
+abbrev pub no_chain : Versions
+no_chain = record { versions = []; spare = 0 }
 
 -- the newest version
 abbrev pub newest : List Version → Option Version

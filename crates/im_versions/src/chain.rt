@@ -1,8 +1,9 @@
 ghost use Rattle.std.specs.Prelude.{◌≡◌, ◌+◌, ◌-◌, ◌<◌, [], ◌∷◌, ◌++◌, max, OnOk, OnErr};
 ghost use Rattle.std.specs.Option.{ForSome, option_copied};
-ghost use Rattle.im_versions.specs.Versions.{row_at, latest, newest_row, versions_to, IsRising};
+ghost use Rattle.im_versions.specs.Versions.{no_chain, row_at, latest, newest_row, versions_to, IsRising};
 
 use crate::version::Version;
+use im_tables::Cell;
 use im_values::{NoMemory, Row, Steps};
 use std::alloc::Global;
 use std::marker::Model;
@@ -32,7 +33,7 @@ impl Model for Chain {
 impl Chain {
     /// A chain without versions and without spare room. It takes no memory.
     pub fn new(alloc: Global) -> Chain
-        ensures { result ≡ record { versions = []; spare = 0 } }
+        ensures { result ≡ no_chain }
     {
         Chain {
             versions: Vec::new(alloc),
@@ -86,6 +87,14 @@ impl Chain {
         ensures { result ≡ latest self.now.versions }
     {
         Some(self.versions.last()?.scn)
+    }
+}
+
+impl Cell for Chain {
+    ghost blank = { no_chain };
+
+    fn empty(alloc: Global) -> Chain {
+        Chain::new(alloc)
     }
 }
 

@@ -1,0 +1,77 @@
+ghost use Rattle.std.specs.Borrow.{sem};
+ghost use Rattle.std.specs.Option.{option_copied_mut};
+ghost use Rattle.std.specs.Prelude.{◌≡◌, ◌<◌, [], get_or, length, option_copied, slice_get, OnOk};
+ghost use Rattle.im_tables.specs.Lends.{lends_of_line, lends_place};
+ghost use Rattle.im_tables.specs.Table.{IsPadded};
+
+use crate::cell::Cell;
+use im_values::NoMemory;
+use std::alloc::Global;
+use std::marker::Model;
+
+/// The cells of one table, by number.
+#[derive(Debug, Drop)]
+pub struct Line<T> {
+    cells: Vec<T>,
+}
+
+impl<T> Model for Line<T> {
+    ghost use Rattle.std.specs.Prelude.{List};
+
+    ghost Value = { List T };
+
+    ghost view = { λ l. l.cells.items };
+}
+
+impl<T: Cell> Line<T> {
+    /// No cells. It takes no memory.
+    pub fn new(alloc: Global) -> Line<T>
+        ensures { result ≡ [] }
+    {
+        Line {
+            cells: Vec::new(alloc),
+        }
+    }
+
+    /// How many cells are there.
+    pub fn len(&self) -> u64
+        ensures { result ≡ length self.now }
+    {
+        self.cells.len() as u64
+    }
+
+    /// The cell of a number, if there is one.
+    pub fn get(&self, number: u64) -> Option<&T>
+        ensures { option_copied result ≡ slice_get self.now number }
+    {
+        self.cells.get(number as usize)
+    }
+
+    /// The cell of a number, if there is one, to be changed.
+    pub fn get_mut(&mut self, number: u64) -> Option<&mut T>
+        ensures* writes_back { sem 𝓛 (lends_of_line T.row self.entry number result) }
+        ensures value { option_copied_mut result ≡ slice_get self.old number }
+    {
+        self.cells.get_mut(number as usize)
+    }
+
+    /// The cell of a number that is there, to be changed.
+    pub fn cell_mut(&mut self, number: u64) -> &mut T
+        requires { number < length self.old }
+        ensures* writes_back { sem 𝓛 (lends_place T.row self.entry number result) }
+        ensures value { result.now ≡ get_or self.old number T.blank }
+    {
+        &mut self.cells[number as usize]
+    }
+
+    /// Adds empty cells until there is one of this number.
+    pub fn grow(&mut self, alloc: Global, number: u64) -> Result<(), NoMemory>
+        ensures same { IsPadded T.blank self.old self.new }
+        ensures there { OnOk result (number < length self.new) }
+    {
+        while self.cells.len() as u64 <= number {
+            self.cells.push(T::empty(alloc))?;
+        }
+        Ok(())
+    }
+}
