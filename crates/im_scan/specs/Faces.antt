@@ -4,8 +4,8 @@ use Rattle.im_history.specs.Rows.{Row}
 use Rattle.im_history.specs.Units.{Content}
 use Rattle.im_scan.specs.declared.faces.Face.{Face}
 use Rattle.im_scan.specs.declared.faces.Face.TheVariants.{Whole, Bare}
-use Rattle.im_scan.specs.declared.served.How.{How}
-use Rattle.im_scan.specs.declared.served.How.TheVariants.{Unit as ByUnit, Blocks}
+use Rattle.im_replies.specs.declared.served.How.{How}
+use Rattle.im_replies.specs.declared.served.How.TheVariants.{Unit as ByUnit, Blocks}
 
 -- the unit that a face shows
 abbrev pub unit_of : Face → Option Content

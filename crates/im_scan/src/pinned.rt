@@ -4,9 +4,9 @@ ghost use Rattle.std.specs.Option.{option_map};
 ghost use Rattle.im_scan.specs.Faces.{how_of, unit_of};
 
 use crate::faces::Face;
-use crate::served::How;
 use im_core::Pin;
 use im_history::UnitLike;
+use im_replies::How;
 use im_syntax::Bound;
 use im_unit::ColumnUnit;
 
