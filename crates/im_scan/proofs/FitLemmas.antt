@@ -14,7 +14,7 @@ use Rattle.im_history.specs.Rows.{Row, row_after}
 use Rattle.im_history.specs.Units.{Content}
 use Rattle.im_group.specs.Partials.{Numbered, Parts, groups_of, keeps, kept, partial}
 use Rattle.im_scan.specs.Parts.{MayAsk, unit_row, fetched_after, taken_row}
-use Rattle.im_scan.specs.Steps.{lent, numbered, numbered_from}
+use Rattle.im_scan.specs.inner.Steps.{lent, numbered, numbered_from}
 use Rattle.im_scan.proofs.SlotLemmas.{AreTaken}
 
 no_row : (bound : Bound) → MayAsk bound None

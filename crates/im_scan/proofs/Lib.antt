@@ -4,3 +4,4 @@ mod FitLemmas
 mod PartLemmas
 mod PinLemmas
 pub mod ForCallers
+pub mod MergeLemmas

@@ -16,7 +16,7 @@ use Rattle.im_history.specs.Rows.{Row, row_after, present}
 use Rattle.im_history.specs.Units.{Content}
 use Rattle.im_group.specs.Partials.{Numbered, keeps, kept}
 use Rattle.im_scan.specs.Parts.{unit_row, fetched_after, taken_row}
-use Rattle.im_scan.specs.Steps.{lent, unit_rows, put_at, with_fetched, with_change, with_changes, gathered, numbered, numbered_from}
+use Rattle.im_scan.specs.inner.Steps.{lent, unit_rows, put_at, with_fetched, with_change, with_changes, gathered, numbered, numbered_from}
 
 -- ---- one row put
 

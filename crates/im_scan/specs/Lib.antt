@@ -1,4 +1,5 @@
 pub mod Faces
 pub mod Parts
 pub mod Pinned
-pub mod Steps
+pub mod Merging
+pub mod inner

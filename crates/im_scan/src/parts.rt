@@ -1,15 +1,16 @@
-ghost use Rattle.std.specs.Prelude.{◌≡◌, ◌+◌, ◌*◌, ◌<◌, ◌≤◌, ◌++◌, ◌^◌, length, IfOk, OnOk};
+ghost use Rattle.std.specs.Prelude.{◌≡◌, ◌+◌, ◌*◌, ◌<◌, ◌≤◌, ◌++◌, ◌^◌, length, Option, IfOk, OnOk};
 ghost use Rattle.std.specs.List.{AllByRecursion};
 ghost use Rattle.std.specs.Option.{ForSome, option_copied};
 ghost use Rattle.im_history.specs.Grid.{extents_for};
 ghost use Rattle.im_history.specs.History.{History};
 ghost use Rattle.im_history.specs.Rows.{present};
+ghost use Rattle.im_history.specs.Units.{Content};
 ghost use Rattle.im_syntax.specs.BoundFits.{BoundFits, FilterFits};
 ghost use Rattle.im_group.specs.Partials as group;
-ghost use Rattle.im_scan.specs.Faces.{unit_of};
+ghost use Rattle.im_scan.specs.Faces.{Shows, unit_of};
 ghost use Rattle.im_scan.specs.Parts.{MayAsk, part_of, taken_row};
 ghost use Rattle.im_scan.specs.Pinned.{IsPinned, seen_in};
-ghost use Rattle.im_scan.specs.Steps.{lent, numbered, numbered_from};
+ghost use Rattle.im_scan.specs.inner.Steps.{lent, numbered, numbered_from};
 
 use crate::faces::Face;
 use crate::slots::gather;
@@ -110,8 +111,8 @@ pub fn part(
     requires own_fits { AllByRecursion (λ change. MayAsk bound.now change.row) view.now.own }
     ensures taken { IfOk result (λ partial.
         partial ≡ part_of (unit_of face.entry) fetched.now view.now extent bound.now) }
-    ensures seen { IfOk result (λ partial. (history : History) →
-        IsPinned history view.now extent (unit_of face.entry) fetched.now →
+    ensures seen { IfOk result (λ partial. (history : History) (unit : Option Content) →
+        Shows face.entry unit bound.now → IsPinned history view.now extent unit fetched.now →
         partial ≡ group.partial bound.now (seen_in history view.now extent)) }
 {
     let rows = view.rows;

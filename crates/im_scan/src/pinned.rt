@@ -1,18 +1,18 @@
 ghost use Rattle.std.specs.Prelude.{◌≡◌};
 ghost use Rattle.std.specs.Arc.{arc_value};
 ghost use Rattle.std.specs.Option.{option_map};
-ghost use Rattle.im_scan.specs.Faces.{how_of, unit_of};
+ghost use Rattle.im_scan.specs.Faces.{Shows, how_of};
 
 use crate::faces::Face;
-use crate::served::How;
 use im_core::Pin;
 use im_history::UnitLike;
+use im_replies::How;
 use im_syntax::Bound;
 use im_unit::ColumnUnit;
 
 /// What a scan for a query reads of the unit of an extent that was pinned. It takes no memory.
 pub fn face<'a>(pin: &'a Pin<ColumnUnit>, _bound: &Bound) -> Face<'a>
-    ensures { unit_of result ≡ option_map arc_value pin.now.unit }
+    ensures { Shows result (option_map arc_value pin.now.unit) _bound.now }
 {
     match &pin.unit {
         Some(unit) => Face::Whole(unit),

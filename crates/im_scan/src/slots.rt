@@ -3,7 +3,7 @@ ghost use Rattle.std.specs.Option.{option_copied};
 ghost use Rattle.im_scan.specs.Faces.{unit_of};
 ghost use Rattle.im_unit.specs.Holding as holding;
 ghost use Rattle.im_scan.specs.Parts.{unit_row};
-ghost use Rattle.im_scan.specs.Steps.{gathered, lent, put_at, unit_rows, with_change, with_changes, with_fetched};
+ghost use Rattle.im_scan.specs.inner.Steps.{gathered, lent, put_at, unit_rows, with_change, with_changes, with_fetched};
 
 use crate::faces::Face;
 use im_history::{Change, View};

@@ -28,9 +28,9 @@ use Rattle.im_syntax.specs.declared.statement.Stmt.{Stmt}
 use Rattle.im_history.specs.Rows.{snapshot}
 use Rattle.im_shell.specs.declared.rewriting.Rewriting.TheVariants.{Updating, Deleting}
 use Rattle.im_shell.specs.Built.{is_built}
-use Rattle.im_scan.specs.declared.body.Body.{Body}
-use Rattle.im_scan.specs.declared.body.Body.TheVariants.{Created, Begun, Inserted, Committed, RolledBack}
-use Rattle.im_scan.specs.declared.fault.Fault.{Fault}
+use Rattle.im_replies.specs.declared.body.Body.{Body}
+use Rattle.im_replies.specs.declared.body.Body.TheVariants.{Created, Begun, Inserted, Committed, RolledBack}
+use Rattle.im_replies.specs.declared.fault.Fault.{Fault}
 use Rattle.im_shell.specs.declared.reply.Reply.{Reply}
 use Rattle.im_shell.specs.Requests.{IsClosed}
 use Rattle.im_shell.specs.Statements.{inserts, seen_rows, kept_rows, removals, revisions, written, delete, update, rewrite, roll_back, resolved_plan, found_plan, named_plan, definition_plan, looked_up, is_definition, statement_plan}

@@ -14,9 +14,9 @@ use Rattle.im_history.specs.History.{History}
 use Rattle.im_history.specs.Refusals.{write_refusal}
 use Rattle.im_plan.specs.Goes.{After, Nobody, Ends, Goes, Rest}
 use Rattle.im_plan.specs.Plan.{Plan, End, Turn, made, counted}
-use Rattle.im_scan.specs.declared.body.Body.{Body}
-use Rattle.im_scan.specs.declared.body.Body.TheVariants.{Error}
-use Rattle.im_scan.specs.declared.fault.Fault.{Fault}
+use Rattle.im_replies.specs.declared.body.Body.{Body}
+use Rattle.im_replies.specs.declared.body.Body.TheVariants.{Error}
+use Rattle.im_replies.specs.declared.fault.Fault.{Fault}
 use Rattle.im_shell.specs.declared.reply.Reply.{Reply}
 use Rattle.im_shell.specs.Requests.{Request, IsAnswer}
 use Rattle.im_shell.specs.Scans.{shut_by}

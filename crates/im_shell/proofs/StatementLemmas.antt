@@ -31,7 +31,7 @@ use Rattle.im_names.specs.Statements.{answer}
 use Rattle.im_syntax.specs.declared.statement.Stmt.{Stmt}
 use Rattle.im_syntax.specs.declared.statement.Stmt.TheVariants as stmt
 use Rattle.im_shell.specs.declared.player.NewTable.{NewTable}
-use Rattle.im_scan.specs.declared.body.Body.TheVariants.{Error}
+use Rattle.im_replies.specs.declared.body.Body.TheVariants.{Error}
 use Rattle.im_shell.specs.declared.reply.Reply.{Reply}
 use Rattle.im_shell.specs.Creations.{creation_of}
 use Rattle.im_shell.specs.Statements.{is_creation, is_definition, name_fault, name_reply, found_plan, named_plan, resolved_plan, looked_up, definition_plan}

@@ -10,7 +10,7 @@ use Rattle.im_plan.specs.Plan.{Plan, End}
 use Rattle.im_script.specs.declared.line.Line.{Line}
 use Rattle.im_script.specs.declared.line.LineKind.{LineKind}
 use Rattle.im_script.specs.declared.line.LineKind.TheVariants as line
-use Rattle.im_scan.specs.declared.fault.Fault.TheVariants as fault
+use Rattle.im_replies.specs.declared.fault.Fault.TheVariants as fault
 use Rattle.im_shell.specs.declared.reply.Reply.{Reply}
 use Rattle.im_shell.specs.Statements.{statement_plan}
 use Rattle.im_shell.specs.Turns.{refusal, memory_reply, amends}

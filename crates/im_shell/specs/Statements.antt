@@ -31,10 +31,10 @@ use Rattle.im_shell.specs.Assigned.{assigned}
 use Rattle.im_shell.specs.Built.{is_built}
 use Rattle.im_shell.specs.declared.rewriting.Rewriting.{Rewriting}
 use Rattle.im_shell.specs.declared.rewriting.Rewriting.TheVariants.{Updating, Deleting}
-use Rattle.im_scan.specs.declared.body.Body.{Body}
-use Rattle.im_scan.specs.declared.body.Body.TheVariants.{Created, Begun, Inserted, Updated, Deleted, Committed, RolledBack, Answer, Error}
-use Rattle.im_scan.specs.declared.fault.Fault.{Fault}
-use Rattle.im_scan.specs.declared.fault.Fault.TheVariants as fault
+use Rattle.im_replies.specs.declared.body.Body.{Body}
+use Rattle.im_replies.specs.declared.body.Body.TheVariants.{Created, Begun, Inserted, Updated, Deleted, Committed, RolledBack, Answer, Error}
+use Rattle.im_replies.specs.declared.fault.Fault.{Fault}
+use Rattle.im_replies.specs.declared.fault.Fault.TheVariants as fault
 use Rattle.im_shell.specs.declared.reply.Reply.{Reply}
 use Rattle.im_shell.specs.Turns.{answer_at, refusal, look, fault_of, creation_fault, unless_refused, or_refused, decide, memory_reply, scan, end_scan}
 

@@ -9,10 +9,10 @@ use Rattle.im_history.specs.History.{History}
 use Rattle.im_core.specs.Seen.{Seen}
 use Rattle.im_plan.specs.Goes.{Nobody, Rest}
 use Rattle.im_plan.specs.Plan.{Plan, End, Turn}
-use Rattle.im_scan.specs.declared.body.Body.{Body}
-use Rattle.im_scan.specs.declared.body.Body.TheVariants.{Error}
-use Rattle.im_scan.specs.declared.fault.Fault.{Fault}
-use Rattle.im_scan.specs.declared.fault.Fault.TheVariants as fault
+use Rattle.im_replies.specs.declared.body.Body.{Body}
+use Rattle.im_replies.specs.declared.body.Body.TheVariants.{Error}
+use Rattle.im_replies.specs.declared.fault.Fault.{Fault}
+use Rattle.im_replies.specs.declared.fault.Fault.TheVariants as fault
 use Rattle.im_shell.specs.declared.reply.Reply.{Reply}
 
 -- the line ends with a reply that was settled at this place

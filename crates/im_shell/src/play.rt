@@ -13,7 +13,7 @@ use crate::unit::NoUnit;
 use im_core::Core;
 use im_edge::{Sink, WriteFault, write_all};
 use im_history::Limits;
-use im_scan::Fault;
+use im_replies::Fault;
 use im_script::{Line, LineKind, line_of};
 use im_values::{NoMemory, Steps};
 use std::alloc::Global;

@@ -18,7 +18,7 @@ use crate::writing::{delete, update};
 use im_core::Core;
 use im_history::{Look, Mode, Shape};
 use im_names::Resolved;
-use im_scan::{Body, Fault};
+use im_replies::{Body, Fault};
 use im_values::{Name, Row, Schema, Steps};
 use std::alloc::Global;
 use std::sync::ledger::Ledger;

@@ -16,7 +16,7 @@ use crate::unit::NoUnit;
 use im_core::Core;
 use im_group::Partial;
 use im_history::View;
-use im_scan::{Body, Records};
+use im_replies::{Body, Records};
 use im_syntax::Bound;
 use im_values::{NoMemory, Steps};
 use std::alloc::Global;

@@ -1,12 +1,12 @@
 ghost use Rattle.std.specs.Prelude.{◌≡◌, Some, None};
-ghost use Rattle.im_scan.specs.declared.body.Body.TheVariants.{Error};
+ghost use Rattle.im_replies.specs.declared.body.Body.TheVariants.{Error};
 ghost use Rattle.im_shell.specs.Statements.{name_fault, name_reply};
 ghost use Rattle.im_shell.specs.Turns as turns;
 
 use crate::reply::Reply;
 use im_history::{Refused, Why};
 use im_names::NameFault;
-use im_scan::{Body, Fault};
+use im_replies::{Body, Fault};
 use im_values::Name;
 
 /// The reply that was settled at this place.

@@ -1,4 +1,4 @@
-use im_scan::Body;
+use im_replies::Body;
 
 /// The reply to a line.
 #[derive(Debug, Drop)]

@@ -1,7 +1,7 @@
 ghost use Rattle.std.specs.Prelude.{◌≡◌};
 ghost use Rattle.im_shell.specs.Statements as plan;
 
-use im_scan::Body;
+use im_replies::Body;
 
 /// What a statement does to rows that it found.
 #[derive(Clone, Copy, Debug, PartialEq, Eq)]

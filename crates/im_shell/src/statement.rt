@@ -15,7 +15,7 @@ use crate::unit::NoUnit;
 use im_core::Core;
 use im_history::Look;
 use im_names::resolve;
-use im_scan::Fault;
+use im_replies::Fault;
 use im_syntax::Stmt;
 use im_values::Steps;
 use std::alloc::Global;

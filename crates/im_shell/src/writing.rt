@@ -14,7 +14,7 @@ use crate::scan::NUMBERS;
 use crate::unit::NoUnit;
 use im_core::Core;
 use im_history::{Look, Mode};
-use im_scan::{Body, Fault};
+use im_replies::{Body, Fault};
 use im_syntax::Filter;
 use im_values::{List, Steps, Value};
 use std::alloc::Global;

@@ -5,11 +5,11 @@ use Rattle.im_text.specs.Extents.{served_record}
 use Rattle.im_text.specs.Tasks.{build_record, ending_record, task_records}
 use Rattle.im_text.specs.Faults.{fault_record}
 use Rattle.im_group.specs.declared.cell.Cell.{Cell}
-use Rattle.im_scan.specs.declared.served.How.{How}
-use Rattle.im_scan.specs.declared.task.Built.{Built}
-use Rattle.im_scan.specs.declared.task.Ending.{Ending}
-use Rattle.im_scan.specs.declared.body.Body.{Body}
-use Rattle.im_scan.specs.declared.body.Body.TheVariants.{Created, Altered, Begun, Inserted, Updated, Deleted, Committed, RolledBack, Answer, Opened, Step, End, Closed, Plan, Ran, Build, Idle, Ended, Nothing, Trickle, Evicted, Error}
+use Rattle.im_replies.specs.declared.served.How.{How}
+use Rattle.im_replies.specs.declared.task.Built.{Built}
+use Rattle.im_replies.specs.declared.task.Ending.{Ending}
+use Rattle.im_replies.specs.declared.body.Body.{Body}
+use Rattle.im_replies.specs.declared.body.Body.TheVariants.{Created, Altered, Begun, Inserted, Updated, Deleted, Committed, RolledBack, Answer, Opened, Step, End, Closed, Plan, Ran, Build, Idle, Ended, Nothing, Trickle, Evicted, Error}
 
 -- an answer, and then its records
 abbrev pub answer_records : ℕ → List (List Cell) → List (List (List ℕ))

@@ -1,7 +1,7 @@
 -- The records of extents that were served.
 use Rattle.std.specs.Prelude.{ℕ, List, [], ◌∷◌, codes, decimal}
-use Rattle.im_scan.specs.declared.served.How.{How}
-use Rattle.im_scan.specs.declared.served.How.TheVariants as how
+use Rattle.im_replies.specs.declared.served.How.{How}
+use Rattle.im_replies.specs.declared.served.How.TheVariants as how
 
 -- what served an extent
 abbrev pub how_fields : How → List (List ℕ)

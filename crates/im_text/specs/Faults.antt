@@ -1,7 +1,8 @@
 -- The record of a refusal: its code, its words, and the values that tell why.
 use Rattle.std.specs.Prelude.{ℕ, List, [], ◌∷◌, Option, Some, None, codes, decimal}
-use Rattle.im_scan.specs.declared.fault.Fault.{Fault}
-use Rattle.im_scan.specs.declared.fault.Fault.TheVariants.{NotBuilt, LineTooLong, Syntax, UnknownTable, UnknownColumn, RepeatedColumn, WrongCount, WrongKind, TooLong, NotGrouped, TableExists, TooManyTables, CursorUnknown, CursorOpen, TooManyCursors, TransactionOpen, ReadOnly, RowLocked, CannotSerialize, TooManyChanges, StoreFull, NoUnit, Memory}
+use Rattle.im_values.specs.declared.limits.TheConstants.{MOST_TABLES, MOST_CURSORS}
+use Rattle.im_replies.specs.declared.fault.Fault.{Fault}
+use Rattle.im_replies.specs.declared.fault.Fault.TheVariants.{NotBuilt, LineTooLong, Syntax, UnknownTable, UnknownColumn, RepeatedColumn, WrongCount, WrongKind, TooLong, NotGrouped, TableExists, TooManyTables, CursorUnknown, CursorOpen, TooManyCursors, TransactionOpen, ReadOnly, RowLocked, CannotSerialize, TooManyChanges, StoreFull, NoUnit, Memory}
 
 -- the column of a grouped query, or its `*`
 abbrev pub column_or_star : Option (List ℕ) → List ℕ
@@ -20,11 +21,11 @@ fault_fields (WrongKind column) = codes "04" ∷ codes "wrong-kind" ∷ column �
 fault_fields (WrongCount got wanted) = codes "05" ∷ codes "wrong-count" ∷ decimal got ∷ decimal wanted ∷ []
 fault_fields (TooLong column length limit) = codes "06" ∷ codes "too-long" ∷ column ∷ decimal length ∷ decimal limit ∷ []
 fault_fields (TableExists name) = codes "07" ∷ codes "table-exists" ∷ name ∷ []
-fault_fields TooManyTables = codes "08" ∷ codes "too-many-tables" ∷ decimal 64 ∷ []
+fault_fields TooManyTables = codes "08" ∷ codes "too-many-tables" ∷ decimal MOST_TABLES ∷ []
 fault_fields (NotGrouped column) = codes "09" ∷ codes "not-grouped" ∷ column_or_star column ∷ []
 fault_fields (CursorUnknown cursor) = codes "10" ∷ codes "cursor-unknown" ∷ decimal cursor ∷ []
 fault_fields (CursorOpen cursor) = codes "11" ∷ codes "cursor-open" ∷ decimal cursor ∷ []
-fault_fields TooManyCursors = codes "12" ∷ codes "too-many-cursors" ∷ decimal 8 ∷ []
+fault_fields TooManyCursors = codes "12" ∷ codes "too-many-cursors" ∷ decimal MOST_CURSORS ∷ []
 fault_fields (TransactionOpen place) = codes "13" ∷ codes "transaction-open" ∷ decimal place ∷ []
 fault_fields ReadOnly = codes "14" ∷ codes "read-only" ∷ []
 fault_fields (RowLocked row holder) = codes "15" ∷ codes "row-locked" ∷ decimal row ∷ decimal holder ∷ []

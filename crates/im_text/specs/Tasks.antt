@@ -1,8 +1,8 @@
 -- The records of builds: how they begin and how they end.
 use Rattle.std.specs.Prelude.{ℕ, List, [], ◌∷◌, codes, decimal, if◌then◌else◌}
-use Rattle.im_scan.specs.declared.task.Built.{Built}
-use Rattle.im_scan.specs.declared.task.Ending.{Ending}
-use Rattle.im_scan.specs.declared.task.Ending.TheVariants.{Switch, Full, Cancelled, Dropped}
+use Rattle.im_replies.specs.declared.task.Built.{Built}
+use Rattle.im_replies.specs.declared.task.Ending.{Ending}
+use Rattle.im_replies.specs.declared.task.Ending.TheVariants.{Switch, Full, Cancelled, Dropped}
 
 -- a build that begins; the last field is 1 where a credit pays for it, and else 0
 abbrev pub build_record : Built → List (List ℕ)

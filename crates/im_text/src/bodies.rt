@@ -8,7 +8,7 @@ use crate::field::Field;
 use crate::page::Page;
 use crate::rows::put_rows;
 use crate::tasks::{put_build, put_ending, put_tasks};
-use im_scan::{Body, Built, Ending, How, Records};
+use im_replies::{Body, Built, Ending, How, Records};
 use im_values::NoMemory;
 
 /// Puts an answer: its SCN and number of records, then the records.

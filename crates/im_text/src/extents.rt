@@ -4,7 +4,7 @@ ghost use Rattle.im_text.specs.Pages.{IsBetween, Puts};
 
 use crate::field::Field;
 use crate::page::Page;
-use im_scan::How;
+use im_replies::How;
 use im_values::NoMemory;
 
 /// Puts what served an extent.

@@ -3,7 +3,8 @@ ghost use Rattle.im_text.specs.Faults as spec;
 ghost use Rattle.im_text.specs.Pages.{IsBetween, Puts};
 
 use crate::page::Page;
-use im_scan::Fault;
+use im_replies::Fault;
+use im_values::limits::{MOST_CURSORS, MOST_TABLES};
 use im_values::{Name, NoMemory};
 
 /// The column of a grouped query, or its `*`.
@@ -46,7 +47,7 @@ pub fn put_fault(page: &mut Page, fault: &Fault) -> Result<(), NoMemory>
             limit,
         } => page.refuse_name("06", "too-long", column.bytes(), &[*length, *limit]),
         Fault::TableExists { name } => page.refuse_name("07", "table-exists", name.bytes(), &[]),
-        Fault::TooManyTables => page.refuse("08", "too-many-tables", &[64]),
+        Fault::TooManyTables => page.refuse("08", "too-many-tables", &[MOST_TABLES as u64]),
         Fault::NotGrouped { column } => page.refuse_name(
             "09",
             "not-grouped",
@@ -59,7 +60,7 @@ pub fn put_fault(page: &mut Page, fault: &Fault) -> Result<(), NoMemory>
             &[u64::from(*cursor)],
         ),
         Fault::CursorOpen { cursor } => page.refuse("11", "cursor-open", &[u64::from(*cursor)]),
-        Fault::TooManyCursors => page.refuse("12", "too-many-cursors", &[8]),
+        Fault::TooManyCursors => page.refuse("12", "too-many-cursors", &[MOST_CURSORS]),
         Fault::TransactionOpen { place } => page.refuse("13", "transaction-open", &[*place]),
         Fault::ReadOnly => page.refuse("14", "read-only", &[]),
         Fault::RowLocked { row, holder } => page.refuse(

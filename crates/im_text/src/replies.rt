@@ -3,7 +3,7 @@ ghost use Rattle.im_text.specs.Replies.{reply_text};
 
 use crate::bodies::put_body;
 use crate::page::Page;
-use im_scan::Body;
+use im_replies::Body;
 use im_values::NoMemory;
 use std::alloc::Global;
 

@@ -3,7 +3,7 @@ ghost use Rattle.im_text.specs.Cells.{row_record};
 ghost use Rattle.im_text.specs.Pages.{IsBetween, Puts};
 
 use crate::page::Page;
-use im_scan::Records;
+use im_replies::Records;
 use im_values::NoMemory;
 
 /// Puts the records of an answer.

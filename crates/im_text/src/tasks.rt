@@ -3,7 +3,7 @@ ghost use Rattle.im_text.specs.Tasks.{build_record, ending_record, task_records}
 ghost use Rattle.im_text.specs.Pages.{IsBetween, Puts};
 
 use crate::page::Page;
-use im_scan::{Built, Ending};
+use im_replies::{Built, Ending};
 use im_values::NoMemory;
 
 /// Puts the beginning of a build.

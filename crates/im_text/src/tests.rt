@@ -1,6 +1,6 @@
 use crate::reply;
 use im_group::Cell;
-use im_scan::{Body, Built, Ending, Fault, How, Records};
+use im_replies::{Body, Built, Ending, Fault, How, Records};
 use im_values::{List, Name};
 use std::alloc::Global;
 use std::test::Fail;

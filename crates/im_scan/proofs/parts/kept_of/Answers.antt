@@ -1,7 +1,7 @@
 use Rattle.std.proofs.Common.{◌∙◌, ap}
 use Rattle.std.proofs.lemmas.Result.{IfOk-weaker}
 use Rattle.im_scan.specs.Faces.{unit_of}
-use Rattle.im_scan.specs.Steps.{lent}
+use Rattle.im_scan.specs.inner.Steps.{lent}
 use Rattle.im_scan.proofs.FitLemmas.{MayScan}
 use Rattle.im_scan.proofs.PartLemmas.{AreGathered, slots-within, slots-may, rows-may, rows-are}
 use Rattle.im_scan.proofs.parts.kept_of.Goals as goal

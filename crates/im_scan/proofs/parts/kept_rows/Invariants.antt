@@ -1,6 +1,6 @@
 use Rattle.std.proofs.Common.{◌≡◌, take}
 use Rattle.im_group.specs.Partials.{kept}
-use Rattle.im_scan.specs.Steps.{lent, numbered_from}
+use Rattle.im_scan.specs.inner.Steps.{lent, numbered_from}
 use Rattle.im_scan.proofs.parts.kept_rows.Given as goal
 
 -- the rows so far are done

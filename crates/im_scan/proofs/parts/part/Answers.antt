@@ -31,10 +31,11 @@ returns c =
           (taken_rows (unit_of c.args.face) c.args.fetched.now c.args.view.now c.args.extent) answer is rows)
           c.of_rows.ensures;
       seen = IfOk-weaker c.of_rows.result _ _
-          (λ answer is history pinned.
+          (λ answer is history unit shows pinned.
           part-is c.args.bound.now c.as_slice.result.now
           (taken_rows (unit_of c.args.face) c.args.fetched.now c.args.view.now c.args.extent) answer is rows
           ∙ ap (partial c.args.bound.now)
-          (taken-rows_seen history c.args.view.now c.args.extent (unit_of c.args.face) c.args.fetched.now pinned))
+          (ap (λ shown. taken_rows shown c.args.fetched.now c.args.view.now c.args.extent) shows
+          ∙ taken-rows_seen history c.args.view.now c.args.extent unit c.args.fetched.now pinned))
           c.of_rows.ensures;
     }

@@ -1,6 +1,6 @@
 use Rattle.std.proofs.Common.{ap, ◌∙◌}
 use Rattle.im_scan.specs.Faces.{unit_of}
-use Rattle.im_scan.specs.Steps.{lent, with_changes, with_fetched}
+use Rattle.im_scan.specs.inner.Steps.{lent, with_changes, with_fetched}
 use Rattle.im_scan.proofs.SlotLemmas.{gathered-back}
 use Rattle.im_scan.proofs.slots.gather.Goals as goal
 

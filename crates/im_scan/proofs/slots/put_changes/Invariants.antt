@@ -1,5 +1,5 @@
 use Rattle.std.proofs.Common.{◌≡◌, drop}
-use Rattle.im_scan.specs.Steps.{lent, with_changes}
+use Rattle.im_scan.specs.inner.Steps.{lent, with_changes}
 use Rattle.im_scan.proofs.slots.put_changes.Given as goal
 
 -- what is left makes of the rows so far what all makes of the first ones

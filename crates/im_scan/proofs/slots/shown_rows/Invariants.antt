@@ -1,6 +1,6 @@
 use Rattle.std.proofs.Common.{◌≡◌, ◌-◌}
 use Rattle.im_scan.specs.Faces.{unit_of}
-use Rattle.im_scan.specs.Steps.{lent, unit_rows}
+use Rattle.im_scan.specs.inner.Steps.{lent, unit_rows}
 use Rattle.im_scan.proofs.slots.shown_rows.Given as goal
 
 -- the row numbers before this one are done

@@ -1,7 +1,7 @@
 use Rattle.std.proofs.Common.{None, ◌+◌}
 use Rattle.im_history.specs.declared.entry.What.TheVariants as what
 use Rattle.im_history.specs.Commits.{scn}
-use Rattle.im_scan.specs.declared.body.Body.TheVariants.{Committed}
+use Rattle.im_replies.specs.declared.body.Body.TheVariants.{Committed}
 use Rattle.im_shell.specs.Turns.{fault_of}
 use Rattle.im_shell.proofs.PlanLemmas.{decide-told}
 use Rattle.im_shell.proofs.player.commit.Goals as goal

@@ -3,7 +3,7 @@ use Rattle.im_history.specs.declared.entry.What.TheVariants as what
 use Rattle.im_history.specs.Commits.{scn}
 use Rattle.im_history.specs.Refusals.{create_refusal}
 use Rattle.im_history.specs.Tables.{tables}
-use Rattle.im_scan.specs.declared.body.Body.TheVariants.{Created}
+use Rattle.im_replies.specs.declared.body.Body.TheVariants.{Created}
 use Rattle.im_shell.specs.Statements.{create_table}
 use Rattle.im_shell.specs.Turns.{creation_fault}
 use Rattle.im_shell.proofs.PlanLemmas.{decide-told, rest-lacks}

@@ -2,7 +2,7 @@ use Rattle.std.proofs.Common.{length}
 use Rattle.im_history.specs.declared.entry.What.TheVariants as what
 use Rattle.im_history.specs.Refusals.{insert_refusal}
 use Rattle.im_history.specs.Tables.{given}
-use Rattle.im_scan.specs.declared.body.Body.TheVariants.{Inserted}
+use Rattle.im_replies.specs.declared.body.Body.TheVariants.{Inserted}
 use Rattle.im_shell.specs.Statements.{inserts}
 use Rattle.im_shell.specs.Turns.{fault_of}
 use Rattle.im_shell.proofs.PlanLemmas.{decide-told}

@@ -2,7 +2,7 @@ use Rattle.std.proofs.Common.{◌≡◌, ◌∙◌, ap}
 use Rattle.im_core.specs.Seen.{Seen}
 use Rattle.im_group.specs.Answers.{answer}
 use Rattle.im_history.specs.Cursors.{is_cursor_open}
-use Rattle.im_scan.specs.declared.body.Body.TheVariants.{Answer}
+use Rattle.im_replies.specs.declared.body.Body.TheVariants.{Answer}
 use Rattle.im_shell.specs.Scans.{seen_in}
 use Rattle.im_shell.specs.Statements.{answering}
 use Rattle.im_shell.proofs.OpeningLemmas.{opening-open}
