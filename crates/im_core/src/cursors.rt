@@ -19,8 +19,8 @@ use im_values::{NoMemory, Steps};
 use std::sync::ledger::Ledger;
 
 impl<U: UnitLike> Core<U> {
-    /// Opens a cursor on a table: what it sees is fixed here. It is refused where this cursor is open, and then where as
-    /// many are open beside cursor 0 as may be.
+    /// Opens a cursor on a table: what it sees is fixed here. It is refused where this cursor is open, and then where
+    /// [`MOST_CURSORS`](im_values::limits::MOST_CURSORS) are open beside cursor 0.
     pub fn open_cursor(&mut self, who: u32, cursor: u32, table: u32) -> Result<View, Refused>
         requires session { who < NUMBERS }
         requires exists { Exists self.old.log table }

@@ -15,7 +15,8 @@ use im_values::{Name, NoMemory, Schema};
 use std::alloc::Global;
 
 impl<U: UnitLike> Core<U> {
-    /// Creates a table. It is refused where a table has the name, and then where as many tables stand as may stand.
+    /// Creates a table. It is refused where a table has the name, and then where there are
+    /// [`MOST_TABLES`](im_values::limits::MOST_TABLES) tables.
     pub fn create(
         &mut self,
         who: u32,

@@ -19,9 +19,12 @@ abbrev content_of : ℕ → ℕ → ℕ → ℕ → List (Option Row) → Conten
 content_of unit_scn extent per columns list = record { scn = unit_scn; first = extent * per; columns = columns; rows = list }
 
 -- a unit of a table that exists, at an SCN that was reached, holds the same after one more entry
-pub content_at-push : (h : History) (entry : Entry) (table extent unit_scn : ℕ) → Exists h table → unit_scn ≤ scn h → content_at (h ++ entry ∷ []) table extent unit_scn ≡ content_at h table extent unit_scn
+pub content_at-push : (h : History) (entry : Entry) (table extent unit_scn : ℕ) → Exists h table → unit_scn ≤ scn h
+    → content_at (h ++ entry ∷ []) table extent unit_scn ≡ content_at h table extent unit_scn
 content_at-push h entry table extent unit_scn exists within =
     let now : History = h ++ entry ∷ [] in
-    ap (λ (per : ℕ). content_of unit_scn extent per (columns_of (table_at now table)) (map (rows now table unit_scn) (rows_of_extent per extent))) (per_at-push h entry table exists)
+    ap (λ (per : ℕ). content_of unit_scn extent per (columns_of (table_at now table)) (map (rows now table unit_scn) (rows_of_extent per extent)))
+    (per_at-push h entry table exists)
     ∙ ap₂ (content_of unit_scn extent (per_at h table)) (columns-push h entry table exists)
-    (map_same (rows now table unit_scn) (rows h table unit_scn) (λ rid. rows-append h (entry ∷ []) table unit_scn rid within) (rows_of_extent (per_at h table) extent))
+    (map_same (rows now table unit_scn) (rows h table unit_scn) (λ rid. rows-append h (entry ∷ []) table unit_scn rid within)
+    (rows_of_extent (per_at h table) extent))

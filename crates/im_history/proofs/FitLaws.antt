@@ -31,20 +31,24 @@ abbrev Fits : History → Change → Type 0
 Fits h change = IsTrue (fits_in (table_at h change.table) change.row)
 
 -- a table that stands keeps its columns
-kept-append : (ts more : List TableInfo) (place : ℕ) (row : Option Row) → IsTrue (fits_in (slice_get ts place) row) → IsTrue (fits_in (slice_get (ts ++ more) place) row)
+kept-append : (ts more : List TableInfo) (place : ℕ) (row : Option Row) → IsTrue (fits_in (slice_get ts place) row)
+    → IsTrue (fits_in (slice_get (ts ++ more) place) row)
 kept-append [] more place row fit = cc
 kept-append (t ∷ ts) more zero row fit = fit
 kept-append (t ∷ ts) more (suc place) row fit = kept-append ts more place row fit
 
-kept-memory : (at : ℕ) (priority : Option Priority) (ts : List TableInfo) (place : ℕ) (row : Option Row) → IsTrue (fits_in (slice_get ts place) row) → IsTrue (fits_in (slice_get (with_memory at priority ts) place) row)
+kept-memory : (at : ℕ) (priority : Option Priority) (ts : List TableInfo) (place : ℕ) (row : Option Row) → IsTrue (fits_in (slice_get ts place) row)
+    → IsTrue (fits_in (slice_get (with_memory at priority ts) place) row)
 kept-memory at priority [] place row fit = fit
 kept-memory zero priority (t ∷ ts) zero row fit = fit
 kept-memory zero priority (t ∷ ts) (suc place) row fit = fit
 kept-memory (suc at) priority (t ∷ ts) zero row fit = fit
 kept-memory (suc at) priority (t ∷ ts) (suc place) row fit = kept-memory at priority ts place row fit
 
-kept-created : (ts : List TableInfo) (what : What) (place : ℕ) (row : Option Row) → IsTrue (fits_in (slice_get ts place) row) → IsTrue (fits_in (slice_get (created ts what) place) row)
-kept-created ts (Create name schema grid) place row fit = kept-append ts (record { name = name; schema = schema; shape = grid; memory = None } ∷ []) place row fit
+kept-created : (ts : List TableInfo) (what : What) (place : ℕ) (row : Option Row) → IsTrue (fits_in (slice_get ts place) row)
+    → IsTrue (fits_in (slice_get (created ts what) place) row)
+kept-created ts (Create name schema grid) place row fit =
+    kept-append ts (record { name = name; schema = schema; shape = grid; memory = None } ∷ []) place row fit
 kept-created ts (Memory zero priority) place row fit = fit
 kept-created ts (Memory (suc at) priority) place row fit = kept-memory at priority ts place row fit
 kept-created ts _ place row fit = fit
@@ -57,7 +61,8 @@ Fits-push h entry change = by change.table
     by (suc before) fit = rw (tables-push h entry) (kept-created (tables h) entry.what before change.row fit)
 
 -- what an insert puts
-put_from-fits : (h : History) (table first : ℕ) (made : TableInfo) (news : List Row) → table_at h table ≡ Some made → All (λ row. IsTrue (fits row made.schema)) news → All (Fits h) (put_from table first news)
+put_from-fits : (h : History) (table first : ℕ) (made : TableInfo) (news : List Row) → table_at h table ≡ Some made
+    → All (λ row. IsTrue (fits row made.schema)) news → All (Fits h) (put_from table first news)
 put_from-fits h table first made [] is fit = All-nil (Fits h)
 put_from-fits h table first made (row ∷ news) is fit =
     All-cons (Fits h) (record { table = table; rid = first; row = Some row }) (put_from table (first + 1) news)
@@ -65,18 +70,24 @@ put_from-fits h table first made (row ∷ news) is fit =
     (put_from-fits h table (first + 1) made news is (All-tail (λ r. IsTrue (fits r made.schema)) row news fit))
 
 -- what a write to rows that a cursor saw puts
-rewritten-fits : (h : History) (table : ℕ) (made : TableInfo) (changes : List Change) → table_at h table ≡ Some made → All (λ change. change.table ≡ table) changes → All (λ change. IsTrue (row_fits made.schema change.row)) changes → All (Fits h) changes
+rewritten-fits : (h : History) (table : ℕ) (made : TableInfo) (changes : List Change) → table_at h table ≡ Some made
+    → All (λ change. change.table ≡ table) changes → All (λ change. IsTrue (row_fits made.schema change.row)) changes → All (Fits h) changes
 rewritten-fits h table made [] is same fit = All-nil (Fits h)
 rewritten-fits h table made (change ∷ changes) is same fit =
     All-cons (Fits h) change changes
     (ap (λ (n : ℕ). fits_in (table_at h n) change.row) (All-head (λ c. c.table ≡ table) change changes same)
     ∙ (ap (λ (t : Option TableInfo). fits_in t change.row) is ∙ All-head (λ c. IsTrue (row_fits made.schema c.row)) change changes fit))
-    (rewritten-fits h table made changes is (All-tail (λ c. c.table ≡ table) change changes same) (All-tail (λ c. IsTrue (row_fits made.schema c.row)) change changes fit))
+    (rewritten-fits h table made changes is (All-tail (λ c. c.table ≡ table) change changes same)
+    (All-tail (λ c. IsTrue (row_fits made.schema c.row)) change changes fit))
 
 written-fits : (limits : Limits) (h : History) (who : ℕ) (changes : List Change) → IsAllowed limits h who (Write changes) → All (Fits h) changes
 written-fits limits h who changes allowed =
-    ⊎_elim (λ (insert : IsInsert limits h who changes). rw insert.next (put_from-fits h insert.table _ insert.may.exists.made insert.rows insert.may.exists.is insert.may.fit))
-    (λ (write : IsRewrite limits h who changes). rewritten-fits h write.may.opened.view.table write.may.exists.made changes write.may.exists.is write.may.same write.may.fit) allowed
+    ⊎_elim
+    (λ (insert : IsInsert limits h who changes). rw insert.next
+    (put_from-fits h insert.table _ insert.may.exists.made insert.rows insert.may.exists.is insert.may.fit))
+    (λ (write : IsRewrite limits h who changes). rewritten-fits h write.may.opened.view.table write.may.exists.made changes write.may.exists.is write.may.same
+    write.may.fit)
+    allowed
 
 -- all that is pending fits, and all that was committed
 record AllFits (h : History) : Type 0 where
@@ -90,7 +101,10 @@ AllFits-nil = record { waiting = λ who. All-nil (Fits []); done = All-nil (All 
 AllFits-push : (limits : Limits) (h : History) (entry : Entry) → IsAllowed limits h entry.who entry.what → AllFits h → AllFits (h ++ entry ∷ [])
 AllFits-push limits h entry allowed so_far = record {
   waiting = λ who. rw (pending-push h entry who) (later _ (mine who (entry.who == who)));
-  done = rw (commits-push h entry) (All-append (All (Fits (h ++ entry ∷ []))) (commits h) (committed_by h entry.who entry.what) (each_later (commits h) so_far.done) (each_later _ (committed entry.what)));
+  done =
+      rw (commits-push h entry)
+      (All-append (All (Fits (h ++ entry ∷ []))) (commits h) (committed_by h entry.who entry.what) (each_later (commits h) so_far.done)
+      (each_later _ (committed entry.what)));
 }
   where
     later : (changes : List Change) → All (Fits h) changes → All (Fits (h ++ entry ∷ [])) changes
@@ -119,14 +133,18 @@ all_fits limits = each_history (λ h. IsLegal limits h → AllFits h) (λ legal.
     (λ h entry so_far legal. let before = IsLegal-pop limits h entry legal in AllFits-push limits h entry before.1 (so_far before.0))
 
 -- a change that fits puts what fits its table
-put-fits : (h : History) (table : ℕ) (made : TableInfo) (change : Change) → table_at h table ≡ Some made → Fits h change → change.table ≡ table → IsTrue (row_fits made.schema change.row)
-put-fits h table made change is fit same = ap (λ (t : Option TableInfo). fits_in t change.row) (sym is) ∙ (ap (λ (n : ℕ). fits_in (table_at h n) change.row) (sym same) ∙ fit)
+put-fits : (h : History) (table : ℕ) (made : TableInfo) (change : Change) → table_at h table ≡ Some made → Fits h change → change.table ≡ table
+    → IsTrue (row_fits made.schema change.row)
+put-fits h table made change is fit same =
+    ap (λ (t : Option TableInfo). fits_in t change.row) (sym is) ∙ (ap (λ (n : ℕ). fits_in (table_at h n) change.row) (sym same) ∙ fit)
 
 -- changes that fit leave rows that fit
-fold-fits : (h : History) (table rid : ℕ) (made : TableInfo) (start : Option Row) (changes : List Change) → table_at h table ≡ Some made → IsTrue (row_fits made.schema start) → All (Fits h) changes → IsTrue (row_fits made.schema (fold (row_after table rid) start changes))
+fold-fits : (h : History) (table rid : ℕ) (made : TableInfo) (start : Option Row) (changes : List Change) → table_at h table ≡ Some made
+    → IsTrue (row_fits made.schema start) → All (Fits h) changes → IsTrue (row_fits made.schema (fold (row_after table rid) start changes))
 fold-fits h table rid made start [] is fit all = fit
 fold-fits h table rid made start (change ∷ changes) is fit all =
-    fold-fits h table rid made (row_after table rid start change) changes is (by (change.table == table) (change.rid == rid) refl) (All-tail (Fits h) change changes all)
+    fold-fits h table rid made (row_after table rid start change) changes is (by (change.table == table) (change.rid == rid) refl)
+    (All-tail (Fits h) change changes all)
   where
     by : (to_it to_row : Bool) → (change.table == table) ≡ to_it → IsTrue (row_fits made.schema (if to_it && to_row then change.row else start))
     by true true e = put-fits h table made change is (All-head (Fits h) change changes all) (grind (arith, nat_tests))
@@ -135,35 +153,51 @@ fold-fits h table rid made start (change ∷ changes) is fit all =
 
 each-flat_map : (P : Change → Type 0) (lists : List (List Change)) → All (All P) lists → All P (flat_map (λ changes. changes) lists)
 each-flat_map P [] all = All-nil P
-each-flat_map P (changes ∷ lists) all = All-append P changes (flat_map (λ c. c) lists) (All-head (All P) changes lists all) (each-flat_map P lists (All-tail (All P) changes lists all))
+each-flat_map P (changes ∷ lists) all =
+    All-append P changes (flat_map (λ c. c) lists) (All-head (All P) changes lists all) (each-flat_map P lists (All-tail (All P) changes lists all))
 
 present-fits : (made : TableInfo) (found : Option Row) (row : Row) → IsTrue (row_fits made.schema found) → found ≡ Some row → fits row made.schema ≡ true
 present-fits made found row fit is = rw is at fit
 
 -- of changes that fit, those to a table put what fits it
-own-fit : (h : History) (table : ℕ) (made : TableInfo) (changes : List Change) → table_at h table ≡ Some made → All (Fits h) changes → All (λ change. IsTrue (row_fits made.schema change.row)) (filter (λ change. change.table == table) changes)
+own-fit : (h : History) (table : ℕ) (made : TableInfo) (changes : List Change) → table_at h table ≡ Some made → All (Fits h) changes
+    → All (λ change. IsTrue (row_fits made.schema change.row)) (filter (λ change. change.table == table) changes)
 own-fit h table made [] is all = All-nil _
 own-fit h table made (change ∷ changes) is all = by (change.table == table) refl (own-fit h table made changes is (All-tail (Fits h) change changes all))
   where
-    by : (to_it : Bool) → (change.table == table) ≡ to_it → All (λ c. IsTrue (row_fits made.schema c.row)) (filter (λ c. c.table == table) changes) → All (λ c. IsTrue (row_fits made.schema c.row)) (if to_it then change ∷ filter (λ c. c.table == table) changes else filter (λ c. c.table == table) changes)
-    by true e rest = All-cons (λ c. IsTrue (row_fits made.schema c.row)) change (filter (λ c. c.table == table) changes) (put-fits h table made change is (All-head (Fits h) change changes all) (grind (arith, nat_tests))) rest
+    by : (to_it : Bool) → (change.table == table) ≡ to_it → All (λ c. IsTrue (row_fits made.schema c.row)) (filter (λ c. c.table == table) changes)
+        → All (λ c. IsTrue (row_fits made.schema c.row))
+        (if to_it then change ∷ filter (λ c. c.table == table) changes else filter (λ c. c.table == table) changes)
+    by true e rest =
+        All-cons (λ c. IsTrue (row_fits made.schema c.row)) change (filter (λ c. c.table == table) changes)
+        (put-fits h table made change is (All-head (Fits h) change changes all) (grind (arith, nat_tests))) rest
     by false e rest = rest
 
 -- what a session has pending to a table that stands fits it
-pub pending-fits : (limits : Limits) (h : History) (who table : ℕ) (made : TableInfo) → IsLegal limits h → table_at h table ≡ Some made → All (λ change. IsTrue (row_fits made.schema change.row)) (own_changes h who table)
+pub pending-fits : (limits : Limits) (h : History) (who table : ℕ) (made : TableInfo) → IsLegal limits h → table_at h table ≡ Some made
+    → All (λ change. IsTrue (row_fits made.schema change.row)) (own_changes h who table)
 pending-fits limits h who table made legal is = own-fit h table made (pending h who) is ((all_fits limits h legal).waiting who)
 
-committed-fit : (limits : Limits) (h : History) (table scn rid : ℕ) (made : TableInfo) → IsLegal limits h → table_at h table ≡ Some made → IsTrue (row_fits made.schema (rows h table scn rid))
+committed-fit : (limits : Limits) (h : History) (table scn rid : ℕ) (made : TableInfo) → IsLegal limits h → table_at h table ≡ Some made
+    → IsTrue (row_fits made.schema (rows h table scn rid))
 unfolding rows
 committed-fit limits h table scn rid made legal is =
-    fold-fits h table rid made None (changes_to h scn) is refl (each-flat_map (Fits h) (take scn (commits h)) (All-take (All (Fits h)) scn (commits h) (all_fits limits h legal).done))
+    fold-fits h table rid made None (changes_to h scn) is refl
+    (each-flat_map (Fits h) (take scn (commits h)) (All-take (All (Fits h)) scn (commits h) (all_fits limits h legal).done))
 
 -- each row that was committed to a table that stands fits it
-pub rows-fit : (limits : Limits) (h : History) (table scn rid : ℕ) (made : TableInfo) (row : Row) → IsLegal limits h → table_at h table ≡ Some made → rows h table scn rid ≡ Some row → fits row made.schema ≡ true
-rows-fit limits h table scn rid made row legal is found = present-fits made (rows h table scn rid) row (committed-fit limits h table scn rid made legal is) found
+pub rows-fit : (limits : Limits) (h : History) (table scn rid : ℕ) (made : TableInfo) (row : Row) → IsLegal limits h → table_at h table ≡ Some made
+    → rows h table scn rid ≡ Some row → fits row made.schema ≡ true
+rows-fit limits h table scn rid made row legal is found =
+    present-fits made (rows h table scn rid) row (committed-fit limits h table scn rid made legal is) found
 
 -- each row that a statement sees of a table that stands fits it
-pub seen-fits : (limits : Limits) (h : History) (who table rid : ℕ) (made : TableInfo) (row : Row) → IsLegal limits h → table_at h table ≡ Some made → seen_by h (view_at h who table) rid ≡ Some row → fits row made.schema ≡ true
+pub seen-fits : (limits : Limits) (h : History) (who table rid : ℕ) (made : TableInfo) (row : Row) → IsLegal limits h → table_at h table ≡ Some made
+    → seen_by h (view_at h who table) rid ≡ Some row → fits row made.schema ≡ true
 unfolding seen
 seen-fits limits h who table rid made row legal is found =
-    present-fits made _ row (fold-fits h table rid made (rows h table (snapshot h who) rid) (own_changes h who table) is (committed-fit limits h table (snapshot h who) rid made legal is) (All-filter (λ change. change.table == table) (Fits h) (pending h who) ((all_fits limits h legal).waiting who))) found
+    present-fits made _ row
+    (fold-fits h table rid made (rows h table (snapshot h who) rid) (own_changes h who table) is
+    (committed-fit limits h table (snapshot h who) rid made legal is)
+    (All-filter (λ change. change.table == table) (Fits h) (pending h who) ((all_fits limits h legal).waiting who)))
+    found

@@ -12,7 +12,8 @@ given_by-grows : (table n : ℕ) (changes : List Change) → n ≤ given_by tabl
 given_by-grows table n [] = omega arith
 given_by-grows table n (change ∷ changes) = by (change.table == table) (given_by-grows table n changes) (given_by-grows table (max n (change.rid + 1)) changes)
   where
-    by : (b : Bool) → n ≤ given_by table n changes → max n (change.rid + 1) ≤ given_by table (max n (change.rid + 1)) changes → n ≤ given_by table (if b then max n (change.rid + 1) else n) changes
+    by : (b : Bool) → n ≤ given_by table n changes → max n (change.rid + 1) ≤ given_by table (max n (change.rid + 1)) changes
+        → n ≤ given_by table (if b then max n (change.rid + 1) else n) changes
     by true same more = omega (arith, more)
     by false same more = same
 

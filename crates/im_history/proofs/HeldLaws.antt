@@ -78,16 +78,19 @@ held_once is = cc
 of_some : {a b : Held} → Some a ≡ Some b → a ≡ b
 of_some is = cc
 
-map_within : (h : History) (place : ℕ) (what : What) (before : Option Held) (held : Held) → ((held : Held) → before ≡ Some held → IsWithin h held) → option_map (killed_by place what) before ≡ Some held → IsWithin h held
+map_within : (h : History) (place : ℕ) (what : What) (before : Option Held) (held : Held) → ((held : Held) → before ≡ Some held → IsWithin h held)
+    → option_map (killed_by place what) before ≡ Some held → IsWithin h held
 map_within h place what None held each is = absurd (held_once is)
 map_within h place what (Some first) held each is = subst (IsWithin h) (of_some is) (IsWithin-killed h place what first (each first refl))
 
-or_within : (h : History) (before : Option Held) (mine : Bool) (new held : Held) → ((held : Held) → before ≡ Some held → IsWithin h held) → IsWithin h new → option_or before (if mine then Some new else None) ≡ Some held → IsWithin h held
+or_within : (h : History) (before : Option Held) (mine : Bool) (new held : Held) → ((held : Held) → before ≡ Some held → IsWithin h held) → IsWithin h new
+    → option_or before (if mine then Some new else None) ≡ Some held → IsWithin h held
 or_within h (Some first) mine new held each begun is = subst (IsWithin h) (of_some is) (each first refl)
 or_within h None true new held each begun is = subst (IsWithin h) (of_some is) begun
 or_within h None false new held each begun is = absurd (held_once is)
 
-unless_within : (h : History) (before : Option Held) (ended : Bool) (held : Held) → ((held : Held) → before ≡ Some held → IsWithin h held) → (if ended then None else before) ≡ Some held → IsWithin h held
+unless_within : (h : History) (before : Option Held) (ended : Bool) (held : Held) → ((held : Held) → before ≡ Some held → IsWithin h held)
+    → (if ended then None else before) ≡ Some held → IsWithin h held
 unless_within h before true held each is = absurd (held_once is)
 unless_within h before false held each is = each held is
 
@@ -97,10 +100,13 @@ EachWithin-push limits h entry allowed so_far = record { each = λ id held is. I
     plain : (id : ℕ) (held : Held) → is_plain entry.what ≡ true → held_at (h ++ entry ∷ []) id ≡ Some held → IsWithin h held
     plain id held is_one is = map_within h (length h) entry.what (held_at h id) held (so_far.each id) (sym (held_at-plain h entry id is_one) ∙ is)
 
-    by : (what : What) → entry.what ≡ what → IsAllowed limits h entry.who what → (id : ℕ) (held : Held) → held_at (h ++ entry ∷ []) id ≡ Some held → IsWithin h held
+    by : (what : What) → entry.what ≡ what → IsAllowed limits h entry.who what → (id : ℕ) (held : Held) → held_at (h ++ entry ∷ []) id ≡ Some held
+        → IsWithin h held
     by (Build number table extent trickle) same may id held is =
-        or_within h (held_at h id) (number == id) (begun_at h entry.who number table extent trickle) held (so_far.each id) (IsWithin-begun h entry.who number table extent trickle may)
-        (sym (held_at-build h entry.who number table extent trickle id) ∙ (ap (λ (w : What). held_at (h ++ record { who = entry.who; what = w } ∷ []) id) (sym same) ∙ is))
+        or_within h (held_at h id) (number == id) (begun_at h entry.who number table extent trickle) held (so_far.each id)
+        (IsWithin-begun h entry.who number table extent trickle may)
+        (sym (held_at-build h entry.who number table extent trickle id)
+        ∙ (ap (λ (w : What). held_at (h ++ record { who = entry.who; what = w } ∷ []) id) (sym same) ∙ is))
     by (Switch number) same may id held is =
         unless_within h (held_at h id) (id == number) held (so_far.each id)
         (sym (held_at-switch h entry.who number id) ∙ (ap (λ (w : What). held_at (h ++ record { who = entry.who; what = w } ∷ []) id) (sym same) ∙ is))

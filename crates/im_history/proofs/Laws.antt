@@ -25,15 +25,18 @@ pub given-push : (h : History) (entry : Entry) (table : ℕ) → given (h ++ ent
 unfolding given
 given-push h entry table = replay-push (λ before so_far e. given_after table so_far e.what) 0 h entry
 
-pub pending-push : (h : History) (entry : Entry) (who : ℕ) → pending (h ++ entry ∷ []) who ≡ (if entry.who == who then pending_after (pending h who) entry.what else pending h who)
+pub pending-push : (h : History) (entry : Entry) (who : ℕ)
+    → pending (h ++ entry ∷ []) who ≡ (if entry.who == who then pending_after (pending h who) entry.what else pending h who)
 unfolding pending
 pending-push h entry who = replay-push (λ before so_far e. if e.who == who then pending_after so_far e.what else so_far) [] h entry
 
-pub begun-push : (h : History) (entry : Entry) (who : ℕ) → begun (h ++ entry ∷ []) who ≡ (if entry.who == who then begun_after (length h) (begun h who) entry.what else begun h who)
+pub begun-push : (h : History) (entry : Entry) (who : ℕ)
+    → begun (h ++ entry ∷ []) who ≡ (if entry.who == who then begun_after (length h) (begun h who) entry.what else begun h who)
 unfolding begun
 begun-push h entry who = replay-push (λ before so_far e. if e.who == who then begun_after (length before) so_far e.what else so_far) None h entry
 
-pub mode-push : (h : History) (entry : Entry) (who : ℕ) → mode (h ++ entry ∷ []) who ≡ (if entry.who == who then mode_after (mode h who) entry.what else mode h who)
+pub mode-push : (h : History) (entry : Entry) (who : ℕ)
+    → mode (h ++ entry ∷ []) who ≡ (if entry.who == who then mode_after (mode h who) entry.what else mode h who)
 unfolding mode
 mode-push h entry who = replay-push (λ before so_far e. if e.who == who then mode_after so_far e.what else so_far) Committed h entry
 
@@ -41,11 +44,13 @@ pub commits-push : (h : History) (entry : Entry) → commits (h ++ entry ∷ [])
 unfolding commits
 commits-push h entry = replay-push (λ before so_far e. so_far ++ committed_by before e.who e.what) [] h entry
 
-pub opened-push : (h : History) (entry : Entry) (who : ℕ) → opened (h ++ entry ∷ []) who ≡ (if entry.who == who then opened_after h who (opened h who) entry.what else opened h who)
+pub opened-push : (h : History) (entry : Entry) (who : ℕ)
+    → opened (h ++ entry ∷ []) who ≡ (if entry.who == who then opened_after h who (opened h who) entry.what else opened h who)
 unfolding opened
 opened-push h entry who = replay-push (λ before so_far e. if e.who == who then opened_after before who so_far e.what else so_far) [] h entry
 
-pub last_touch-push : (h : History) (entry : Entry) (table rid : ℕ) → last_touch (h ++ entry ∷ []) table rid ≡ touched_after table rid h (last_touch h table rid) entry.who entry.what
+pub last_touch-push : (h : History) (entry : Entry) (table rid : ℕ)
+    → last_touch (h ++ entry ∷ []) table rid ≡ touched_after table rid h (last_touch h table rid) entry.who entry.what
 unfolding last_touch
 last_touch-push h entry table rid = replay-push (λ before so_far e. touched_after table rid before so_far e.who e.what) 0 h entry
 
@@ -64,7 +69,9 @@ scn-nil = refl
 
 -- the SCN is one more after an entry that commits
 pub scn-push : (h : History) (entry : Entry) → scn (h ++ entry ∷ []) ≡ scn h + (if moves_clock entry.what then 1 else 0)
-scn-push h entry = ap length (commits-push h entry) ∙ (length-append (commits h) (committed_by h entry.who entry.what) ∙ ap (λ n. scn h + n) (length-committed_by h entry.who entry.what))
+scn-push h entry =
+    ap length (commits-push h entry)
+    ∙ (length-append (commits h) (committed_by h entry.who entry.what) ∙ ap (λ n. scn h + n) (length-committed_by h entry.who entry.what))
 
 IsLegalFrom-push : (limits : Limits) (before h : History) (entry : Entry) → IsLegalFrom limits before h
     → MayFollow limits (before ++ h) entry → IsLegalFrom limits before (h ++ entry ∷ [])

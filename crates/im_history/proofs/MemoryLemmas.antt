@@ -4,13 +4,16 @@ use Rattle.im_values.specs.declared.priority.Priority.{Priority}
 use Rattle.im_history.specs.declared.look.TableInfo.{TableInfo}
 use Rattle.im_history.specs.Tables.{remembered, with_memory}
 
-set_memory : (place : ℕ) (priority : Option Priority) (ts : List TableInfo) (default : TableInfo) → place < length ts → slice_set ts place (record (slice_index_or ts place default) { memory = priority }) ≡ with_memory place priority ts
+set_memory : (place : ℕ) (priority : Option Priority) (ts : List TableInfo) (default : TableInfo) → place < length ts
+    → slice_set ts place (record (slice_index_or ts place default) { memory = priority }) ≡ with_memory place priority ts
 set_memory place priority [] default within = absurd (omega (arith, within))
 set_memory zero priority (t ∷ ts) default within = refl
-set_memory (suc place) priority (t ∷ ts) default within = ap (λ (rest : List TableInfo). t ∷ rest) (set_memory place priority ts default (omega (arith, within)))
+set_memory (suc place) priority (t ∷ ts) default within =
+    ap (λ (rest : List TableInfo). t ∷ rest) (set_memory place priority ts default (omega (arith, within)))
 
 -- the table of this number was set
-pub set-remembered : (table : ℕ) (priority : Option Priority) (ts : List TableInfo) (default : TableInfo) → 0 < table → table ≤ length ts → slice_set ts (table - 1) (record (slice_index_or ts (table - 1) default) { memory = priority }) ≡ remembered table priority ts
+pub set-remembered : (table : ℕ) (priority : Option Priority) (ts : List TableInfo) (default : TableInfo) → 0 < table → table ≤ length ts
+    → slice_set ts (table - 1) (record (slice_index_or ts (table - 1) default) { memory = priority }) ≡ remembered table priority ts
 set-remembered zero priority ts default some within = absurd (omega (arith, some))
 set-remembered (suc place) priority ts default some within =
     let before : suc place - 1 ≡ place = omega arith in

@@ -35,7 +35,11 @@ pub record GoesOn (h longer : History) : Type 0 where
 GoesOn-push : (h longer : History) (entry : Entry) → GoesOn h longer → GoesOn h (longer ++ entry ∷ [])
 GoesOn-push h longer entry on = record {
   later = on.later ++ committed_by longer entry.who entry.what;
-  is = commits-push longer entry ∙ (ap (λ (l : List (List Change)). l ++ committed_by longer entry.who entry.what) on.is ∙ append_assoc (commits h) on.later (committed_by longer entry.who entry.what));
+  is =
+      commits-push longer entry
+      ∙
+      (ap (λ (l : List (List Change)). l ++ committed_by longer entry.who entry.what) on.is
+      ∙ append_assoc (commits h) on.later (committed_by longer entry.who entry.what));
 }
 
 pub commits-append : (h k : History) → GoesOn h (h ++ k)
@@ -57,7 +61,8 @@ rows-append h k table n rid within =
 pub rows_past : (h : History) (table n rid : ℕ) → scn h ≤ n → rows h table n rid ≡ rows h table (scn h) rid
 unfolding rows
 rows_past h table n rid past =
-    ap (λ (list : List (List Change)). fold (row_after table rid) None (flat_map (λ changes. changes) list)) (take_all n (commits h) past ∙ sym (take_all (scn h) (commits h) (le_refl _)))
+    ap (λ (list : List (List Change)). fold (row_after table rid) None (flat_map (λ changes. changes) list))
+    (take_all n (commits h) past ∙ sym (take_all (scn h) (commits h) (le_refl _)))
 
 committed_by_quiet : (h : History) (who : ℕ) (what : What) → moves_clock what ≡ false → committed_by h who what ≡ []
 committed_by_quiet h who Commit quiet = absurd (false≢true (sym quiet))
@@ -65,7 +70,8 @@ committed_by_quiet h who (Create name schema grid) quiet = absurd (false≢true 
 committed_by_quiet h who _ quiet = refl
 
 pub commits-push_quiet : (h : History) (entry : Entry) → moves_clock entry.what ≡ false → commits (h ++ entry ∷ []) ≡ commits h
-commits-push_quiet h entry quiet = commits-push h entry ∙ (ap (λ (l : List (List Change)). commits h ++ l) (committed_by_quiet h entry.who entry.what quiet) ∙ append-nil (commits h))
+commits-push_quiet h entry quiet =
+    commits-push h entry ∙ (ap (λ (l : List (List Change)). commits h ++ l) (committed_by_quiet h entry.who entry.what quiet) ∙ append-nil (commits h))
 
 -- an entry that commits nothing changes no committed row
 pub rows-push_quiet : (h : History) (entry : Entry) (table n rid : ℕ) → moves_clock entry.what ≡ false → rows (h ++ entry ∷ []) table n rid ≡ rows h table n rid
@@ -73,7 +79,8 @@ unfolding rows
 rows-push_quiet h entry table n rid quiet = ap (λ (list : List (List Change)). row_after_commits list table n rid) (commits-push_quiet h entry quiet)
 
 -- the row after all commits and one more
-row_after-push : (list : List (List Change)) (changes : List Change) (table n rid : ℕ) → length list < n → row_after_commits (list ++ changes ∷ []) table n rid ≡ fold (row_after table rid) (fold (row_after table rid) None (flat_map (λ c. c) list)) changes
+row_after-push : (list : List (List Change)) (changes : List Change) (table n rid : ℕ) → length list < n
+    → row_after_commits (list ++ changes ∷ []) table n rid ≡ fold (row_after table rid) (fold (row_after table rid) None (flat_map (λ c. c) list)) changes
 row_after-push list changes table n rid past =
     let long : length (list ++ changes ∷ []) ≡ length list + 1 = length_push list changes in
     ap (λ (l : List (List Change)). fold (row_after table rid) None (flat_map (λ c. c) l)) (take_all n (list ++ changes ∷ []) (omega arith))
@@ -82,18 +89,24 @@ row_after-push list changes table n rid past =
     ∙ ap (fold (row_after table rid) (fold (row_after table rid) None (flat_map (λ c. c) list))) (append-nil changes)))
 
 -- the creation of a table changes no committed row
-pub rows-push_create : (h : History) (who : ℕ) (name : List ℕ) (schema : List Column) (grid : Grid) (table n rid : ℕ) → rows (h ++ record { who = who; what = Create name schema grid } ∷ []) table n rid ≡ rows h table n rid
+pub rows-push_create : (h : History) (who : ℕ) (name : List ℕ) (schema : List Column) (grid : Grid) (table n rid : ℕ)
+    → rows (h ++ record { who = who; what = Create name schema grid } ∷ []) table n rid ≡ rows h table n rid
 unfolding rows
 rows-push_create h who name schema grid table n rid =
     ap (λ (list : List (List Change)). row_after_commits list table n rid) (commits-push h (record { who = who; what = Create name schema grid }))
-    ∙ ⊎_elim (λ (past : scn h < n). row_after-push (commits h) [] table n rid past ∙ ap (λ (list : List (List Change)). fold (row_after table rid) None (flat_map (λ c. c) list)) (sym (take_all n (commits h) (omega arith))))
-    (λ (within : n ≤ scn h). ap (λ (list : List (List Change)). fold (row_after table rid) None (flat_map (λ c. c) list)) (take-append-le n (commits h) ([] ∷ []) within))
+    ∙ ⊎_elim
+    (λ (past : scn h < n). row_after-push (commits h) [] table n rid past
+    ∙ ap (λ (list : List (List Change)). fold (row_after table rid) None (flat_map (λ c. c) list)) (sym (take_all n (commits h) (omega arith))))
+    (λ (within : n ≤ scn h). ap (λ (list : List (List Change)). fold (row_after table rid) None (flat_map (λ c. c) list))
+    (take-append-le n (commits h) ([] ∷ []) within))
     (cases_lt (scn h) n)
 
 -- after a commit the rows at its SCN, and above it, are those before it, changed by what its session had pending
-pub rows-push_commit : (h : History) (who table n rid : ℕ) → scn h < n → rows (h ++ record { who = who; what = Commit } ∷ []) table n rid ≡ fold (row_after table rid) (rows h table (scn h) rid) (pending h who)
+pub rows-push_commit : (h : History) (who table n rid : ℕ) → scn h < n
+    → rows (h ++ record { who = who; what = Commit } ∷ []) table n rid ≡ fold (row_after table rid) (rows h table (scn h) rid) (pending h who)
 unfolding rows
 rows-push_commit h who table n rid past =
     ap (λ (list : List (List Change)). row_after_commits list table n rid) (commits-push h (record { who = who; what = Commit }))
     ∙ (row_after-push (commits h) (pending h who) table n rid past
-    ∙ ap (λ (list : List (List Change)). fold (row_after table rid) (fold (row_after table rid) None (flat_map (λ c. c) list)) (pending h who)) (sym (take_all (scn h) (commits h) (le_refl _))))
+    ∙ ap (λ (list : List (List Change)). fold (row_after table rid) (fold (row_after table rid) None (flat_map (λ c. c) list)) (pending h who))
+    (sym (take_all (scn h) (commits h) (le_refl _))))

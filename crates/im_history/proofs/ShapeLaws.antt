@@ -23,7 +23,9 @@ record HasShapes (ts : List TableInfo) : Type 0 where
 none_there : {X : Type 0} (x : X) → None ≡ Some x → ⊥
 none_there x is = false≢true (ap is_some is)
 
-appended : (ts : List TableInfo) (new : TableInfo) (place : ℕ) (made : TableInfo) → ((place : ℕ) (made : TableInfo) → slice_get ts place ≡ Some made → 1 ≤ per_extent made.shape) → 1 ≤ per_extent new.shape → slice_get (ts ++ new ∷ []) place ≡ Some made → 1 ≤ per_extent made.shape
+appended : (ts : List TableInfo) (new : TableInfo) (place : ℕ) (made : TableInfo)
+    → ((place : ℕ) (made : TableInfo) → slice_get ts place ≡ Some made → 1 ≤ per_extent made.shape) → 1 ≤ per_extent new.shape
+    → slice_get (ts ++ new ∷ []) place ≡ Some made → 1 ≤ per_extent made.shape
 appended [] new zero made each some is = let same : new ≡ made = cc in subst (λ (t : TableInfo). 1 ≤ per_extent t.shape) same some
 appended [] new (suc place) made each some is = absurd (none_there made is)
 appended (t ∷ ts) new zero made each some is = each zero made is
@@ -35,7 +37,9 @@ shapes-append ts new shapes some = record { each = λ place made is. appended ts
 the_same : (x y : TableInfo) → Some x ≡ Some y → x ≡ y
 the_same x y is = cc
 
-remembered_at : (at : ℕ) (priority : Option Priority) (ts : List TableInfo) (place : ℕ) (made : TableInfo) → ((place : ℕ) (made : TableInfo) → slice_get ts place ≡ Some made → 1 ≤ per_extent made.shape) → slice_get (with_memory at priority ts) place ≡ Some made → 1 ≤ per_extent made.shape
+remembered_at : (at : ℕ) (priority : Option Priority) (ts : List TableInfo) (place : ℕ) (made : TableInfo)
+    → ((place : ℕ) (made : TableInfo) → slice_get ts place ≡ Some made → 1 ≤ per_extent made.shape) → slice_get (with_memory at priority ts) place ≡ Some made
+    → 1 ≤ per_extent made.shape
 remembered_at at priority [] place made each is = absurd (none_there made is)
 remembered_at zero priority (t ∷ ts) zero made each is =
     let same : t.shape ≡ made.shape = ap (λ (i : TableInfo). i.shape) (the_same _ _ is) in
@@ -44,12 +48,14 @@ remembered_at zero priority (t ∷ ts) (suc place) made each is = each (suc plac
 remembered_at (suc at) priority (t ∷ ts) zero made each is = each zero made is
 remembered_at (suc at) priority (t ∷ ts) (suc place) made each is = remembered_at at priority ts place made (λ p m found. each (suc p) m found) is
 
-shapes-created : (limits : Limits) (h : History) (who : ℕ) (ts : List TableInfo) (what : What) → HasShapes ts → IsAllowed limits h who what → HasShapes (created ts what)
+shapes-created : (limits : Limits) (h : History) (who : ℕ) (ts : List TableInfo) (what : What) → HasShapes ts → IsAllowed limits h who what
+    → HasShapes (created ts what)
 shapes-created limits h who ts (Create name schema grid) shapes allowed =
     let product : 1 * 1 ≤ grid.block * grid.extent = mul-le-mul allowed.shape.0.some allowed.shape.1.some in
     shapes-append ts (record { name = name; schema = schema; shape = grid; memory = None }) shapes (omega (arith, product))
 shapes-created limits h who ts (Memory zero priority) shapes allowed = shapes
-shapes-created limits h who ts (Memory (suc at) priority) shapes allowed = record { each = λ place made is. remembered_at at priority ts place made shapes.each is }
+shapes-created limits h who ts (Memory (suc at) priority) shapes allowed =
+    record { each = λ place made is. remembered_at at priority ts place made shapes.each is }
 shapes-created limits h who ts _ shapes allowed = shapes
 
 record HasLegalShapes (limits : Limits) (h : History) : Type 0 where
@@ -76,4 +82,5 @@ among ts (suc before) shapes = per_of (slice_get ts before) (λ made is. shapes.
 
 -- each extent of each table has at least one row number
 pub per_at-some : (limits : Limits) (h : History) (table : ℕ) → IsLegal limits h → 1 ≤ per_at h table
-per_at-some limits h table legal = among (tables h) table ((each_history (HasLegalShapes limits) (HasLegalShapes-nil limits) (HasLegalShapes-push limits) h).shapes legal)
+per_at-some limits h table legal =
+    among (tables h) table ((each_history (HasLegalShapes limits) (HasLegalShapes-nil limits) (HasLegalShapes-push limits) h).shapes legal)

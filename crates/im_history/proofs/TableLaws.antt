@@ -32,7 +32,8 @@ stays-append [] more place made is = absurd (found_none made is)
 stays-append (t ∷ ts) more zero made is = stays made (Some t) is
 stays-append (t ∷ ts) more (suc place) made is = stays-append ts more place made is
 
-stays-memory : (at : ℕ) (priority : Option Priority) (ts : List TableInfo) (place : ℕ) (made : TableInfo) → slice_get ts place ≡ Some made → StaysAs made (slice_get (with_memory at priority ts) place)
+stays-memory : (at : ℕ) (priority : Option Priority) (ts : List TableInfo) (place : ℕ) (made : TableInfo) → slice_get ts place ≡ Some made
+    → StaysAs made (slice_get (with_memory at priority ts) place)
 stays-memory at priority [] place made is = absurd (found_none made is)
 stays-memory zero priority (t ∷ ts) zero made is =
     let same : t ≡ made = cc in
@@ -41,13 +42,16 @@ stays-memory zero priority (t ∷ ts) (suc place) made is = stays made (slice_ge
 stays-memory (suc at) priority (t ∷ ts) zero made is = stays made (Some t) is
 stays-memory (suc at) priority (t ∷ ts) (suc place) made is = stays-memory at priority ts place made is
 
-stays-created : (ts : List TableInfo) (what : What) (place : ℕ) (made : TableInfo) → slice_get ts place ≡ Some made → StaysAs made (slice_get (created ts what) place)
-stays-created ts (Create name schema grid) place made is = stays-append ts (record { name = name; schema = schema; shape = grid; memory = None } ∷ []) place made is
+stays-created : (ts : List TableInfo) (what : What) (place : ℕ) (made : TableInfo) → slice_get ts place ≡ Some made
+    → StaysAs made (slice_get (created ts what) place)
+stays-created ts (Create name schema grid) place made is =
+    stays-append ts (record { name = name; schema = schema; shape = grid; memory = None } ∷ []) place made is
 stays-created ts (Memory zero priority) place made is = stays made (slice_get ts place) is
 stays-created ts (Memory (suc at) priority) place made is = stays-memory at priority ts place made is
 stays-created ts _ place made is = stays made (slice_get ts place) is
 
-stays-among : (ts : List TableInfo) (what : What) (table : ℕ) (made : TableInfo) → table_among ts table ≡ Some made → StaysAs made (table_among (created ts what) table)
+stays-among : (ts : List TableInfo) (what : What) (table : ℕ) (made : TableInfo) → table_among ts table ≡ Some made
+    → StaysAs made (table_among (created ts what) table)
 stays-among ts what zero made is = absurd (found_none made is)
 stays-among ts what (suc before) made is = stays-created ts what before made is
 

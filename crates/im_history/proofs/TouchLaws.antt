@@ -14,7 +14,9 @@ use Rattle.im_history.proofs.RowLaws.{each_history}
 use Rattle.im_history.proofs.UnitLaws.{touched_between-push}
 
 -- after a commit the rows that it touched count too, where its SCN is between
-pub touched_between-commit : (h : History) (who after to table rid : ℕ) → touched_between (h ++ record { who = who; what = Commit } ∷ []) after to table rid ≡ (touched_between h after to table rid || ((nat_le after (scn h) && nat_lt (scn h) to) && touches (pending h who) table rid))
+pub touched_between-commit : (h : History) (who after to table rid : ℕ)
+    → touched_between (h ++ record { who = who; what = Commit } ∷ []) after to table rid
+    ≡ (touched_between h after to table rid || ((nat_le after (scn h) && nat_lt (scn h) to) && touches (pending h who) table rid))
 touched_between-commit h who after to table rid = touched_between-push h (record { who = who; what = Commit }) after to table rid
 
 -- no commit behind an SCN that is not passed yet touched a row
@@ -25,7 +27,8 @@ IsUntouched-nil : (after to table rid : ℕ) → IsUntouched after to table rid 
 unfolding touched_between replay
 IsUntouched-nil after to table rid = record { is = λ past. refl }
 
-untouched_step : (table rid after to : ℕ) (h : History) (so_far : Bool) (who : ℕ) (what : What) → (scn h ≤ after → so_far ≡ false) → scn h + (if moves_clock what then 1 else 0) ≤ after → touched_between_after table rid after to h so_far who what ≡ false
+untouched_step : (table rid after to : ℕ) (h : History) (so_far : Bool) (who : ℕ) (what : What) → (scn h ≤ after → so_far ≡ false)
+    → scn h + (if moves_clock what then 1 else 0) ≤ after → touched_between_after table rid after to h so_far who what ≡ false
 untouched_step table rid after to h so_far who Commit before past =
     let earlier : so_far ≡ false = before (omega (arith, past)) in
     let behind : nat_le after (scn h) ≡ false = lt-leb after (scn h) (omega (arith, past)) in
@@ -41,4 +44,5 @@ IsUntouched-push after to table rid h entry untouched = record {
 
 -- so no row was touched since the present SCN
 pub touched_between-present : (h : History) (after to table rid : ℕ) → scn h ≤ after → touched_between h after to table rid ≡ false
-touched_between-present h after to table rid past = (each_history (IsUntouched after to table rid) (IsUntouched-nil after to table rid) (IsUntouched-push after to table rid) h).is past
+touched_between-present h after to table rid past =
+    (each_history (IsUntouched after to table rid) (IsUntouched-nil after to table rid) (IsUntouched-push after to table rid) h).is past

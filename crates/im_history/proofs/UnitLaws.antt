@@ -17,17 +17,22 @@ pub builds-push : (h : History) (entry : Entry) → builds (h ++ entry ∷ []) �
 unfolding builds
 builds-push h entry = replay-push (λ before so_far e. builds_after so_far e.what) 0 h entry
 
-pub living-push : (h : History) (entry : Entry) (table extent : ℕ) → living (h ++ entry ∷ []) table extent ≡ living_after table extent (living h table extent) entry.what
+pub living-push : (h : History) (entry : Entry) (table extent : ℕ)
+    → living (h ++ entry ∷ []) table extent ≡ living_after table extent (living h table extent) entry.what
 unfolding living
 living-push h entry table extent = replay-push (λ before so_far e. living_after table extent so_far e.what) None h entry
 
-pub unit-push : (h : History) (entry : Entry) (table extent : ℕ) → unit (h ++ entry ∷ []) table extent ≡ unit_after table extent h (unit h table extent) entry.what
+pub unit-push : (h : History) (entry : Entry) (table extent : ℕ)
+    → unit (h ++ entry ∷ []) table extent ≡ unit_after table extent h (unit h table extent) entry.what
 unfolding unit
 unit-push h entry table extent = replay-push (λ before so_far e. unit_after table extent before so_far e.what) None h entry
 
-pub touched_between-push : (h : History) (entry : Entry) (after to table rid : ℕ) → touched_between (h ++ entry ∷ []) after to table rid ≡ touched_between_after table rid after to h (touched_between h after to table rid) entry.who entry.what
+pub touched_between-push : (h : History) (entry : Entry) (after to table rid : ℕ)
+    → touched_between (h ++ entry ∷ []) after to table rid
+    ≡ touched_between_after table rid after to h (touched_between h after to table rid) entry.who entry.what
 unfolding touched_between
-touched_between-push h entry after to table rid = replay-push (λ before so_far e. touched_between_after table rid after to before so_far e.who e.what) false h entry
+touched_between-push h entry after to table rid =
+    replay-push (λ before so_far e. touched_between_after table rid after to before so_far e.who e.what) false h entry
 
 -- ---- the empty history
 
@@ -56,7 +61,8 @@ is_plain (Switch id) = false
 is_plain (Cancel id full) = false
 is_plain _ = true
 
-held_after-plain : (before : History) (who : ℕ) (so_far : List Held) (what : What) → is_plain what ≡ true → held_after before who so_far what ≡ map (killed_by (length before) what) so_far
+held_after-plain : (before : History) (who : ℕ) (so_far : List Held) (what : What) → is_plain what ≡ true
+    → held_after before who so_far what ≡ map (killed_by (length before) what) so_far
 held_after-plain before who so_far (Build id table extent trickle) plain = absurd (false≢true plain)
 held_after-plain before who so_far (Switch id) plain = absurd (false≢true plain)
 held_after-plain before who so_far (Cancel id full) plain = absurd (false≢true plain)
@@ -72,20 +78,24 @@ builds_after-plain so_far _ plain = refl
 pub builds-plain : (h : History) (entry : Entry) → is_plain entry.what ≡ true → builds (h ++ entry ∷ []) ≡ builds h
 builds-plain h entry plain = builds-push h entry ∙ builds_after-plain (builds h) entry.what plain
 
-living_after-plain : (table extent : ℕ) (so_far : Option ℕ) (what : What) → is_plain what ≡ true → living_after table extent so_far what ≡ (if drops table extent what then None else so_far)
+living_after-plain : (table extent : ℕ) (so_far : Option ℕ) (what : What) → is_plain what ≡ true
+    → living_after table extent so_far what ≡ (if drops table extent what then None else so_far)
 living_after-plain table extent so_far (Build id other place trickle) plain = absurd (false≢true plain)
 living_after-plain table extent so_far (Switch id) plain = absurd (false≢true plain)
 living_after-plain table extent so_far (Cancel id full) plain = absurd (false≢true plain)
 living_after-plain table extent so_far _ plain = refl
 
-pub living-plain : (h : History) (entry : Entry) (table extent : ℕ) → is_plain entry.what ≡ true → living (h ++ entry ∷ []) table extent ≡ (if drops table extent entry.what then None else living h table extent)
+pub living-plain : (h : History) (entry : Entry) (table extent : ℕ) → is_plain entry.what ≡ true
+    → living (h ++ entry ∷ []) table extent ≡ (if drops table extent entry.what then None else living h table extent)
 living-plain h entry table extent plain = living-push h entry table extent ∙ living_after-plain table extent (living h table extent) entry.what plain
 
-unit_after-plain : (table extent : ℕ) (before : History) (so_far : Option ℕ) (what : What) → is_plain what ≡ true → unit_after table extent before so_far what ≡ (if drops table extent what then None else so_far)
+unit_after-plain : (table extent : ℕ) (before : History) (so_far : Option ℕ) (what : What) → is_plain what ≡ true
+    → unit_after table extent before so_far what ≡ (if drops table extent what then None else so_far)
 unit_after-plain table extent before so_far (Switch id) plain = absurd (false≢true plain)
 unit_after-plain table extent before so_far _ plain = refl
 
-pub unit-plain : (h : History) (entry : Entry) (table extent : ℕ) → is_plain entry.what ≡ true → unit (h ++ entry ∷ []) table extent ≡ (if drops table extent entry.what then None else unit h table extent)
+pub unit-plain : (h : History) (entry : Entry) (table extent : ℕ) → is_plain entry.what ≡ true
+    → unit (h ++ entry ∷ []) table extent ≡ (if drops table extent entry.what then None else unit h table extent)
 unit-plain h entry table extent plain = unit-push h entry table extent ∙ unit_after-plain table extent h (unit h table extent) entry.what plain
 
 -- ---- entries that commit no changes
@@ -95,10 +105,13 @@ abbrev pub is_quiet : What → Bool
 is_quiet Commit = false
 is_quiet _ = true
 
-touched_between_after-quiet : (table rid after to : ℕ) (before : History) (so_far : Bool) (who : ℕ) (what : What) → is_quiet what ≡ true → touched_between_after table rid after to before so_far who what ≡ so_far
+touched_between_after-quiet : (table rid after to : ℕ) (before : History) (so_far : Bool) (who : ℕ) (what : What) → is_quiet what ≡ true
+    → touched_between_after table rid after to before so_far who what ≡ so_far
 touched_between_after-quiet table rid after to before so_far who Commit quiet = absurd (false≢true quiet)
 touched_between_after-quiet table rid after to before so_far who _ quiet = refl
 
-pub touched_between-quiet : (h : History) (entry : Entry) (after to table rid : ℕ) → is_quiet entry.what ≡ true → touched_between (h ++ entry ∷ []) after to table rid ≡ touched_between h after to table rid
+pub touched_between-quiet : (h : History) (entry : Entry) (after to table rid : ℕ) → is_quiet entry.what ≡ true
+    → touched_between (h ++ entry ∷ []) after to table rid ≡ touched_between h after to table rid
 touched_between-quiet h entry after to table rid quiet =
-    touched_between-push h entry after to table rid ∙ touched_between_after-quiet table rid after to h (touched_between h after to table rid) entry.who entry.what quiet
+    touched_between-push h entry after to table rid
+    ∙ touched_between_after-quiet table rid after to h (touched_between h after to table rid) entry.who entry.what quiet

@@ -8,4 +8,5 @@ returns-in_err-place c =
 
 pub returns : goal.returns
 returns c =
-    ap (λ (n : ℕ). Some n) (add-one c.in_ok-place.place) ∙ ap (option_map suc) (sym c.in_ok-place.was ∙ rw c.tables.ensures.tables at c.place_named.ensures.place)
+    ap (λ (n : ℕ). Some n) (add-one c.in_ok-place.place)
+    ∙ ap (option_map suc) (sym c.in_ok-place.was ∙ rw c.tables.ensures.tables at c.place_named.ensures.place)

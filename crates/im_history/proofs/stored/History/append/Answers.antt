@@ -16,7 +16,8 @@ pub invariant_of-self : goal.invariant_of-self
 invariant_of-self c =
     let pushed = rw c.unwrap.ensures at c.push.ensures.items in
     let longer = rw c.unwrap.ensures at c.push.ensures.len in
-    let step : c.from.result ≡ (if moves_clock c.args.entry.what then 1 else 0) = c.from.ensures ∙ (bool_byte_is c.moves_clock.result ∙ ap (λ b. if b then 1 else 0) c.moves_clock.ensures) in
+    let step : c.from.result ≡ (if moves_clock c.args.entry.what then 1 else 0) =
+    c.from.ensures ∙ (bool_byte_is c.moves_clock.result ∙ ap (λ b. if b then 1 else 0) c.moves_clock.ensures) in
     let few : c.from.result ≤ 1 = rw step (at_most_one (moves_clock c.args.entry.what)) in (
       omega (arith, c.push.ensures.capacity),
       omega arith,
