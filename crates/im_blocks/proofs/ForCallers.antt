@@ -1,10 +1,10 @@
 -- What the blocks tell of a history that they keep, and how they keep it as it goes on.
 use Rattle.std.proofs.Common.{◌≡◌, ℕ, ◌+◌, ◌-◌, ◌<◌, ◌≤◌, Bool, true, false, List, [], ◌∷◌, ◌++◌, map, take, Option, None, if◌then◌else◌, refl, sym, ap, ◌∙◌, arith, append-nil}
 use Rattle.std.specs.List.{fold, flat_map, range_with_len}
-use Rattle.std.proofs.lemmas.List.{get_or_past}
+use Rattle.im_tables.proofs.ForCallers.{cell_at-nil}
 use Rattle.im_values.specs.declared.schema.Column.{Column}
 use Rattle.im_versions.specs.declared.version.Version.{Version}
-use Rattle.im_versions.specs.Versions.{Versions, row_at}
+use Rattle.im_versions.specs.Versions.{Versions, no_chain, row_at}
 use Rattle.im_history.specs.declared.change.Change.{Change}
 use Rattle.im_history.specs.declared.entry.Entry.{Entry}
 use Rattle.im_history.specs.declared.entry.What.{What}
@@ -15,8 +15,8 @@ use Rattle.im_history.specs.History.{History, replay}
 use Rattle.im_history.specs.Rows.{Row, rows, row_after}
 use Rattle.im_history.specs.Touched.{touches, last_touch, touched_after}
 use Rattle.im_history.specs.Transactions.{pending}
-use Rattle.im_blocks.specs.Chains.{no_chain, chain_of, versions_at, newest_scn, rows_among, rows_at}
-use Rattle.im_blocks.specs.Kept.{IsKept}
+use Rattle.im_blocks.specs.Chains.{chain_of, versions_at, newest_scn, rows_at}
+use Rattle.im_blocks.specs.Kept.{IsKept, TellsTouches}
 use Rattle.im_blocks.specs.Transitions.{SameVersions, IsBefore, Applied}
 use Rattle.im_blocks.specs.VersionsOf.{version_by, versions_from, versions_of}
 use Rattle.im_history.proofs.Laws.{commits-push, scn-push, last_touch-push}
@@ -36,8 +36,7 @@ versions_of-push h entry table rid =
     ∙ ap (λ (k : ℕ). versions_from 1 (commits h) table rid ++ versions_from k (committed_by h entry.who entry.what) table rid) next)
 
 chain_of-nil : (table rid : ℕ) → (chain_of [] table rid).versions ≡ []
-unfolding chain_of
-chain_of-nil table rid = ap (λ (c : Versions). c.versions) (get_or_past [] rid no_chain (omega arith))
+chain_of-nil table rid = ap (λ (c : Versions). c.versions) (cell_at-nil no_chain table rid)
 
 -- no versions are those of the empty history
 pub IsKept-nil : IsKept [] []
@@ -86,14 +85,11 @@ map_same : {X : Type 0} (f g : ℕ → X) → ((k : ℕ) → f k ≡ g k) → (k
 map_same f g same [] = refl
 map_same f g same (k ∷ ks) = rw (same k) (ap (λ l. g k ∷ l) (map_same f g same ks))
 
--- row numbers, each with the row committed at an SCN
-pub rows_among_kept : (h : History) (blocks : List (List Versions)) → IsKept h blocks → (table : ℕ) (rids : List ℕ) (n : ℕ) → rows_among blocks table rids n ≡ map (λ rid. (rid, rows h table n rid)) rids
-rows_among_kept h blocks kept table rids n =
-    map_same (λ rid. (rid, row_at (versions_at blocks table rid) n)) (λ rid. (rid, rows h table n rid)) (λ rid. ap (λ (row : Option Row). (rid, row)) (rows_kept h blocks kept table rid n)) rids
-
--- so many of them from the first on
+-- so many row numbers from the first on, each with the row committed at an SCN
 pub rows_at_kept : (h : History) (blocks : List (List Versions)) → IsKept h blocks → (table first count n : ℕ) → rows_at blocks table first count n ≡ map (λ rid. (rid, rows h table n rid)) (range_with_len first count)
-rows_at_kept h blocks kept table first count n = rows_among_kept h blocks kept table (range_with_len first count) n
+rows_at_kept h blocks kept table first count n =
+    map_same (λ rid. (rid, row_at (versions_at blocks table rid) n)) (λ rid. (rid, rows h table n rid)) (λ rid. ap (λ (row : Option Row). (rid, row)) (rows_kept h blocks kept table rid n))
+    (range_with_len first count)
 
 newest_step : (h : History) (versions : List Version) (who : ℕ) (what : What) (table rid so_far : ℕ) → newest_scn versions ≡ so_far → newest_scn (versions ++ versions_from (scn h + 1) (committed_by h who what) table rid) ≡ touched_after table rid h so_far who what
 newest_step h versions who Commit table rid so_far same =
@@ -122,6 +118,13 @@ IsNewest-push table rid h entry newest = record {
 pub latest_kept : (h : History) (blocks : List (List Versions)) → IsKept h blocks → (table rid : ℕ) → newest_scn (versions_at blocks table rid) ≡ last_touch h table rid
 latest_kept h blocks kept table rid =
     ap newest_scn (kept.each table rid) ∙ (each_history (IsNewest table rid) (IsNewest-nil table rid) (IsNewest-push table rid) h).is
+
+-- so a newest version of a later commit than an SCN tells the last commit that touched the row
+pub touches_kept : (h : History) (blocks : List (List Versions)) → IsKept h blocks → TellsTouches h blocks
+touches_kept h blocks kept = record {
+  later = λ table rid number after. latest_kept h blocks kept table rid;
+  not_later = λ table rid number upto. let last = latest_kept h blocks kept table rid in omega (arith, last, upto);
+}
 
 -- the last commit that touched a row is not past the present SCN
 record IsPast (table rid : ℕ) (h : History) : Type 0 where
