@@ -25,7 +25,8 @@ SameVersions-grown old new grown = record {
 }
 
 -- one chain with the same versions and no less room
-pub SameVersions-with_cell : (blocks : List (List Versions)) (table rid : ℕ) (chain : Versions) → HasCell blocks table rid → chain.versions ≡ versions_at blocks table rid
+pub SameVersions-with_cell : (blocks : List (List Versions)) (table rid : ℕ) (chain : Versions) → HasCell blocks table rid →
+    chain.versions ≡ versions_at blocks table rid
     → (chain_of blocks table rid).spare ≤ chain.spare → SameVersions blocks (with_cell table rid chain blocks)
 SameVersions-with_cell blocks table rid chain has versions room =
     let new = with_cell table rid chain blocks in
@@ -44,7 +45,8 @@ SameVersions-with_cell blocks table rid chain has versions room =
           (λ (is : (t ≡ table) × (r ≡ rid)).
           subst (λ (k : ℕ). (chain_of blocks k r).spare ≤ (chain_of new k r).spare) (sym is.0)
           (subst (λ (k : ℕ). (chain_of blocks table k).spare ≤ (chain_of new table k).spare) (sym is.1) (omega (arith, here_spare, room))))
-          (λ (apart : t ≡ table → r ≡ rid → ⊥). let now = ap (λ (c : Versions). c.spare) (cell_at-with_cell_other no_chain blocks table rid chain t r apart) in omega (arith, now))
+          (λ (apart : t ≡ table → r ≡ rid → ⊥). let now =
+              ap (λ (c : Versions). c.spare) (cell_at-with_cell_other no_chain blocks table rid chain t r apart) in omega (arith, now))
           (same_cell table rid t r);
     }
 
@@ -55,7 +57,8 @@ HasRoom-kept old new changes same room = record {
       (λ change has. let kept = same.room change.table change.rid in omega (arith, kept, has)) changes room.each;
 }
 
-pub HasRoom-push : (blocks : List (List Versions)) (changes : List Change) (change : Change) → HasRoom blocks changes → 0 < (chain_of blocks change.table change.rid).spare
+pub HasRoom-push : (blocks : List (List Versions)) (changes : List Change) (change : Change) → HasRoom blocks changes →
+    0 < (chain_of blocks change.table change.rid).spare
     → HasRoom blocks (changes ++ change ∷ [])
 HasRoom-push blocks changes change room has = record {
   each = All-push (λ (c : Change). 0 < (chain_of blocks c.table c.rid).spare) changes change room.each has;
