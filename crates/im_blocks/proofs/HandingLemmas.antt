@@ -6,6 +6,7 @@ use Rattle.std.proofs.lemmas.Bool.{cases_eq, cases_Bool, eq-eqb, ne_eqb, true≢
 use Rattle.std.proofs.lemmas.List.{get_or_append_left, get_or_push, length_push}
 use Rattle.im_tables.specs.Table.{HasCell}
 use Rattle.im_tables.proofs.ForCallers.{HasCell-where, cell_at-with_cell}
+use Rattle.im_tables.proofs.Tests.{and-true, eq-true}
 use Rattle.im_versions.specs.declared.version.Version.{Version}
 use Rattle.im_versions.specs.Versions.{Versions, no_chain}
 use Rattle.im_history.specs.declared.change.Change.{Change}
@@ -24,13 +25,6 @@ HasCell-may_take blocks table rid scn may =
     let room : 0 < 0 = empty.room empty.some in
     omega (arith, room))
 
-both_true : (a b : Bool) → (a && b) ≡ true → (a ≡ true) × (b ≡ true)
-both_true true b is = (refl, is)
-both_true false b is = absurd (true≢false (sym is))
-
-eq-true : (m n : ℕ) → (m == n) ≡ true → m ≡ n
-eq-true m n is = ⊎_elim (λ (e : m ≡ n). e) (λ (apart : m ≡ n → ⊥). absurd (true≢false (sym is ∙ ne_eqb m n apart))) (cases_eq m n)
-
 taken : (b : Bool) (its this : Versions) (scn : ℕ) (change : Change) → (b ≡ true → its ≡ this)
     → (if b then chain_after scn change.row its else this) ≡ (if b then chain_after scn change.row this else this)
 taken true its this scn change same = ap (chain_after scn change.row) (same refl)
@@ -43,7 +37,7 @@ pub chain_of-after : (scn : ℕ) (change : Change) (blocks : List (List Versions
 chain_of-after scn change blocks table rid there =
     cell_at-with_cell no_chain blocks change.table change.rid (chain_after scn change.row (chain_of blocks change.table change.rid)) table rid (inl there)
     ∙ taken (is_to table rid change) (chain_of blocks change.table change.rid) (chain_of blocks table rid) scn change
-    (λ is. let both = both_true (change.table == table) (change.rid == rid) is in
+    (λ is. let both = and-true (change.table == table) (change.rid == rid) is in
     ap (λ (t : ℕ). chain_of blocks t change.rid) (eq-true change.table table both.0) ∙ ap (λ (r : ℕ). chain_of blocks table r) (eq-true change.rid rid both.1))
 
 -- a chain that has the version of the commit's later changes, and takes or does not take the row of one before them

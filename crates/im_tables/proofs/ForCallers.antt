@@ -85,7 +85,7 @@ pub with_cell-none : {T : Type 0} (cells : List (List T)) (table number : ℕ) (
     with_cell table number cell cells ≡ cells
 with_cell-none cells table number cell none =
     ap (λ (row : List _). set cells table row) (set_past (row_of cells table) number cell (past_where_none (row_of cells table) number none))
-        ∙ set-get_or cells table []
+    ∙ set-get_or cells table []
 
 -- each cell after one is another, where that is there or the other is empty
 pub cell_at-with_cell : {T : Type 0} (empty : T) (cells : List (List T)) (table number : ℕ) (cell : T) (t n : ℕ) → HasCell cells table number ⊎ (cell ≡ empty)
@@ -96,23 +96,23 @@ cell_at-with_cell empty cells table number cell t n can =
     ⊎_elim
     (λ (inside : table < length cells).
     let here : (number < length (row_of cells table)) ⊎ (cell ≡ empty) =
-        ⊎_elim (λ (has : HasCell cells table number). inl has.below) (λ (is_empty : cell ≡ empty). inr is_empty) can in
+    ⊎_elim (λ (has : HasCell cells table number). inl has.below) (λ (is_empty : cell ≡ empty). inr is_empty) can in
     ap (λ (line : List _). get_or line n empty) (row_of-set cells table t row inside)
     ∙ ⊎_elim
     (λ (is : table ≡ t). rw (eq-eqb table t is) (get_or-set (row_of cells table) number n cell empty here
-        ∙ ap (λ (k : ℕ). if number == n then cell else get_or (row_of cells k) n empty) is))
+    ∙ ap (λ (k : ℕ). if number == n then cell else get_or (row_of cells k) n empty) is))
     (λ (apart : table ≡ t → ⊥). rw (ne_eqb table t apart) refl)
     (cases_eq table t))
     (λ (past : length cells ≤ table).
     let none : row_of cells table ≡ [] = get_or_past cells table [] past in
     let short : length (row_of cells table) ≡ 0 = ap length none in
     let is_empty : cell ≡ empty =
-        ⊎_elim (λ (has : HasCell cells table number). let below = has.below in absurd (omega (arith, below, short))) (λ (e : cell ≡ empty). e) can in
+    ⊎_elim (λ (has : HasCell cells table number). let below = has.below in absurd (omega (arith, below, short))) (λ (e : cell ≡ empty). e) can in
     ap (λ (all : List (List _)). get_or (row_of all t) n empty) (with_cell-past cells table number cell past)
     ∙ ⊎_elim
     (λ (is : table ≡ t).
     let nothing : get_or (row_of cells t) n empty ≡ empty = ap (λ (line : List _). get_or line n empty) (ap (row_of cells) (sym is) ∙ none)
-        ∙ get_or_past [] n empty (omega arith) in
+    ∙ get_or_past [] n empty (omega arith) in
     rw (eq-eqb table t is, nothing, is_empty) (same_either (number == n) empty))
     (λ (apart : table ≡ t → ⊥). rw (ne_eqb table t apart) refl)
     (cases_eq table t))
@@ -145,7 +145,7 @@ cell_at-with_cell_other empty cells table number cell t n apart =
     (λ (inside : table < length cells).
     ap (λ (line : List _). get_or line n empty) (get_or-set_at cells table t row [] same inside)
     ∙ (get_or-set_other (row_of cells table) number n cell empty (λ (e : n ≡ number). apart same e)
-        ∙ ap (λ (k : ℕ). get_or (row_of cells k) n empty) (sym same)))
+    ∙ ap (λ (k : ℕ). get_or (row_of cells k) n empty) (sym same)))
     (λ (past : length cells ≤ table). ap (λ (all : List (List _)). get_or (row_of all t) n empty) (with_cell-past cells table number cell past))
     (cases_lt table (length cells)))
     (λ (other : t ≡ table → ⊥). ap (λ (line : List _). get_or line n empty) (get_or-set_other cells table t row [] other))

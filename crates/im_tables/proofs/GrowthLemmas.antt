@@ -41,13 +41,13 @@ IsGrown-line empty old new table before row padded inside was longer =
       cells = λ k number.
           ⊎_elim
           (λ (is : k ≡ table). ap (λ (line : List _). get_or line number empty) (here k is)
-              ∙ (longer.each number ∙ ap (λ (line : List _). get_or line number empty) (first k is)))
+          ∙ (longer.each number ∙ ap (λ (line : List _). get_or line number empty) (first k is)))
           (λ (is : k ≢ table). ap (λ (line : List _). get_or line number empty) (there k is ∙ padded.each k))
           (cases_eq k table);
       room = λ k.
           ⊎_elim
           (λ (is : k ≡ table). let now = ap length (here k is) in let then_ = ap length (first k is) in let more =
-              longer.longer in omega (arith, now, then_, more))
+          longer.longer in omega (arith, now, then_, more))
           (λ (is : k ≢ table). let now = ap length (there k is ∙ padded.each k) in omega (arith, now))
           (cases_eq k table);
     }

@@ -18,7 +18,7 @@ use Rattle.im_txn.specs.Agrees.{Agrees, kept, owed, owes}
 use Rattle.im_txn.specs.Effects.{Becomes}
 use Rattle.im_txn.specs.LockCells.{Locks, lock_of}
 use Rattle.im_txn.specs.Standing.{Standing, activity_at, lock_at}
-use Rattle.im_txn.proofs.ListLemmas.{sum_by-moves, sum_by-equal}
+use Rattle.im_tables.proofs.Lists.{sum_by-moves, sum_by-equal}
 
 -- one more entry
 abbrev pub with_entry : History → ℕ → What → History

@@ -31,7 +31,7 @@ use Rattle.im_txn.proofs.AgreesLemmas.{Apart, Agrees-apart-by, Agrees-follows, L
 use Rattle.im_txn.proofs.CellLemmas.{HasCells-longer}
 use Rattle.im_txn.proofs.GivenLemmas.{pending-below}
 use Rattle.im_txn.proofs.LockLemmas.{Locked-write, Locked-end, holder-is}
-use Rattle.im_txn.proofs.ListLemmas.{sum_by-part, find-none, find-map, is_some-find, list_any-map, count_by-map, filter-map, count_by-none, count_by-some, count_by-filter, length-filter-not}
+use Rattle.im_tables.proofs.Lists.{sum_by-part, find-none, find-map, is_some-find, list_any-map, count_by-map, filter-map, count_by-none, count_by-some, count_by-filter, length-filter-not}
 
 -- what a transaction that may begin here adds
 

@@ -1,10 +1,12 @@
 -- The lock cells after a write, and after the end of a transaction.
 use Rattle.std.proofs.Common.{◌≡◌, ℕ, zero, suc, ◌+◌, ◌<◌, ◌≤◌, Bool, true, false, not, ◌==◌, ◌&&◌, ◌||◌, List, [], ◌∷◌, ◌++◌, All, Some, None, ⊎_elim, refl, sym, ap, ◌∙◌, subst, arith, eq-eqb, ne_eqb, if◌then◌else◌, true≢false}
 use Rattle.std.specs.List.{range_with_len, find}
-use Rattle.std.proofs.lemmas.Bool.{cases_eq, false≢true}
+use Rattle.std.proofs.lemmas.Bool.{cases_Bool, cases_eq, false≢true}
 use Rattle.std.proofs.lemmas.List.Elements.{All-head, All-tail}
 use Rattle.std.proofs.lemmas.List.Folds.{list_any-append}
 use Rattle.im_values.specs.declared.limits.TheConstants.{NUMBERS}
+use Rattle.im_tables.proofs.Lists.{find-none, find-one}
+use Rattle.im_tables.proofs.Tests.{and-true, eq-true}
 use Rattle.im_history.specs.declared.change.Change.{Change}
 use Rattle.im_history.specs.declared.entry.What.{What}
 use Rattle.im_history.specs.History.{History}
@@ -16,19 +18,6 @@ use Rattle.im_txn.specs.Effects.{IsWritten, IsEnded}
 use Rattle.im_txn.specs.LockCells.{Locks, lock_of, other_in}
 use Rattle.im_txn.specs.Standing.{Standing, activity_at, lock_at, IsFree}
 use Rattle.im_txn.proofs.AgreesLemmas.{with_entry, Locked}
-use Rattle.im_txn.proofs.ListLemmas.{find-none, find-one, cases_bool}
-
--- two numbers are equal where their test says so
-eq-true : (m n : ℕ) → (m == n) ≡ true → m ≡ n
-eq-true m n is = ⊎_elim (λ (e : m ≡ n). e) (λ (apart : m ≡ n → ⊥). absurd (true≢false (sym is ∙ ne_eqb m n apart))) (cases_eq m n)
-
-and_left : (b c : Bool) → b && c ≡ true → b ≡ true
-and_left true c e = refl
-and_left false c e = absurd (false≢true e)
-
-and_right : (b c : Bool) → b && c ≡ true → c ≡ true
-and_right true c e = e
-and_right false c e = absurd (false≢true e)
 
 -- no other holds a row of the changes
 free-at : (cells : Locks) (who : ℕ) (changes : List Change) (table rid : ℕ) →
@@ -37,15 +26,15 @@ free-at : (cells : Locks) (who : ℕ) (changes : List Change) (table rid : ℕ) 
 free-at cells who [] table rid free touched = absurd (false≢true touched)
 free-at cells who (change ∷ changes) table rid free touched =
     ⊎_elim (λ (here : is_to table rid change ≡ true).
-    let same_table : change.table ≡ table = eq-true change.table table (and_left (change.table == table) (change.rid == rid) here) in
-    let same_rid : change.rid ≡ rid = eq-true change.rid rid (and_right (change.table == table) (change.rid == rid) here) in
+    let same_table : change.table ≡ table = eq-true change.table table (and-true (change.table == table) (change.rid == rid) here).0 in
+    let same_rid : change.rid ≡ rid = eq-true change.rid rid (and-true (change.table == table) (change.rid == rid) here).1 in
     let first = All-head (λ (c : Change). other_in who (lock_of cells c.table c.rid) ≡ None) change changes free in
     subst (λ (t : ℕ). other_in who (lock_of cells t rid) ≡ None) same_table
         (subst (λ (r : ℕ). other_in who (lock_of cells change.table r) ≡ None) same_rid first))
     (λ (off : is_to table rid change ≡ false).
     let later : touches changes table rid ≡ true = rw off at touched in
     free-at cells who changes table rid (All-tail (λ (c : Change). other_in who (lock_of cells c.table c.rid) ≡ None) change changes free) later)
-    (cases_bool (is_to table rid change))
+    (cases_Bool (is_to table rid change))
 
 none-not : (b : Bool) (owner : ℕ) → (if b then None else Some owner) ≡ None → b ≡ true
 none-not true owner none = refl
@@ -110,7 +99,7 @@ Locked-write h who what place changes old new adds agrees number free written = 
       let same : (lock_at new table rid == suc other) ≡ touches (pending h other) table rid = ap (λ (n : ℕ). n == suc other) cell
           ∙ agrees.locks table rid other below in
       same ∙ sym (touched ∙ missed (who == other) (touches (pending h other) table rid) (touches changes table rid) miss))
-      (cases_bool (touches changes table rid));
+      (cases_Bool (touches changes table rid));
   holders =
       λ table rid. rw (written.locks table rid) (cell-most (touches changes table rid) (who + 1) (lock_at old table rid) NUMBERS (omega arith)
       (agrees.holders table rid));
@@ -152,7 +141,7 @@ Locked-end h who what old new clears agrees number ends = record {
       same ∙ (free ∙ sym (touched ∙ rw (eq-eqb who other is) refl)))
       (λ (apart : who ≡ other → ⊥). same ∙ (agrees.locks table rid other below ∙ sym (touched ∙ rw (ne_eqb who other apart) refl)))
       (cases_eq who other))
-      (cases_bool (touches mine table rid));
+      (cases_Bool (touches mine table rid));
   holders =
       λ table rid. rw (ends.locks table rid) (cell-most (touches (activity_at old who).pending table rid) 0 (lock_at old table rid) NUMBERS (omega arith)
       (agrees.holders table rid));

@@ -1,22 +1,10 @@
--- Sums and searches over the numbers of sessions, and counts of cursors.
-use Rattle.std.proofs.Common.{◌≡◌, ℕ, zero, suc, ◌+◌, ◌<◌, ◌≤◌, Bool, true, false, not, ◌||◌, List, [], ◌∷◌, length, map, filter, count_by, Option, Some, None, is_some, ◌⊎◌, inl, inr, ⊎_elim, refl, sym, ap, ◌∙◌, arith, if◌then◌else◌}
+-- General laws of sums, searches and counts.
+use Rattle.std.proofs.Common.{◌≡◌, ℕ, zero, suc, ◌+◌, ◌<◌, ◌≤◌, Bool, true, false, not, ◌||◌, List, [], ◌∷◌, length, map, filter, count_by, Option, Some, None, is_some, ⊎_elim, refl, sym, ap, ◌∙◌, arith, if◌then◌else◌}
 use Rattle.std.specs.List.{sum_by, range_with_len, find, list_any}
 use Rattle.std.specs.Option.{option_map}
-use Rattle.std.proofs.lemmas.Bool.{cases_eq, false≢true}
+use Rattle.std.proofs.lemmas.Bool.{cases_Bool, cases_eq, false≢true}
 use Rattle.std.proofs.lemmas.List.Sums.{sum_by-cons}
-
-or_left : (b c : Bool) → b || c ≡ false → b ≡ false
-or_left true c e = e
-or_left false c e = refl
-
-or_right : (b c : Bool) → b || c ≡ false → c ≡ false
-or_right true c e = absurd (false≢true (sym e))
-or_right false c e = e
-
--- a test passes or not
-pub cases_bool : (b : Bool) → (b ≡ true) ⊎ (b ≡ false)
-cases_bool true = inl refl
-cases_bool false = inr refl
+use Rattle.im_tables.proofs.Tests.{or-false}
 
 sum_by-same : (f g : ℕ → ℕ) (a n : ℕ) → ((k : ℕ) → a ≤ k → g k ≡ f k) → sum_by g (range_with_len a n) ≡ sum_by f (range_with_len a n)
 sum_by-same f g a zero same = refl
@@ -121,8 +109,8 @@ filter-map f p q (x ∷ xs) same = rw (same x) (put-map f (q x) x (filter p (map
 pub count_by-none : {X : Type 0} (p : X → Bool) (xs : List X) → list_any p xs ≡ false → count_by p xs ≡ 0
 count_by-none p [] none = refl
 count_by-none p (x ∷ xs) none =
-    let here : p x ≡ false = or_left (p x) (list_any p xs) none in
-    let rest = count_by-none p xs (or_right (p x) (list_any p xs) none) in
+    let here : p x ≡ false = (or-false (p x) (list_any p xs) none).0 in
+    let rest = count_by-none p xs ((or-false (p x) (list_any p xs) none).1) in
     let term : ◌≡◌ {A = ℕ} (if p x then 1 else 0) 0 = ap (λ (b : Bool). if b then 1 else 0) here in
     omega (arith, sum_by-cons (λ y. if p y then 1 else 0) x xs, rest, term)
 
@@ -136,7 +124,7 @@ count_by-some p (x ∷ xs) some =
     (λ (off : p x ≡ false).
     let rest : list_any p xs ≡ true = rw off at some in
     omega (arith, sum, count_by-some p xs rest))
-    (cases_bool (p x))
+    (cases_Bool (p x))
 
 count-kept : (b c : Bool) (n m : ℕ) → m ≤ n → (if b then (if c then 1 else 0) + m else m) ≤ (if c then 1 else 0) + n
 count-kept true c n m below = omega (arith, below)
@@ -152,7 +140,7 @@ pub count_by-filter : {X : Type 0} (p q : X → Bool) (xs : List X) → count_by
 count_by-filter p q [] = omega arith
 count_by-filter p q (x ∷ xs) =
     rw (count-put p (q x) x (filter q xs), sum_by-cons (λ y. if p y then 1 else 0) x xs)
-        (count-kept (q x) (p x) (count_by p xs) (count_by p (filter q xs)) (count_by-filter p q xs))
+    (count-kept (q x) (p x) (count_by p xs) (count_by p (filter q xs)) (count_by-filter p q xs))
 
 kept-length : {X : Type 0} (b : Bool) (x : X) (xs : List X) (n : ℕ) → length (if not b then x ∷ xs else xs) + ((if b then 1 else 0) + n) ≡ length xs + n + 1
 kept-length true x xs n = omega arith
