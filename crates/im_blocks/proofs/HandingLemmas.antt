@@ -1,96 +1,56 @@
 -- The changes of a commit, handed out from the last on.
-use Rattle.std.proofs.Common.{◌≡◌, ◌≢◌, ℕ, ◌+◌, ◌<◌, ◌≤◌, Bool, true, false, ◌==◌, ◌&&◌, List, [], ◌∷◌, ◌++◌, length, get_or, Option, Some, None, is_some, if◌then◌else◌, refl, sym, ap, subst, ◌∙◌, ⊎_elim, arith, le_refl, append_assoc, append-nil, length-append}
+use Rattle.std.proofs.Common.{◌≡◌, ℕ, ◌+◌, ◌<◌, ◌≤◌, Bool, true, false, ◌==◌, ◌&&◌, List, [], ◌∷◌, ◌++◌, length, get_or, Option, Some, None, is_some, if◌then◌else◌, refl, sym, ap, subst, ◌∙◌, ⊎_elim, inl, arith, le_refl, append_assoc, append-nil, length-append}
 use Rattle.std.specs.List.{All}
 use Rattle.std.specs.Option.{option_or}
-use Rattle.std.proofs.lemmas.Bool.{cases_lt, cases_eq, cases_Bool, eq-eqb, ne_eqb, true≢false}
-use Rattle.std.proofs.lemmas.Grind.{get_or-set_at}
-use Rattle.std.proofs.lemmas.List.{get_or_past, get_or-set_other, get_or_append_left, get_or_push, length_push}
+use Rattle.std.proofs.lemmas.Bool.{cases_eq, cases_Bool, eq-eqb, ne_eqb, true≢false}
+use Rattle.std.proofs.lemmas.List.{get_or_append_left, get_or_push, length_push}
+use Rattle.im_tables.specs.Table.{HasCell}
+use Rattle.im_tables.proofs.ForCallers.{HasCell-where, cell_at-with_cell}
+use Rattle.im_tables.proofs.Tests.{and-true, eq-true}
 use Rattle.im_versions.specs.declared.version.Version.{Version}
-use Rattle.im_versions.specs.Versions.{Versions}
+use Rattle.im_versions.specs.Versions.{Versions, no_chain}
 use Rattle.im_history.specs.declared.change.Change.{Change}
 use Rattle.im_history.specs.Touched.{is_to}
-use Rattle.im_blocks.specs.Chains.{no_chain, chain_at, chain_of, versions_at, newest_scn}
-use Rattle.im_blocks.specs.Handing.{MayTake, chain_after, chains_after, blocks_after}
+use Rattle.im_blocks.specs.Chains.{chain_of, versions_at, newest_scn}
+use Rattle.im_blocks.specs.inner.Handing.{MayTake, chain_after, blocks_after}
 use Rattle.im_blocks.specs.Transitions.{HasRoom, IsBefore, Applied}
 use Rattle.im_blocks.specs.VersionsOf.{last_change, version_by}
 use Rattle.im_blocks.proofs.VersionLemmas.{version_of, last_change-cons, newest_scn-version_of}
 
--- the table and the place of a chain are there
-pub record IsThere (blocks : List (List Versions)) (table rid : ℕ) : Type 0 where
-  pub above : table < length blocks
-  pub within : rid < length (get_or blocks table [])
-
-place_of : (chains : List Versions) (rid scn : ℕ) → MayTake (chain_at chains rid) scn → rid < length chains
-place_of chains rid scn may =
-    ⊎_elim (λ (inside : rid < length chains). inside)
-    (λ (past : length chains ≤ rid).
-    let none : MayTake no_chain scn = subst (λ (c : Versions). MayTake c scn) (get_or_past chains rid no_chain past) may in
-    let room : 0 < 0 = none.room none.some in
-    absurd (omega (arith, room)))
-    (cases_lt rid (length chains))
-
-table_of : (blocks : List (List Versions)) (table rid : ℕ) → rid < length (get_or blocks table []) → table < length blocks
-table_of blocks table rid within =
-    ⊎_elim (λ (inside : table < length blocks). inside)
-    (λ (past : length blocks ≤ table).
-    let none : rid < 0 = subst (λ (s : List Versions). rid < length s) (get_or_past blocks table [] past) within in
-    absurd (omega (arith, none)))
-    (cases_lt table (length blocks))
-
 -- a chain that can take a row is there
-pub IsThere_of : (blocks : List (List Versions)) (table rid scn : ℕ) → MayTake (chain_of blocks table rid) scn → IsThere blocks table rid
-unfolding chain_of
-IsThere_of blocks table rid scn may =
-    let within = place_of (get_or blocks table []) rid scn may in
-    record { above = table_of blocks table rid within; within = within }
+pub HasCell-may_take : (blocks : List (List Versions)) (table rid scn : ℕ) → MayTake (chain_of blocks table rid) scn → HasCell blocks table rid
+HasCell-may_take blocks table rid scn may =
+    HasCell-where no_chain blocks table rid (λ (none : chain_of blocks table rid ≡ no_chain).
+    let empty : MayTake no_chain scn = subst (λ (c : Versions). MayTake c scn) none may in
+    let room : 0 < 0 = empty.room empty.some in
+    omega (arith, room))
 
-pub MayTake_at : (blocks : List (List Versions)) (table rid scn : ℕ) (chains : List Versions) → chains ≡ get_or blocks table [] → MayTake (chain_of blocks table rid) scn → MayTake (chain_at chains rid) scn
-unfolding chain_of
-MayTake_at blocks table rid scn chains is may = subst (λ (c : List Versions). MayTake (chain_at c rid) scn) (sym is) may
-
-both_false : (a b : Bool) → a ≡ true → b ≡ false → (a && b) ≡ false
-both_false true b at is = is
-both_false false b at is = refl
+taken : (b : Bool) (its this : Versions) (scn : ℕ) (change : Change) → (b ≡ true → its ≡ this)
+    → (if b then chain_after scn change.row its else this) ≡ (if b then chain_after scn change.row this else this)
+taken true its this scn change same = ap (chain_after scn change.row) (same refl)
+taken false its this scn change same = refl
 
 -- the chain of the change has taken its row, and each other is as it was
-pub chain_of-after : (scn : ℕ) (change : Change) (blocks : List (List Versions)) (table rid : ℕ) → IsThere blocks change.table change.rid → chain_of (blocks_after scn change blocks) table rid ≡ (if is_to table rid change then chain_after scn change.row (chain_of blocks table rid) else chain_of blocks table rid)
-unfolding chain_of
+pub chain_of-after : (scn : ℕ) (change : Change) (blocks : List (List Versions)) (table rid : ℕ) → HasCell blocks change.table change.rid
+    → chain_of (blocks_after scn change blocks) table rid ≡ (if is_to table rid change then chain_after scn change.row
+        (chain_of blocks table rid) else chain_of blocks table rid)
 chain_of-after scn change blocks table rid there =
-    let shelf : List Versions = get_or blocks change.table [] in
-    let new : List Versions = chains_after scn change.rid change.row shelf in
-    let result = λ (b : Bool). if b then chain_after scn change.row (chain_at (get_or blocks table []) rid) else chain_at (get_or blocks table []) rid in
-    ⊎_elim (λ (is : table ≡ change.table).
-    ap (λ (c : List Versions). chain_at c rid) (get_or-set_at blocks change.table table new [] is there.above)
-    ∙ ⊎_elim (λ (same : rid ≡ change.rid).
-    let yes_table : (change.table == table) ≡ true = eq-eqb change.table table (sym is) in
-    let yes_rid : (change.rid == rid) ≡ true = eq-eqb change.rid rid (sym same) in
-    let found : is_to table rid change ≡ true = rw (yes_table, yes_rid) refl in
-    get_or-set_at shelf change.rid rid (chain_after scn change.row (chain_at shelf change.rid)) no_chain same there.within
-    ∙ (ap (λ (k : ℕ). chain_after scn change.row (chain_at shelf k)) (sym same)
-    ∙ (ap (λ (k : ℕ). chain_after scn change.row (chain_at (get_or blocks k []) rid)) (sym is)
-    ∙ ap result (sym found))))
-    (λ (other : rid ≢ change.rid).
-    let yes_table : (change.table == table) ≡ true = eq-eqb change.table table (sym is) in
-    let no_rid : (change.rid == rid) ≡ false = ne_eqb change.rid rid (λ e. other (sym e)) in
-    let found : is_to table rid change ≡ false = both_false _ _ yes_table no_rid in
-    get_or-set_other shelf change.rid rid (chain_after scn change.row (chain_at shelf change.rid)) no_chain other
-    ∙ (ap (λ (k : ℕ). chain_at (get_or blocks k []) rid) (sym is)
-    ∙ ap result (sym found)))
-    (cases_eq rid change.rid))
-    (λ (other : table ≢ change.table).
-    let no_table : (change.table == table) ≡ false = ne_eqb change.table table (λ e. other (sym e)) in
-    let found : is_to table rid change ≡ false = ap (λ (b : Bool). b && (change.rid == rid)) no_table in
-    ap (λ (c : List Versions). chain_at c rid) (get_or-set_other blocks change.table table new [] other)
-    ∙ ap result (sym found))
-    (cases_eq table change.table)
+    cell_at-with_cell no_chain blocks change.table change.rid (chain_after scn change.row (chain_of blocks change.table change.rid)) table rid (inl there)
+    ∙ taken (is_to table rid change) (chain_of blocks change.table change.rid) (chain_of blocks table rid) scn change
+    (λ is. let both = and-true (change.table == table) (change.rid == rid) is in
+    ap (λ (t : ℕ). chain_of blocks t change.rid) (eq-true change.table table both.0) ∙ ap (λ (r : ℕ). chain_of blocks table r) (eq-true change.rid rid both.1))
 
 -- a chain that has the version of the commit's later changes, and takes or does not take the row of one before them
-step_versions : (b : Bool) (last : Option Change) (old : List Version) (now : Versions) (scn : ℕ) (change : Change) → newest_scn old < scn → now.versions ≡ old ++ version_of scn last → (if b then chain_after scn change.row now else now).versions ≡ old ++ version_of scn (option_or last (if b then Some change else None))
+step_versions : (b : Bool) (last : Option Change) (old : List Version) (now : Versions) (scn : ℕ) (change : Change) → newest_scn old < scn →
+    now.versions ≡ old ++ version_of scn last → (if b then chain_after scn change.row now else now).versions ≡ old ++ version_of scn
+    (option_or last (if b then Some change else None))
 step_versions false None old now scn change before is = is
 step_versions false (Some later) old now scn change before is = is
 step_versions true None old now scn change before is =
     let same : now.versions ≡ old = is ∙ append-nil old in
-    let differs : (newest_scn now.versions == scn) ≡ false = ne_eqb (newest_scn now.versions) scn (λ e. let here : newest_scn now.versions ≡ newest_scn old = ap newest_scn same in absurd (omega (arith, e, here, before))) in
+    let differs : (newest_scn now.versions == scn) ≡ false =
+        ne_eqb (newest_scn now.versions) scn (λ e. let here : newest_scn now.versions ≡ newest_scn old =
+        ap newest_scn same in absurd (omega (arith, e, here, before))) in
     rw differs (ap (λ (v : List Version). v ++ record { scn = scn; row = change.row } ∷ []) same)
 step_versions true (Some later) old now scn change before is =
     let newest : newest_scn now.versions ≡ scn = ap newest_scn is ∙ newest_scn-version_of old scn (Some later) in
@@ -126,29 +86,35 @@ newest_by true old scn before = le_refl scn
 newest_by false old scn before = omega (arith, before)
 
 -- the change that comes next has room
-has_room : (old : List (List Versions)) (left done changes : List Change) (change : Change) → changes ≡ (left ++ change ∷ []) ++ done → HasRoom old changes → 0 < (chain_of old change.table change.rid).spare
+has_room : (old : List (List Versions)) (left done changes : List Change) (change : Change) → changes ≡ (left ++ change ∷ []) ++ done →
+    HasRoom old changes → 0 < (chain_of old change.table change.rid).spare
 has_room old left done changes change whole room =
     let long : length (left ++ change ∷ []) ≡ length left + 1 = length_push left change in
-    let at : get_or ((left ++ change ∷ []) ++ done) (length left) change ≡ change = get_or_append_left (left ++ change ∷ []) done change (length left) (omega (arith, long)) ∙ get_or_push left change change (length left) refl in
+    let at : get_or ((left ++ change ∷ []) ++ done) (length left) change ≡ change =
+        get_or_append_left (left ++ change ∷ []) done change (length left) (omega (arith, long)) ∙ get_or_push left change change (length left) refl in
     let longer : length ((left ++ change ∷ []) ++ done) ≡ length (left ++ change ∷ []) + length done = length-append (left ++ change ∷ []) done in
     let inside : length left < length ((left ++ change ∷ []) ++ done) = omega (arith, long, longer) in
-    let all : All (λ (c : Change). 0 < (chain_of old c.table c.rid).spare) ((left ++ change ∷ []) ++ done) = subst (λ (l : List Change). All (λ (c : Change). 0 < (chain_of old c.table c.rid).spare) l) whole room.each in
+    let all : All (λ (c : Change). 0 < (chain_of old c.table c.rid).spare) ((left ++ change ∷ []) ++ done) =
+        subst (λ (l : List Change). All (λ (c : Change). 0 < (chain_of old c.table c.rid).spare) l) whole room.each in
     subst (λ (c : Change). 0 < (chain_of old c.table c.rid).spare) at (all (length left) change inside)
 
 -- so its chain can take its row
-pub MayTake-next : (old now : List (List Versions)) (scn : ℕ) (left changes : List Change) (change : Change) → HasRoom old changes → IsBefore old scn → Handed old now scn (left ++ change ∷ []) changes → MayTake (chain_of now change.table change.rid) scn
+pub MayTake-next : (old now : List (List Versions)) (scn : ℕ) (left changes : List Change) (change : Change) → HasRoom old changes → IsBefore old scn →
+    Handed old now scn (left ++ change ∷ []) changes → MayTake (chain_of now change.table change.rid) scn
 MayTake-next old now scn left changes change room before handed =
     let table : ℕ = change.table in
     let rid : ℕ = change.rid in
     let earlier : newest_scn (versions_at old table rid) < scn = before.each table rid in
     let last : Option Change = last_change handed.done table rid in
-    let newest : newest_scn (versions_at now table rid) ≡ (if is_some last then scn else newest_scn (versions_at old table rid)) = ap newest_scn (handed.versions table rid) ∙ newest_scn-version_of (versions_at old table rid) scn last in
+    let newest : newest_scn (versions_at now table rid) ≡ (if is_some last then scn else newest_scn (versions_at old table rid)) =
+        ap newest_scn (handed.versions table rid) ∙ newest_scn-version_of (versions_at old table rid) scn last in
     record {
       some = omega (arith, earlier);
       below = rw newest (newest_by (is_some last) (newest_scn (versions_at old table rid)) scn earlier);
       room = λ (lower : newest_scn (versions_at now table rid) < scn).
           ⊎_elim (λ (touched : is_some last ≡ true).
-          let is : newest_scn (versions_at now table rid) ≡ scn = newest ∙ ap (λ (b : Bool). if b then scn else newest_scn (versions_at old table rid)) touched in
+          let is : newest_scn (versions_at now table rid) ≡ scn = newest
+              ∙ ap (λ (b : Bool). if b then scn else newest_scn (versions_at old table rid)) touched in
           absurd (omega (arith, is, lower)))
           (λ (untouched : is_some last ≡ false).
           let same : (chain_of now table rid).spare ≡ (chain_of old table rid).spare = handed.spare table rid (not_some last untouched) in
@@ -163,18 +129,22 @@ option_or_none None true change e = absurd (true≢false (ap is_some e))
 option_or_none (Some x) b change e = absurd (true≢false (ap is_some e))
 
 -- and then it is among those that are done
-pub Handed-next : (old now : List (List Versions)) (scn : ℕ) (left changes : List Change) (change : Change) → HasRoom old changes → IsBefore old scn → Handed old now scn (left ++ change ∷ []) changes → Handed old (blocks_after scn change now) scn left changes
+pub Handed-next : (old now : List (List Versions)) (scn : ℕ) (left changes : List Change) (change : Change) → HasRoom old changes → IsBefore old scn →
+    Handed old now scn (left ++ change ∷ []) changes → Handed old (blocks_after scn change now) scn left changes
 Handed-next old now scn left changes change room before handed =
-    let there = IsThere_of now change.table change.rid scn (MayTake-next old now scn left changes change room before handed) in
+    let there = HasCell-may_take now change.table change.rid scn (MayTake-next old now scn left changes change room before handed) in
     record {
       done = change ∷ handed.done;
       whole = handed.whole ∙ append_assoc left (change ∷ []) handed.done;
       versions = λ table rid.
           ap (λ (c : Versions). c.versions) (chain_of-after scn change now table rid there)
-          ∙ (step_versions (is_to table rid change) (last_change handed.done table rid) (versions_at old table rid) (chain_of now table rid) scn change (before.each table rid) (handed.versions table rid)
+          ∙ (step_versions (is_to table rid change) (last_change handed.done table rid) (versions_at old table rid) (chain_of now table rid) scn change
+              (before.each table rid) (handed.versions table rid)
           ∙ ap (λ (last : Option Change). versions_at old table rid ++ version_of scn last) (sym (last_change-cons change handed.done table rid)));
       spare = λ table rid none.
-          let both = option_or_none (last_change handed.done table rid) (is_to table rid change) change (sym (last_change-cons change handed.done table rid) ∙ none) in
+          let both =
+              option_or_none (last_change handed.done table rid) (is_to table rid change) change (sym (last_change-cons change handed.done table rid)
+              ∙ none) in
           ap (λ (c : Versions). c.spare) (chain_of-after scn change now table rid there)
           ∙ (ap (λ (b : Bool). (if b then chain_after scn change.row (chain_of now table rid) else chain_of now table rid).spare) both.1
           ∙ handed.spare table rid both.0);

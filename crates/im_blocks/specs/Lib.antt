@@ -1,5 +1,5 @@
 pub mod Chains
-pub mod Handing
 pub mod Kept
 pub mod Transitions
 pub mod VersionsOf
+pub mod inner

@@ -1,11 +1,11 @@
-ghost use Rattle.std.specs.Prelude.{◌≡◌, ◌+◌, ◌^◌, ◌<◌, ◌≤◌, [], length, unwrap_or, option_copied, IfOk, OnOk};
-ghost use Rattle.im_versions.specs.Versions.{row_at};
-ghost use Rattle.im_blocks.specs.Chains.{no_chain, chain_of, versions_at, newest_scn, rows_among, rows_at};
-ghost use Rattle.im_blocks.specs.Handing.{IsPadded, MayTake, blocks_after};
+ghost use Rattle.std.specs.Prelude.{◌≡◌, ◌+◌, ◌^◌, ◌<◌, ◌≤◌, [], unwrap_or, option_copied, IfOk, OnOk};
+ghost use Rattle.im_versions.specs.Versions.{no_chain, row_at};
+ghost use Rattle.im_blocks.specs.Chains.{chain_of, newest_scn, rows_at, versions_at};
+ghost use Rattle.im_blocks.specs.inner.Handing.{MayTake, blocks_after, chain_after};
 ghost use Rattle.im_blocks.specs.Transitions.{SameVersions, HasRoom, IsBefore, Applied};
 
-use crate::shelf::Shelf;
 use im_history::Change;
+use im_tables::Cells;
 use im_values::{NoMemory, Row, Steps, clone_row};
 use im_versions::Chain;
 use std::alloc::Global;
@@ -18,8 +18,7 @@ use std::sync::ledger::Ledger;
 /// chain past the ends. A row number takes 32 bytes beside its versions.
 #[derive(Debug, Drop)]
 pub struct Blocks {
-    alloc: Global,
-    shelves: Vec<Shelf>,
+    chains: Cells<Chain>,
 }
 
 impl Model for Blocks {
@@ -28,7 +27,7 @@ impl Model for Blocks {
 
     ghost Value = { List (List Versions) };
 
-    ghost view = { λ b. b.shelves.items };
+    ghost view = { λ b. b.chains };
 }
 
 impl Blocks {
@@ -37,8 +36,7 @@ impl Blocks {
         ensures { result ≡ [] }
     {
         Blocks {
-            alloc,
-            shelves: Vec::new(alloc),
+            chains: Cells::new(alloc),
         }
     }
 
@@ -82,27 +80,6 @@ impl Blocks {
         self.chain(table, rid)?.at(scn, steps)
     }
 
-    /// The rows of these row numbers of a table at an SCN: a copy of each, or None where there is none.
-    ///
-    /// Each is one step.
-    pub fn rows_of<L: Ledger>(
-        &self,
-        alloc: Global,
-        table: u32,
-        rids: &[u64],
-        scn: u64,
-        steps: &mut Steps<L>,
-    ) -> Result<Vec<(u64, Option<Row>)>, NoMemory>
-        ensures rows { IfOk result (λ rows. rows.items ≡ rows_among self.now table rids.now scn) }
-        ensures few { steps.new ≤ steps.old + length rids.now }
-    {
-        let mut rows = Vec::with_capacity(alloc, rids.len())?;
-        for rid in rids {
-            rows.push((*rid, copied(alloc, self.at(table, *rid, scn, steps))?))?;
-        }
-        Ok(rows)
-    }
-
     /// The SCN of the newest version of a row, 0 where it has none.
     pub fn latest(&self, table: u32, rid: u64) -> u64
         ensures { result ≡ newest_scn (versions_at self.now table rid) }
@@ -140,7 +117,7 @@ impl Blocks {
     fn chain(&self, table: u32, rid: u64) -> Option<&Chain>
         ensures { unwrap_or (option_copied result) no_chain ≡ chain_of self.now table rid }
     {
-        self.shelves.get(table as usize)?.chain(rid)
+        self.chains.get(table, rid)
     }
 
     /// Makes room for one version of a row number of a table.
@@ -148,19 +125,8 @@ impl Blocks {
         ensures same { SameVersions self.old self.new }
         ensures room { OnOk result (0 < (chain_of self.new table rid).spare) }
     {
-        self.grow(table)?;
-        self.shelves[table as usize].reserve(self.alloc, rid)
-    }
-
-    /// Adds empty shelves until there is one for the table.
-    fn grow(&mut self, table: u32) -> Result<(), NoMemory>
-        ensures same { IsPadded [] self.old self.new }
-        ensures there { OnOk result (table < length self.new) }
-    {
-        while self.shelves.len() <= table as usize {
-            self.shelves.push(Shelf::new(self.alloc))?;
-        }
-        Ok(())
+        self.chains.reserve(table, rid)?;
+        make_room(self.chains.cell_mut(table, rid))
     }
 
     /// Puts the row of a change on top of its chain, unless the chain has a version of this commit.
@@ -169,7 +135,26 @@ impl Blocks {
         ensures { self.new ≡ blocks_after scn change self.old }
     {
         let Change { table, rid, row } = change;
-        self.shelves[table as usize].put(scn, rid, row);
+        put_on(self.chains.cell_mut(table, rid), scn, row);
+    }
+}
+
+/// Makes room for one version.
+fn make_room(chain: &mut Chain) -> Result<(), NoMemory>
+    ensures same { chain.new.versions ≡ chain.old.versions }
+    ensures more { chain.old.spare ≤ chain.new.spare }
+    ensures room { OnOk result (0 < chain.new.spare) }
+{
+    chain.reserve()
+}
+
+/// Puts a row on top of a chain, unless the chain has a version of this commit.
+fn put_on(chain: &mut Chain, scn: u64, row: Option<Row>)
+    requires { MayTake chain.old scn }
+    ensures { chain.new ≡ chain_after scn row chain.old }
+{
+    if chain.latest() != Some(scn) {
+        chain.push(scn, row);
     }
 }
 

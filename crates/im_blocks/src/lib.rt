@@ -12,7 +12,6 @@
 #![tactic(auto)]
 
 mod blocks;
-mod shelf;
 #[cfg(test)]
 mod tests;
 

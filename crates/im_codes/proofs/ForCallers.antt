@@ -18,7 +18,8 @@ pub order_same : (x y : Value) → order x y ≡ Equal → x ≡ y
 order_same = orders.order_same
 
 -- the value of a code is below one exactly where the code is below its `lower`
-pub value-below : (dict : List Value) (value : Value) (k : ℕ) (d : Value) → IsDictionary dict → k < length dict → is_lt (order (get_or dict k d) value) ≡ nat_lt (k + 1) (lower dict value)
+pub value-below : (dict : List Value) (value : Value) (k : ℕ) (d : Value) → IsDictionary dict → k < length dict →
+    is_lt (order (get_or dict k d) value) ≡ nat_lt (k + 1) (lower dict value)
 value-below dict value k d is inside =
     passes-below (λ (other : Value). is_lt (order other value)) dict k d (below-parted dict value is.sorted) inside
     ∙ same_tests k (count_by (λ (other : Value). is_lt (order other value)) dict) (k + 1) (lower dict value) (λ h. omega arith) (λ h. omega arith)

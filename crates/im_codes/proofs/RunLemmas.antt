@@ -11,11 +11,13 @@ apart-push [] last run apart differ = (differ, tt)
 apart-push (first ∷ []) last run apart differ = (apart.0, (differ, tt))
 apart-push (first ∷ next ∷ front) last run apart differ = (apart.0, apart-push (next ∷ front) last run apart.1 differ)
 
-pub full-push : (begin : ℕ) (front : List Run) (last run : Run) → AreFull begin (front ++ last ∷ []) → last.end < run.end → AreFull begin ((front ++ last ∷ []) ++ run ∷ [])
+pub full-push : (begin : ℕ) (front : List Run) (last run : Run) → AreFull begin (front ++ last ∷ []) → last.end < run.end →
+    AreFull begin ((front ++ last ∷ []) ++ run ∷ [])
 full-push begin [] last run full later = (full.0, (later, tt))
 full-push begin (first ∷ front) last run full later = (full.0, full-push first.end front last run full.1 later)
 
-pub codes-push : (begin : ℕ) (front : List Run) (last run : Run) → codes_from begin ((front ++ last ∷ []) ++ run ∷ []) ≡ codes_from begin (front ++ last ∷ []) ++ replicate (run.end - last.end) run.code
+pub codes-push : (begin : ℕ) (front : List Run) (last run : Run) →
+    codes_from begin ((front ++ last ∷ []) ++ run ∷ []) ≡ codes_from begin (front ++ last ∷ []) ++ replicate (run.end - last.end) run.code
 codes-push begin [] last run = rw (append-nil (replicate (run.end - last.end) run.code), append-nil (replicate (last.end - begin) last.code)) refl
 codes-push begin (first ∷ front) last run = rw (codes-push first.end front last run, append_assoc) refl
 
@@ -29,45 +31,58 @@ pub full-swap : (begin : ℕ) (front : List Run) (last run : Run) → AreFull be
 full-swap begin [] last run full later = (omega (arith, full.0), tt)
 full-swap begin (first ∷ front) last run full later = (full.0, full-swap first.end front last run full.1 later)
 
-pub codes-swap : (begin : ℕ) (front : List Run) (last run : Run) → AreFull begin (front ++ last ∷ []) → last.code ≡ run.code → run.end ≡ last.end + 1 → codes_from begin (front ++ run ∷ []) ≡ codes_from begin (front ++ last ∷ []) ++ run.code ∷ []
+pub codes-swap : (begin : ℕ) (front : List Run) (last run : Run) → AreFull begin (front ++ last ∷ []) → last.code ≡ run.code → run.end ≡ last.end + 1 →
+    codes_from begin (front ++ run ∷ []) ≡ codes_from begin (front ++ last ∷ []) ++ run.code ∷ []
 codes-swap begin [] last run full same longer =
     let many : run.end - begin ≡ (last.end - begin) + 1 = omega (arith, full.0) in
-    rw (many, append-nil (replicate (last.end - begin + 1) run.code), append-nil (replicate (last.end - begin) last.code), same) (sym (replicate_more (last.end - begin) run.code))
+    rw (many, append-nil (replicate (last.end - begin + 1) run.code), append-nil (replicate (last.end - begin) last.code), same)
+        (sym (replicate_more (last.end - begin) run.code))
 codes-swap begin (first ∷ front) last run full same longer = rw (codes-swap first.end front last run full.1 same longer, append_assoc) refl
 
 -- so many codes as the place past the last run says
-pub length-codes_from : (begin : ℕ) (front : List Run) (last : Run) → AreFull begin (front ++ last ∷ []) → length (codes_from begin (front ++ last ∷ [])) + begin ≡ last.end
-length-codes_from begin [] last full = rw (append-nil (replicate (last.end - begin) last.code), length-replicate (last.end - begin) last.code) (omega (arith, full.0))
+pub length-codes_from : (begin : ℕ) (front : List Run) (last : Run) → AreFull begin (front ++ last ∷ []) →
+    length (codes_from begin (front ++ last ∷ [])) + begin ≡ last.end
+length-codes_from begin [] last full =
+    rw (append-nil (replicate (last.end - begin) last.code), length-replicate (last.end - begin) last.code) (omega (arith, full.0))
 length-codes_from begin (first ∷ front) last full =
     let rest = length-codes_from first.end front last full.1 in
-    rw (length-append (replicate (first.end - begin) first.code) (codes_from first.end (front ++ last ∷ [])), length-replicate (first.end - begin) first.code) (omega (arith, full.0, rest))
+    rw (length-append (replicate (first.end - begin) first.code) (codes_from first.end (front ++ last ∷ [])), length-replicate
+        (first.end - begin) first.code) (omega (arith, full.0, rest))
 
 -- the code at a place is that of the first run that ends past it
-pub code-found : (begin : ℕ) (runs : List Run) (i k : ℕ) (d : Run) → AreFull begin runs → begin ≤ i → i - begin < length (codes_from begin runs) → ((j : ℕ) (e : Run) → j < k → (get_or runs j e).end ≤ i) → ((j : ℕ) (e : Run) → k ≤ j → j < length runs → i < (get_or runs j e).end) → (k < length runs) × (get_or (codes_from begin runs) (i - begin) 0 ≡ (get_or runs k d).code)
+pub code-found : (begin : ℕ) (runs : List Run) (i k : ℕ) (d : Run) → AreFull begin runs → begin ≤ i → i - begin < length (codes_from begin runs) →
+    ((j : ℕ) (e : Run) → j < k → (get_or runs j e).end ≤ i) → ((j : ℕ) (e : Run) → k ≤ j → j < length runs → i < (get_or runs j e).end) →
+    (k < length runs) × (get_or (codes_from begin runs) (i - begin) 0 ≡ (get_or runs k d).code)
 code-found begin [] i k d full past inside below above = absurd (omega (arith, inside))
 code-found begin (run ∷ runs) i zero d full past inside below above =
     let here : i < run.end = above 0 run (omega arith) (omega arith) in
     let size = length-replicate (run.end - begin) run.code in
-    (omega arith, get_or_append_left (replicate (run.end - begin) run.code) (codes_from run.end runs) 0 (i - begin) (omega (arith, size)) ∙ get_or-replicate (run.end - begin) (i - begin) run.code 0 (omega (arith, here, full.0)))
+    (omega arith, get_or_append_left (replicate (run.end - begin) run.code) (codes_from run.end runs) 0 (i - begin) (omega (arith, size))
+        ∙ get_or-replicate (run.end - begin) (i - begin) run.code 0 (omega (arith, here, full.0)))
 code-found begin (run ∷ runs) i (suc k) d full past inside below above =
     let gone : run.end ≤ i = below 0 run (omega arith) in
     let size = length-replicate (run.end - begin) run.code in
     let whole = length-append (replicate (run.end - begin) run.code) (codes_from run.end runs) in
     let left : i - begin - (run.end - begin) ≡ i - run.end = omega (arith, full.0) in
-    let rest = code-found run.end runs i k d full.1 gone (omega (arith, inside, size, whole, full.0)) (λ j e h. below (suc j) e (omega arith)) (λ j e h l. above (suc j) e (omega arith) (omega arith)) in
-    (omega (arith, rest.0), get_or-append_right (replicate (run.end - begin) run.code) (codes_from run.end runs) (run.end - begin) (i - begin) 0 size (omega (arith, full.0)) ∙ (ap (λ n. get_or (codes_from run.end runs) n 0) left ∙ rest.1))
+    let rest =
+        code-found run.end runs i k d full.1 gone (omega (arith, inside, size, whole, full.0)) (λ j e h. below (suc j) e (omega arith))
+        (λ j e h l. above (suc j) e (omega arith) (omega arith)) in
+    (omega (arith, rest.0), get_or-append_right (replicate (run.end - begin) run.code) (codes_from run.end runs) (run.end - begin) (i - begin) 0 size
+        (omega (arith, full.0)) ∙ (ap (λ n. get_or (codes_from run.end runs) n 0) left ∙ rest.1))
 
 -- codes equal to the one before begin no run
 run_count_after-same : (n code : ℕ) (rest : List ℕ) → run_count_after code (replicate n code ++ rest) ≡ run_count_after code rest
 run_count_after-same zero code rest = refl
 run_count_after-same (suc n) code rest = rw (eq-eqb code code refl) (omega (arith, run_count_after-same n code rest))
 
-count-runs_after : (begin code : ℕ) (runs : List Run) (before : Run) → before.code ≡ code → AreFull begin runs → AreApart (before ∷ runs) → run_count_after code (codes_from begin runs) ≡ length runs
+count-runs_after : (begin code : ℕ) (runs : List Run) (before : Run) → before.code ≡ code → AreFull begin runs → AreApart (before ∷ runs) →
+    run_count_after code (codes_from begin runs) ≡ length runs
 count-runs_after begin code [] before is full apart = refl
 count-runs_after begin code (run ∷ runs) before is full apart =
     let size : run.end - begin ≡ suc (run.end - begin - 1) = omega (arith, full.0) in
     let other : (run.code == code) ≡ false = ne_eqb run.code code (λ same. apart.0 (is ∙ sym same)) in
-    rw (size, other, run_count_after-same (run.end - begin - 1) run.code (codes_from run.end runs), count-runs_after run.end run.code runs run refl full.1 apart.1) (omega arith)
+    rw (size, other, run_count_after-same (run.end - begin - 1) run.code
+        (codes_from run.end runs), count-runs_after run.end run.code runs run refl full.1 apart.1) (omega arith)
 
 -- each run ends past where the first begins
 later-end : (begin : ℕ) (runs : List Run) → AreFull begin runs → (j : ℕ) (d : Run) → j < length runs → begin < (get_or runs j d).end
@@ -94,7 +109,8 @@ pub extends-none : (old : List Run) (code : ℕ) → old ≡ [] → Extends old 
 extends-none old code none = record { codes = rw none refl; runs = record { full = (omega arith, tt); apart = tt } }
 
 -- the last run made longer by one
-pub extends-last : (old front : List Run) (last run : Run) → AreRuns old → old ≡ front ++ last ∷ [] → last.code ≡ run.code → run.end ≡ last.end + 1 → Extends old (front ++ run ∷ []) run.code
+pub extends-last : (old front : List Run) (last run : Run) → AreRuns old → old ≡ front ++ last ∷ [] → last.code ≡ run.code → run.end ≡ last.end + 1 →
+    Extends old (front ++ run ∷ []) run.code
 extends-last old front last run runs is same longer =
     let full = rw is at runs.full in
     record {
@@ -103,7 +119,8 @@ extends-last old front last run runs is same longer =
     }
 
 -- a run of one behind the last
-pub extends-next : (old front : List Run) (last run : Run) → AreRuns old → old ≡ front ++ last ∷ [] → last.code ≢ run.code → run.end ≡ last.end + 1 → Extends old ((front ++ last ∷ []) ++ run ∷ []) run.code
+pub extends-next : (old front : List Run) (last run : Run) → AreRuns old → old ≡ front ++ last ∷ [] → last.code ≢ run.code → run.end ≡ last.end + 1 →
+    Extends old ((front ++ last ∷ []) ++ run ∷ []) run.code
 extends-next old front last run runs is differ longer =
     let one : run.end - last.end ≡ 1 = omega arith in
     record {
@@ -112,17 +129,21 @@ extends-next old front last run runs is differ longer =
     }
 
 -- the run that a place of the list lies in is the first that ends past it
-pub run-partitioned : (runs : List Run) (i k : ℕ) → AreRuns runs → i < length (codes_of runs) → IsPartitionPoint (λ (run : Run). nat_le run.end i ≡ true) (λ (run : Run). nat_le run.end i ≡ false) runs k → IsRunAt runs i k
+pub run-partitioned : (runs : List Run) (i k : ℕ) → AreRuns runs → i < length (codes_of runs) →
+    IsPartitionPoint (λ (run : Run). nat_le run.end i ≡ true) (λ (run : Run). nat_le run.end i ≡ false) runs k → IsRunAt runs i k
 run-partitioned runs i k longest inside point =
     let whole : i - 0 ≡ i = omega arith in
-    let found : (d : Run) → (k < length runs) × (get_or (codes_of runs) (i - 0) 0 ≡ (get_or runs k d).code) = λ d. code-found 0 runs i k d longest.full (omega arith) (omega (arith, inside)) (λ j e h. leb-true _ _ (point.0 j e (omega arith) h)) (λ j e h l. leb-false _ _ (point.1 j e h l)) in
+    let found : (d : Run) → (k < length runs) × (get_or (codes_of runs) (i - 0) 0 ≡ (get_or runs k d).code) =
+        λ d. code-found 0 runs i k d longest.full (omega arith) (omega (arith, inside)) (λ j e h. leb-true _ _ (point.0 j e (omega arith) h))
+        (λ j e h l. leb-false _ _ (point.1 j e h l)) in
     record {
       inside = (found (record { code = 0; end = 0 })).0;
       code = λ d. ap (λ n. get_or (codes_of runs) n 0) (sym whole) ∙ (found d).1;
     }
 
 -- the places past the runs rise
-pub ends-rise : (begin : ℕ) (runs : List Run) → AreFull begin runs → (i j : ℕ) (d : Run) → i ≤ j → j < length runs → (get_or runs i d).end ≤ (get_or runs j d).end
+pub ends-rise : (begin : ℕ) (runs : List Run) → AreFull begin runs → (i j : ℕ) (d : Run) → i ≤ j → j < length runs →
+    (get_or runs i d).end ≤ (get_or runs j d).end
 ends-rise begin [] full i j d up inside = absurd (omega (arith, inside))
 ends-rise begin (run ∷ runs) full zero zero d up inside = omega arith
 ends-rise begin (run ∷ runs) full zero (suc j) d up inside = omega (arith, later-end run.end runs full.1 j d (omega arith))

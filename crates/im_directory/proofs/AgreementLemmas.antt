@@ -62,25 +62,35 @@ module _ {U : Type 0} (content : U → Content) where
   abbrev left_of : ℕ → ℕ → What → Told U → Told U
   left_of table extent what told = if drops table extent what then record { current = None; growing = None } else told
 
-  stock_left : (h : History) (who : ℕ) (what : What) (old : Kept U) (table extent : ℕ) (stock : Stock U) → is_quiet what ≡ true → Agrees content h old → (left_of table extent what (told_at old table extent)).current ≡ Some stock → IsStock content (h ++ record { who = who; what = what } ∷ []) table extent stock
+  stock_left : (h : History) (who : ℕ) (what : What) (old : Kept U) (table extent : ℕ) (stock : Stock U) → is_quiet what ≡ true → Agrees content h old →
+      (left_of table extent what (told_at old table extent)).current ≡ Some stock →
+      IsStock content (h ++ record { who = who; what = what } ∷ []) table extent stock
   stock_left h who what old table extent stock quiet agrees is =
-      let was = found_by (drops table extent what) None (told_at old table extent).current stock refl (sym (ap_if current_of (drops table extent what) _ (told_at old table extent)) ∙ is) in
+      let was =
+          found_by (drops table extent what) None (told_at old table extent).current stock refl
+          (sym (ap_if current_of (drops table extent what) _ (told_at old table extent)) ∙ is) in
       IsStock-quiet content h (record { who = who; what = what }) table extent stock quiet (agrees.stock table extent stock was.1)
 
-  growth_left : (h : History) (who : ℕ) (what : What) (old : Kept U) (table extent : ℕ) (growth : Growth) → is_plain what ≡ true → is_quiet what ≡ true → Agrees content h old → (left_of table extent what (told_at old table extent)).growing ≡ Some growth → IsGrowth content (h ++ record { who = who; what = what } ∷ []) table extent growth
+  growth_left : (h : History) (who : ℕ) (what : What) (old : Kept U) (table extent : ℕ) (growth : Growth) → is_plain what ≡ true → is_quiet what ≡ true →
+      Agrees content h old → (left_of table extent what (told_at old table extent)).growing ≡ Some growth →
+      IsGrowth content (h ++ record { who = who; what = what } ∷ []) table extent growth
   growth_left h who what old table extent growth plain quiet agrees is =
       let entry : Entry = record { who = who; what = what } in
-      let was = found_by (drops table extent what) None (told_at old table extent).growing growth refl (sym (ap_if growing_of (drops table extent what) _ (told_at old table extent)) ∙ is) in
+      let was =
+          found_by (drops table extent what) None (told_at old table extent).growing growth refl
+          (sym (ap_if growing_of (drops table extent what) _ (told_at old table extent)) ∙ is) in
       let kept = agrees.growth table extent growth was.1 in
       IsGrowth-quiet content h entry table extent growth kept (killed_by (length h) what kept.held) quiet
       (held_at-plain h entry growth.id plain ∙ ap (option_map (killed_by (length h) what)) kept.is)
       (task-killed (length h) what kept.held)
 
-  pub Agrees-plain : (h : History) (who : ℕ) (what : What) (old new : Kept U) → is_plain what ≡ true → is_quiet what ≡ true → Agrees content h old → IsDropped old new (length h) what → Agrees content (h ++ record { who = who; what = what } ∷ []) new
+  pub Agrees-plain : (h : History) (who : ℕ) (what : What) (old new : Kept U) → is_plain what ≡ true → is_quiet what ≡ true → Agrees content h old →
+      IsDropped old new (length h) what → Agrees content (h ++ record { who = who; what = what } ∷ []) new
   Agrees-plain h who what old new plain quiet agrees dropped =
       let entry : Entry = record { who = who; what = what } in
       let killing = IsKilling-dropped old new (length h) what dropped in
-      let long : length (map (option_map (killed_by (length h) what)) old.builds) ≡ length old.builds = length-map old.builds (option_map (killed_by (length h) what)) in
+      let long : length (map (option_map (killed_by (length h) what)) old.builds) ≡ length old.builds =
+          length-map old.builds (option_map (killed_by (length h) what)) in
       record {
         numbered = ap length dropped.builds ∙ (long ∙ (agrees.numbered ∙ sym (builds-plain h entry plain)));
         sound = IsSound-killed old new (length h) what killing agrees.sound;
@@ -93,29 +103,40 @@ module _ {U : Type 0} (content : U → Content) where
             killing.living table extent
             ∙ (ap (λ (n : Option ℕ). if drops table extent what then None else n) (agrees.living table extent) ∙ sym (living-plain h entry table extent plain));
         stock = λ table extent stock is. stock_left h who what old table extent stock quiet agrees (sym (ap current_of (dropped.slots table extent)) ∙ is);
-        growth = λ table extent growth is. growth_left h who what old table extent growth plain quiet agrees (sym (ap growing_of (dropped.slots table extent)) ∙ is);
+        growth =
+            λ table extent growth is. growth_left h who what old table extent growth plain quiet agrees (sym (ap growing_of (dropped.slots table extent))
+            ∙ is);
       }
 
-  pub Agrees-apart : (h : History) (who : ℕ) (what : What) (kept : Kept U) → is_apart what ≡ true → Agrees content h kept → Agrees content (h ++ record { who = who; what = what } ∷ []) kept
+  pub Agrees-apart : (h : History) (who : ℕ) (what : What) (kept : Kept U) → is_apart what ≡ true → Agrees content h kept →
+      Agrees content (h ++ record { who = who; what = what } ∷ []) kept
   Agrees-apart h who what kept apart agrees =
       Agrees-plain h who what kept kept (plain-apart what apart) (quiet-apart what apart) agrees (record {
-        slots = λ table extent. sym (ap (λ (b : Bool). if b then record { current = None; growing = None } else told_at kept table extent) (drops-apart table extent what apart));
+        slots =
+            λ table extent. sym (ap (λ (b : Bool). if b then record { current = None; growing = None } else told_at kept table extent)
+            (drops-apart table extent what apart));
         builds = all_killed-apart (length h) what kept.builds (λ table extent. drops-apart table extent what apart);
       })
 
   -- ---- a commit
 
-  stock_noted : (h : History) (who : ℕ) (old : Kept U) (table extent : ℕ) (stock : Stock U) → Agrees content h old → option_map (λ (s : Stock U). record s { notes = with_notes (notes_of (tables h) (scn h + 1) (pending h who) table extent) s.notes }) (told_at old table extent).current ≡ Some stock → IsStock content (h ++ record { who = who; what = Commit } ∷ []) table extent stock
+  stock_noted : (h : History) (who : ℕ) (old : Kept U) (table extent : ℕ) (stock : Stock U) → Agrees content h old →
+      option_map (λ (s : Stock U). record s { notes = with_notes (notes_of (tables h) (scn h + 1) (pending h who) table extent) s.notes })
+      (told_at old table extent).current ≡ Some stock → IsStock content (h ++ record { who = who; what = Commit } ∷ []) table extent stock
   stock_noted h who old table extent stock agrees is =
       let more : List Note = notes_of (tables h) (scn h + 1) (pending h who) table extent in
       let before = was_mapped (λ (s : Stock U). record s { notes = with_notes more s.notes }) (told_at old table extent).current stock is in
       let kept = agrees.stock table extent before.was before.is in
       subst (λ (s : Stock U). IsStock content (h ++ record { who = who; what = Commit } ∷ []) table extent s) (sym before.same) (record {
-        holds = kept.holds ∙ sym (content_at-push h (record { who = who; what = Commit }) table extent (content before.was.unit).scn kept.journal.exists kept.journal.from);
+        holds =
+            kept.holds ∙ sym (content_at-push h (record { who = who; what = Commit }) table extent
+            (content before.was.unit).scn kept.journal.exists kept.journal.from);
         journal = IsJournal-commit h who table extent (content before.was.unit).scn before.was.notes kept.journal;
       })
 
-  growth_noted : (h : History) (who : ℕ) (old : Kept U) (table extent : ℕ) (growth : Growth) → Agrees content h old → option_map (λ (g : Growth). record g { notes = with_notes (notes_of (tables h) (scn h + 1) (pending h who) table extent) g.notes }) (told_at old table extent).growing ≡ Some growth → IsGrowth content (h ++ record { who = who; what = Commit } ∷ []) table extent growth
+  growth_noted : (h : History) (who : ℕ) (old : Kept U) (table extent : ℕ) (growth : Growth) → Agrees content h old →
+      option_map (λ (g : Growth). record g { notes = with_notes (notes_of (tables h) (scn h + 1) (pending h who) table extent) g.notes })
+      (told_at old table extent).growing ≡ Some growth → IsGrowth content (h ++ record { who = who; what = Commit } ∷ []) table extent growth
   growth_noted h who old table extent growth agrees is =
       let entry : Entry = record { who = who; what = Commit } in
       let more : List Note = notes_of (tables h) (scn h + 1) (pending h who) table extent in
@@ -127,7 +148,8 @@ module _ {U : Type 0} (content : U → Content) where
         journal = IsJournal-commit h who table extent kept.held.task.scn before.was.notes kept.journal;
       })
 
-  pub Agrees-commit : (h : History) (who : ℕ) (old new : Kept U) → Agrees content h old → IsNoted old new (tables h) (scn h + 1) (pending h who) → Agrees content (h ++ record { who = who; what = Commit } ∷ []) new
+  pub Agrees-commit : (h : History) (who : ℕ) (old new : Kept U) → Agrees content h old → IsNoted old new (tables h) (scn h + 1) (pending h who) →
+      Agrees content (h ++ record { who = who; what = Commit } ∷ []) new
   Agrees-commit h who old new agrees noted =
       let entry : Entry = record { who = who; what = Commit } in
       record {

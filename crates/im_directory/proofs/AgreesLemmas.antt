@@ -48,13 +48,16 @@ drops-apart table extent (Memory other (Some priority)) apart = refl
 drops-apart table extent _ apart = refl
 
 -- an entry that drops nothing kills no build
-pub killed-apart : (place : ℕ) (what : What) (build : Option Held) → ((table extent : ℕ) → drops table extent what ≡ false) → option_map (killed_by place what) build ≡ build
+pub killed-apart : (place : ℕ) (what : What) (build : Option Held) → ((table extent : ℕ) → drops table extent what ≡ false) →
+    option_map (killed_by place what) build ≡ build
 killed-apart place what None none = refl
 killed-apart place what (Some held) none = ap Some (killed_off place what held (none held.task.table held.task.extent))
 
-pub all_killed-apart : (place : ℕ) (what : What) (builds : List (Option Held)) → ((table extent : ℕ) → drops table extent what ≡ false) → builds ≡ map (option_map (killed_by place what)) builds
+pub all_killed-apart : (place : ℕ) (what : What) (builds : List (Option Held)) → ((table extent : ℕ) → drops table extent what ≡ false) →
+    builds ≡ map (option_map (killed_by place what)) builds
 all_killed-apart place what [] none = refl
-all_killed-apart place what (build ∷ builds) none = ap₂ (λ (b : Option Held) (bs : List (Option Held)). b ∷ bs) (sym (killed-apart place what build none)) (all_killed-apart place what builds none)
+all_killed-apart place what (build ∷ builds) none =
+    ap₂ (λ (b : Option Held) (bs : List (Option Held)). b ∷ bs) (sym (killed-apart place what build none)) (all_killed-apart place what builds none)
 
 task_by : (b : Bool) (place : ℕ) (held : Held) → (if b then record held { killed = or_here place held.killed } else held).task ≡ held.task
 task_by true place held = refl
@@ -94,19 +97,24 @@ or_none_after (Some x) = refl
 
 module _ {U : Type 0} (content : U → Content) where
   -- a current unit is as it was after an entry that commits no changes
-  pub IsStock-quiet : (h : History) (entry : Entry) (table extent : ℕ) (stock : Stock U) → is_quiet entry.what ≡ true → IsStock content h table extent stock → IsStock content (h ++ entry ∷ []) table extent stock
+  pub IsStock-quiet : (h : History) (entry : Entry) (table extent : ℕ) (stock : Stock U) → is_quiet entry.what ≡ true →
+      IsStock content h table extent stock → IsStock content (h ++ entry ∷ []) table extent stock
   IsStock-quiet h entry table extent stock quiet kept = record {
     holds = kept.holds ∙ sym (content_at-push h entry table extent (content stock.unit).scn kept.journal.exists kept.journal.from);
     journal = IsJournal-quiet h entry table extent (content stock.unit).scn stock.notes quiet kept.journal;
   }
 
   -- the number of a unit's SCN stays when notes are made
-  pub scn_noted : (more : List Note) (o : Option (Stock U)) → option_map (λ (s : Stock U). (content s.unit).scn) (option_map (λ (s : Stock U). record s { notes = with_notes more s.notes }) o) ≡ option_map (λ (s : Stock U). (content s.unit).scn) o
+  pub scn_noted : (more : List Note) (o : Option (Stock U)) →
+      option_map (λ (s : Stock U). (content s.unit).scn) (option_map (λ (s : Stock U). record s { notes = with_notes more s.notes }) o) ≡ option_map
+      (λ (s : Stock U). (content s.unit).scn) o
   scn_noted more None = refl
   scn_noted more (Some stock) = refl
 
   -- a living build is as it was after an entry that commits no changes, where it is still held
-  pub IsGrowth-quiet : (h : History) (entry : Entry) (table extent : ℕ) (growth : Growth) (kept : IsGrowth content h table extent growth) (held : Held) → is_quiet entry.what ≡ true → held_at (h ++ entry ∷ []) growth.id ≡ Some held → held.task ≡ kept.held.task → IsGrowth content (h ++ entry ∷ []) table extent growth
+  pub IsGrowth-quiet : (h : History) (entry : Entry) (table extent : ℕ) (growth : Growth) (kept : IsGrowth content h table extent growth) (held : Held) →
+      is_quiet entry.what ≡ true → held_at (h ++ entry ∷ []) growth.id ≡ Some held → held.task ≡ kept.held.task →
+      IsGrowth content (h ++ entry ∷ []) table extent growth
   IsGrowth-quiet h entry table extent growth kept held quiet is same = record {
     held = held;
     is = is;

@@ -38,16 +38,20 @@ module _ {U : Type 0} (content : U → Content) where
     beginning : IsBeginning old new (next_build h who table extent trickle)
     beginning = IsBeginning-begun old new (next_build h who table extent trickle) number_is begins.begun
 
-    held_by : (b : Bool) (other : ℕ) → (other == builds h + 1) ≡ b → (if b then Some (next_build h who table extent trickle) else build_in old other) ≡ option_or (held_at h other) (if builds h + 1 == other then Some (next_build h who table extent trickle) else None)
+    held_by : (b : Bool) (other : ℕ) → (other == builds h + 1) ≡ b →
+        (if b then Some (next_build h who table extent trickle) else build_in old other) ≡ option_or (held_at h other)
+        (if builds h + 1 == other then Some (next_build h who table extent trickle) else None)
     held_by true other is =
         let same : other ≡ builds h + 1 = eqb-true other (builds h + 1) is in
         let long = number_is in
         let none : held_at h other ≡ None = sym (begins.agrees.held other) ∙ build_past old.builds other (omega (arith, same, long)) in
-        sym (or_second (held_at h other) _ none ∙ ap (λ (c : Bool). if c then Some (next_build h who table extent trickle) else None) (eq-eqb (builds h + 1) other (sym same)))
+        sym (or_second (held_at h other) _ none ∙ ap (λ (c : Bool). if c then Some (next_build h who table extent trickle) else None)
+            (eq-eqb (builds h + 1) other (sym same)))
     held_by false other is =
         let apart = eqb-false other (builds h + 1) is in
         begins.agrees.held other
-        ∙ sym (ap (λ (c : Bool). option_or (held_at h other) (if c then Some (next_build h who table extent trickle) else None)) (ne_eqb (builds h + 1) other (λ e. apart (sym e))) ∙ or_none_after (held_at h other))
+        ∙ sym (ap (λ (c : Bool). option_or (held_at h other) (if c then Some (next_build h who table extent trickle) else None))
+            (ne_eqb (builds h + 1) other (λ e. apart (sym e))) ∙ or_none_after (held_at h other))
 
     held_begun : (other : ℕ) → build_in new other ≡ held_at (after_begin h who table extent trickle) other
     held_begun other =
@@ -60,7 +64,9 @@ module _ {U : Type 0} (content : U → Content) where
         ∙ (ap_if (λ (told : Told U). told.current) (is_on t e (next_build h who table extent trickle)) _ (told_at old t e)
         ∙ sym (same_either (is_on t e (next_build h who table extent trickle)) (told_at old t e).current))
 
-    growth_by : (b : Bool) (t e : ℕ) (growth : Growth) → is_on t e (next_build h who table extent trickle) ≡ b → (if b then Some (record { id = builds h + 1; notes = [] }) else (told_at old t e).growing) ≡ Some growth → IsGrowth content (after_begin h who table extent trickle) t e growth
+    growth_by : (b : Bool) (t e : ℕ) (growth : Growth) → is_on t e (next_build h who table extent trickle) ≡ b →
+        (if b then Some (record { id = builds h + 1; notes = [] }) else (told_at old t e).growing) ≡ Some growth →
+        IsGrowth content (after_begin h who table extent trickle) t e growth
     growth_by true t e growth on is =
         let parts = on_parts t e (next_build h who table extent trickle) on in
         let exists : Exists h t = subst (Exists h) parts.0 begins.exists in
@@ -69,7 +75,8 @@ module _ {U : Type 0} (content : U → Content) where
           held = next_build h who table extent trickle;
           is = sym (held_begun (builds h + 1))
               ∙ (started.builds (builds h + 1)
-              ∙ ap (λ (c : Bool). if c then Some (next_build h who table extent trickle) else build_in old (builds h + 1)) (eq-eqb (builds h + 1) (builds h + 1) refl));
+              ∙ ap (λ (c : Bool). if c then Some (next_build h who table extent trickle) else build_in old (builds h + 1))
+                  (eq-eqb (builds h + 1) (builds h + 1) refl));
           journal = IsJournal-begun h (record { who = who; what = Build (builds h + 1) table extent trickle }) t e refl exists;
         })
     growth_by false t e growth off is =
@@ -83,19 +90,27 @@ module _ {U : Type 0} (content : U → Content) where
         let entry : Entry = record { who = who; what = Build (builds h + 1) table extent trickle } in
         let started = beginning in
         record {
-          numbered = ap length begins.begun.builds ∙ (length_push old.builds (Some (next_build h who table extent trickle)) ∙ (sym number_is ∙ sym (builds-push h entry)));
-          sound = IsSound-begun old new (next_build h who table extent trickle) number_is refl (begins.agrees.living table extent ∙ begins.free) begins.begun begins.agrees.sound;
+          numbered =
+              ap length begins.begun.builds ∙ (length_push old.builds (Some (next_build h who table extent trickle))
+              ∙ (sym number_is ∙ sym (builds-push h entry)));
+          sound =
+              IsSound-begun old new (next_build h who table extent trickle) number_is refl (begins.agrees.living table extent
+              ∙ begins.free) begins.begun begins.agrees.sound;
           held = held_begun;
           units = λ t e. ap (scn_of content) (current_same t e) ∙ (begins.agrees.units t e ∙ sym (unit-push h entry t e));
           living = λ t e.
               started.living t e
-              ∙ (ap (λ (n : Option ℕ). if is_on t e (next_build h who table extent trickle) then Some (builds h + 1) else n) (begins.agrees.living t e) ∙ sym (living-push h entry t e));
+              ∙ (ap (λ (n : Option ℕ). if is_on t e (next_build h who table extent trickle) then Some (builds h + 1) else n) (begins.agrees.living t e)
+                  ∙ sym (living-push h entry t e));
           stock = λ t e stock is. IsStock-quiet content h entry t e stock refl (begins.agrees.stock t e stock (sym (current_same t e) ∙ is));
           growth = λ t e growth is.
               growth_by (is_on t e (next_build h who table extent trickle)) t e growth refl
-              (sym (ap_if (λ (told : Told U). told.growing) (is_on t e (next_build h who table extent trickle)) _ (told_at old t e)) ∙ (sym (ap (λ (told : Told U). told.growing) (begins.begun.slots t e)) ∙ is));
+              (sym (ap_if (λ (told : Told U). told.growing) (is_on t e (next_build h who table extent trickle)) _ (told_at old t e))
+                  ∙ (sym (ap (λ (told : Told U). told.growing) (begins.begun.slots t e)) ∙ is));
         }
 
-  pub Agrees-begin : (h : History) (who table extent : ℕ) (trickle : Bool) (held : Held) (old new : Kept U) → Agrees content h old → Exists h table → living h table extent ≡ None → held ≡ next_build h who table extent trickle → IsBegun old new held → Agrees content (after_begin h who table extent trickle) new
+  pub Agrees-begin : (h : History) (who table extent : ℕ) (trickle : Bool) (held : Held) (old new : Kept U) → Agrees content h old → Exists h table →
+      living h table extent ≡ None → held ≡ next_build h who table extent trickle → IsBegun old new held →
+      Agrees content (after_begin h who table extent trickle) new
   Agrees-begin h who table extent trickle held old new agrees exists free is begun =
       agrees_begun h who table extent trickle old new (record { agrees = agrees; exists = exists; free = free; begun = subst (IsBegun old new) is begun })

@@ -42,7 +42,8 @@ either_gone true true c gone old = refl
 either_gone true false c gone old = refl
 either_gone false b c gone old = refl
 
-either_killed : (a b c : Bool) (place : ℕ) (held : Held) → (if a && b then killed_at place (if a && c then killed_at place held else held) else (if a && c then killed_at place held else held)) ≡ (if a && (b || c) then killed_at place held else held)
+either_killed : (a b c : Bool) (place : ℕ) (held : Held) → (if a && b then killed_at place (if a && c then killed_at place held else held) else
+    (if a && c then killed_at place held else held)) ≡ (if a && (b || c) then killed_at place held else held)
 either_killed true true true place held = killed_twice place held
 either_killed true true false place held = refl
 either_killed true false c place held = refl
@@ -55,7 +56,8 @@ same_task false place held = refl
 killed_next : (place table k : ℕ) (held : Held) → killed_by place (Evict table k) (killed_upto place table k held) ≡ killed_upto place table (k + 1) held
 killed_next place table k held =
     let now : Held = killed_upto place table k held in
-    ap (λ (t : Task). if (table == t.table) && (k == t.extent) then killed_at place now else now) (same_task ((table == held.task.table) && nat_lt held.task.extent k) place held)
+    ap (λ (t : Task). if (table == t.table) && (k == t.extent) then killed_at place now else now)
+        (same_task ((table == held.task.table) && nat_lt held.task.extent k) place held)
     ∙ (either_killed (table == held.task.table) (k == held.task.extent) (nat_lt held.task.extent k) place held
     ∙ ap (λ (b : Bool). if (table == held.task.table) && b then killed_at place held else held) (sym (one_more k held.task.extent)))
 
@@ -72,15 +74,20 @@ none_of place table (Some held) = ap Some (sym (killed_none place table held))
 
 killed_nothing : (place table : ℕ) (builds : List (Option Held)) → builds ≡ map (option_map (killed_upto place table 0)) builds
 killed_nothing place table [] = refl
-killed_nothing place table (b ∷ builds) = ap₂ (λ (x : Option Held) (xs : List (Option Held)). x ∷ xs) (none_of place table b) (killed_nothing place table builds)
+killed_nothing place table (b ∷ builds) =
+    ap₂ (λ (x : Option Held) (xs : List (Option Held)). x ∷ xs) (none_of place table b) (killed_nothing place table builds)
 
-more_of : (place table k : ℕ) (o : Option Held) → option_map (killed_by place (Evict table k)) (option_map (killed_upto place table k) o) ≡ option_map (killed_upto place table (k + 1)) o
+more_of : (place table k : ℕ) (o : Option Held) → option_map (killed_by place (Evict table k)) (option_map (killed_upto place table k) o) ≡ option_map
+    (killed_upto place table (k + 1)) o
 more_of place table k None = refl
 more_of place table k (Some held) = ap Some (killed_next place table k held)
 
-killed_more : (place table k : ℕ) (builds : List (Option Held)) → map (option_map (killed_by place (Evict table k))) (map (option_map (killed_upto place table k)) builds) ≡ map (option_map (killed_upto place table (k + 1))) builds
+killed_more : (place table k : ℕ) (builds : List (Option Held)) →
+    map (option_map (killed_by place (Evict table k))) (map (option_map (killed_upto place table k)) builds) ≡ map
+    (option_map (killed_upto place table (k + 1))) builds
 killed_more place table k [] = refl
-killed_more place table k (b ∷ builds) = ap₂ (λ (x : Option Held) (xs : List (Option Held)). x ∷ xs) (more_of place table k b) (killed_more place table k builds)
+killed_more place table k (b ∷ builds) =
+    ap₂ (λ (x : Option Held) (xs : List (Option Held)). x ∷ xs) (more_of place table k b) (killed_more place table k builds)
 
 module _ {U : Type 0} where
   abbrev gone : Told U
@@ -97,7 +104,8 @@ module _ {U : Type 0} where
     builds = killed_nothing place table old.builds;
   }
 
-  pub Dropping-next : (old now next : Kept U) (place table k : ℕ) → Dropping old now place table k → IsDropped now next place (Evict table k) → Dropping old next place table (k + 1)
+  pub Dropping-next : (old now next : Kept U) (place table k : ℕ) → Dropping old now place table k → IsDropped now next place (Evict table k) →
+      Dropping old next place table (k + 1)
   Dropping-next old now next place table k dropping dropped = record {
     slots = λ t e.
         dropped.slots t e
@@ -112,28 +120,36 @@ module _ {U : Type 0} where
   unfolding slot_at
   told_past kept table e n long past = ap told (get_or_past (slice_index_or kept.slots table []) e nothing (omega (arith, long, past)))
 
-  told_all : (a b : Bool) (old : Kept U) (table t e n : ℕ) → n ≡ length (slice_index_or old.slots table []) → (table == t) ≡ a → nat_lt e n ≡ b → (if a && b then gone else told_at old t e) ≡ (if a then gone else told_at old t e)
+  told_all : (a b : Bool) (old : Kept U) (table t e n : ℕ) → n ≡ length (slice_index_or old.slots table []) → (table == t) ≡ a → nat_lt e n ≡ b →
+      (if a && b then gone else told_at old t e) ≡ (if a then gone else told_at old t e)
   told_all true true old table t e n long is below = refl
   told_all true false old table t e n long is past =
       let same : table ≡ t = eqb-true table t is in
       ap (λ (k : ℕ). told_at old k e) (sym same) ∙ told_past old table e n long (ltb-false e n past)
   told_all false b old table t e n long is below = refl
 
-  killed_all : (a b : Bool) (old : Kept U) (place table n id : ℕ) (held : Held) → n ≡ length (slice_index_or old.slots table []) → IsSound old → build_in old id ≡ Some held → (table == held.task.table) ≡ a → nat_lt held.task.extent n ≡ b → (if a && b then killed_at place held else held) ≡ (if a then killed_at place held else held)
+  killed_all : (a b : Bool) (old : Kept U) (place table n id : ℕ) (held : Held) → n ≡ length (slice_index_or old.slots table []) → IsSound old →
+      build_in old id ≡ Some held → (table == held.task.table) ≡ a → nat_lt held.task.extent n ≡ b →
+      (if a && b then killed_at place held else held) ≡ (if a then killed_at place held else held)
   killed_all true true old place table n id held long sound build is below = refl
   killed_all true false old place table n id held long sound build is past =
       let same : table ≡ held.task.table = eqb-true table held.task.table is in
-      let none : told_at old held.task.table held.task.extent ≡ gone = ap (λ (k : ℕ). told_at old k held.task.extent) (sym same) ∙ told_past old table held.task.extent n long (ltb-false held.task.extent n past) in
-      let dead : held.killed ≡ None → ⊥ = λ alive. false≢true (sym (ap (λ (x : Told U). is_some (option_map (λ (g : Growth). g.id) x.growing)) none) ∙ ap is_some (sound.lives id held build alive)) in
+      let none : told_at old held.task.table held.task.extent ≡ gone = ap (λ (k : ℕ). told_at old k held.task.extent) (sym same)
+          ∙ told_past old table held.task.extent n long (ltb-false held.task.extent n past) in
+      let dead : held.killed ≡ None → ⊥ =
+          λ alive. false≢true (sym (ap (λ (x : Told U). is_some (option_map (λ (g : Growth). g.id) x.growing)) none)
+          ∙ ap is_some (sound.lives id held build alive)) in
       sym (killed_again place held dead)
   killed_all false b old place table n id held long sound build is below = refl
 
-  killed_at_all : (old : Kept U) (place table n id : ℕ) (build : Option Held) → n ≡ length (slice_index_or old.slots table []) → IsSound old → build_in old id ≡ build → option_map (killed_upto place table n) build ≡ option_map (killed_by place (Memory table None)) build
+  killed_at_all : (old : Kept U) (place table n id : ℕ) (build : Option Held) → n ≡ length (slice_index_or old.slots table []) → IsSound old →
+      build_in old id ≡ build → option_map (killed_upto place table n) build ≡ option_map (killed_by place (Memory table None)) build
   killed_at_all old place table n id None long sound is = refl
   killed_at_all old place table n id (Some held) long sound is =
       ap Some (killed_all (table == held.task.table) (nat_lt held.task.extent n) old place table n id held long sound is refl refl)
 
-  pub Dropping-all : (old now : Kept U) (place table n : ℕ) → n ≡ length (slice_index_or old.slots table []) → IsSound old → Dropping old now place table n → IsDropped old now place (Memory table None)
+  pub Dropping-all : (old now : Kept U) (place table n : ℕ) → n ≡ length (slice_index_or old.slots table []) → IsSound old →
+      Dropping old now place table n → IsDropped old now place (Memory table None)
   Dropping-all old now place table n long sound dropping =
       let upto = option_map (killed_upto place table n) in
       let whole = option_map (killed_by place (Memory table None)) in

@@ -23,7 +23,8 @@ use Rattle.im_directory.proofs.SlotLemmas.{slot_at-changed, get_or-changed}
 use Rattle.im_directory.proofs.SoundLemmas.{ap_if, on_parts, living_on, living_own, build_some}
 
 -- what holds of an image holds before
-ForSome-before : {X Y : Type 0} (f : X → Y) (P : X → Type 0) (Q : Y → Type 0) (o : Option X) → ((x : X) → Q (f x) → P x) → ForSome (option_map f o) Q → ForSome o P
+ForSome-before : {X Y : Type 0} (f : X → Y) (P : X → Type 0) (Q : Y → Type 0) (o : Option X) → ((x : X) → Q (f x) → P x) → ForSome (option_map f o) Q →
+    ForSome o P
 ForSome-before f P Q None step holds = λ x is. absurd (false≢true (ap is_some is))
 ForSome-before f P Q (Some y) step holds = λ x is. let same : y ≡ x = cc in subst P same (step y (holds (f y) refl))
 
@@ -54,7 +55,8 @@ is_on_by held table extent = (table == held.task.table) && (extent == held.task.
 on_sides : (held : Held) (table extent : ℕ) → is_on_by held table extent ≡ true → is_on table extent held ≡ true
 on_sides held table extent on =
     let parts = and_parts _ _ on in
-    and_from _ _ (eq-eqb held.task.table table (sym (eqb-true table held.task.table parts.0))) (eq-eqb held.task.extent extent (sym (eqb-true extent held.task.extent parts.1)))
+    and_from _ _ (eq-eqb held.task.table table (sym (eqb-true table held.task.table parts.0)))
+        (eq-eqb held.task.extent extent (sym (eqb-true extent held.task.extent parts.1)))
 
 sides_on : (held : Held) (table extent : ℕ) → is_on table extent held ≡ true → is_on_by held table extent ≡ true
 sides_on held table extent on =
@@ -70,7 +72,9 @@ build_before builds zero some = absurd (omega (arith, some))
 build_before builds (suc before) some = let same : suc before - 1 ≡ before = omega arith in ap (λ (k : ℕ). slice_index_or builds k None) (sym same)
 
 -- one place of the builds, once the living build is killed
-killed_read : (place : ℕ) (living : Option ℕ) (builds : List (Option Held)) (k : ℕ) (after : Option Held) → ((id : ℕ) → living ≡ Some id → 1 ≤ id) → (living ≡ Some (suc k) → option_map (killed_at place) (slice_index_or builds k None) ≡ after) → ((living ≡ Some (suc k) → ⊥) → slice_index_or builds k None ≡ after) → slice_index_or (builds_killed place living builds) k None ≡ after
+killed_read : (place : ℕ) (living : Option ℕ) (builds : List (Option Held)) (k : ℕ) (after : Option Held) → ((id : ℕ) → living ≡ Some id → 1 ≤ id) →
+    (living ≡ Some (suc k) → option_map (killed_at place) (slice_index_or builds k None) ≡ after) →
+    ((living ≡ Some (suc k) → ⊥) → slice_index_or builds k None ≡ after) → slice_index_or (builds_killed place living builds) k None ≡ after
 killed_read place None builds k after some same other = other (λ is. false≢true (ap is_some is))
 killed_read place (Some id) builds k after some same other =
     let from : 1 ≤ id = some id refl in
@@ -101,39 +105,55 @@ module _ {U : Type 0} where
   pub SameTold-alike : (old new : List (List (Slot U))) (builds : List (Option Held)) → TellsAlike old new → SameTold (kept_of old builds) (kept_of new builds)
   SameTold-alike old new builds alike = record { slots = alike.each; builds = refl }
 
-  pub IsNoted-made : (old new : List (List (Slot U))) (builds : List (Option Held)) (tables : List TableInfo) (scn : ℕ) (changes : List Change) → AreNoted old new tables scn changes → IsNoted (kept_of old builds) (kept_of new builds) tables scn changes
+  pub IsNoted-made : (old new : List (List (Slot U))) (builds : List (Option Held)) (tables : List TableInfo) (scn : ℕ) (changes : List Change) →
+      AreNoted old new tables scn changes → IsNoted (kept_of old builds) (kept_of new builds) tables scn changes
   IsNoted-made old new builds tables scn changes noted = record { slots = noted.each; builds = refl }
 
-  pub HasRoom-made : (slots : List (List (Slot U))) (builds : List (Option Held)) (tables : List TableInfo) (changes : List Change) → HasNotesRoom slots tables changes → HasRoom (kept_of slots builds) tables changes
-  HasRoom-made slots builds tables changes room = record { current = λ table extent. (room.each table extent).current; growing = λ table extent. (room.each table extent).growing }
+  pub HasRoom-made : (slots : List (List (Slot U))) (builds : List (Option Held)) (tables : List TableInfo) (changes : List Change) →
+      HasNotesRoom slots tables changes → HasRoom (kept_of slots builds) tables changes
+  HasRoom-made slots builds tables changes room =
+      record { current = λ table extent. (room.each table extent).current; growing = λ table extent. (room.each table extent).growing }
 
-  pub HasNotesRoom-from : (kept : Kept U) (tables : List TableInfo) (changes : List Change) → HasRoom kept tables changes → HasNotesRoom kept.slots tables changes
-  HasNotesRoom-from kept tables changes room = record { each = λ table extent. record { current = room.current table extent; growing = room.growing table extent } }
+  pub HasNotesRoom-from : (kept : Kept U) (tables : List TableInfo) (changes : List Change) → HasRoom kept tables changes →
+      HasNotesRoom kept.slots tables changes
+  HasNotesRoom-from kept tables changes room =
+      record { each = λ table extent. record { current = room.current table extent; growing = room.growing table extent } }
 
   pub AreBefore-from : (kept : Kept U) (scn : ℕ) → IsBefore kept scn → AreBefore kept.slots scn
   AreBefore-from kept scn before = record {
     each = λ table extent. record {
-      current = ForSome-before stock (λ (c : Current U). NoneBehind scn c.journal.notes) (λ (s : Stock U). NoneBehind scn s.notes) (slot_at kept.slots table extent).current (λ c holds. holds) (before.current table extent);
-      growing = ForSome-before growth (λ (g : Growing). NoneBehind scn g.journal.notes) (λ (g : Growth). NoneBehind scn g.notes) (slot_at kept.slots table extent).growing (λ g holds. holds) (before.growing table extent);
+      current =
+          ForSome-before stock (λ (c : Current U). NoneBehind scn c.journal.notes) (λ (s : Stock U). NoneBehind scn s.notes)
+          (slot_at kept.slots table extent).current (λ c holds. holds) (before.current table extent);
+      growing =
+          ForSome-before growth (λ (g : Growing). NoneBehind scn g.journal.notes) (λ (g : Growth). NoneBehind scn g.notes)
+          (slot_at kept.slots table extent).growing (λ g holds. holds) (before.growing table extent);
     };
   }
 
   -- what is told of each extent once one of them changed
-  told_changed : (f : Slot U → Slot U) (slots : List (List (Slot U))) (held : Held) (table extent : ℕ) → f nothing ≡ nothing → told (slot_at (slots_with f held.task.table held.task.extent slots) table extent) ≡ (if is_on table extent held then told (f (slot_at slots table extent)) else told (slot_at slots table extent))
+  told_changed : (f : Slot U → Slot U) (slots : List (List (Slot U))) (held : Held) (table extent : ℕ) → f nothing ≡ nothing →
+      told (slot_at (slots_with f held.task.table held.task.extent slots) table extent) ≡
+      (if is_on table extent held then told (f (slot_at slots table extent)) else told (slot_at slots table extent))
   told_changed f slots held table extent keeps =
       ap told (slot_at-changed f slots held.task.table held.task.extent table extent (inr keeps))
       ∙ ap_if told (is_on table extent held) (f (slot_at slots table extent)) (slot_at slots table extent)
 
-  begun_made : (old mid : List (List (Slot U))) (builds : List (Option Held)) (held : Held) → KeepsSlots old mid → HasPlace mid held.task.table held.task.extent → IsBegun (kept_of old builds) (kept_of (slots_with (slot_begun held.task.id) held.task.table held.task.extent mid) (builds ++ Some held ∷ [])) held
+  begun_made : (old mid : List (List (Slot U))) (builds : List (Option Held)) (held : Held) → KeepsSlots old mid →
+      HasPlace mid held.task.table held.task.extent → IsBegun (kept_of old builds)
+      (kept_of (slots_with (slot_begun held.task.id) held.task.table held.task.extent mid) (builds ++ Some held ∷ [])) held
   begun_made old mid builds held keeps place = record {
     slots = λ table extent.
         ap told (slot_at-changed (slot_begun held.task.id) mid held.task.table held.task.extent table extent (inl place))
         ∙ (ap_if told (is_on table extent held) (slot_begun held.task.id (slot_at mid table extent)) (slot_at mid table extent)
-        ∙ ap (λ (t : Told U). if is_on table extent held then record t { growing = Some (record { id = held.task.id; notes = [] }) } else t) (ap told (keeps.each table extent)));
+        ∙ ap (λ (t : Told U). if is_on table extent held then record t { growing = Some (record { id = held.task.id; notes = [] }) } else t)
+            (ap told (keeps.each table extent)));
     builds = refl;
   }
 
-  pub IsBegun-made : (old mid after : List (List (Slot U))) (builds new : List (Option Held)) (held : Held) → KeepsSlots old mid → HasPlace mid held.task.table held.task.extent → after ≡ slots_with (slot_begun held.task.id) held.task.table held.task.extent mid → new ≡ builds ++ Some held ∷ [] → IsBegun (kept_of old builds) (kept_of after new) held
+  pub IsBegun-made : (old mid after : List (List (Slot U))) (builds new : List (Option Held)) (held : Held) → KeepsSlots old mid →
+      HasPlace mid held.task.table held.task.extent → after ≡ slots_with (slot_begun held.task.id) held.task.table held.task.extent mid →
+      new ≡ builds ++ Some held ∷ [] → IsBegun (kept_of old builds) (kept_of after new) held
   IsBegun-made old mid after builds new held keeps place made pushed =
       subst (λ (k : Kept U). IsBegun (kept_of old builds) k held) (sym (ap₂ kept_of made pushed)) (begun_made old mid builds held keeps place)
 
@@ -143,22 +163,31 @@ module _ {U : Type 0} where
   grown_current unit None = refl
   grown_current unit (Some growing) = refl
 
-  pub IsSwitched-made : (old after : List (List (Slot U))) (builds new : List (Option Held)) (id : ℕ) (held : Held) (unit : Arc U Global) → held.task.id ≡ id → after ≡ slots_with (slot_switched unit) held.task.table held.task.extent old → new ≡ set builds (id - 1) None → IsSwitched (kept_of old builds) (kept_of after new) held unit.value
+  pub IsSwitched-made : (old after : List (List (Slot U))) (builds new : List (Option Held)) (id : ℕ) (held : Held) (unit : Arc U Global) →
+      held.task.id ≡ id → after ≡ slots_with (slot_switched unit) held.task.table held.task.extent old → new ≡ set builds (id - 1) None →
+      IsSwitched (kept_of old builds) (kept_of after new) held unit.value
   IsSwitched-made old after builds new id held unit number made ended = record {
     slots = λ table extent.
         ap (λ (s : List (List (Slot U))). told (slot_at s table extent)) made
         ∙ (told_changed (slot_switched unit) old held table extent refl
-        ∙ ap (λ (c : Option (Stock U)). if is_on table extent held then told_of c None else told (slot_at old table extent)) (grown_current unit (slot_at old table extent).growing));
+        ∙ ap (λ (c : Option (Stock U)). if is_on table extent held then told_of c None else told (slot_at old table extent))
+            (grown_current unit (slot_at old table extent).growing));
     builds = ended ∙ ap (λ (k : ℕ). set builds (k - 1) None) (sym number);
   }
 
-  cancelled_by : (b : Bool) (kept : Kept U) (held : Held) (table extent : ℕ) → IsSound kept → build_in kept held.task.id ≡ Some held → is_on table extent held ≡ b → (if b then told (slot_cancelled held.task.id (slot_at kept.slots table extent)) else told_at kept table extent) ≡ record (told_at kept table extent) { growing = unless_of held.task.id (told_at kept table extent).growing }
-  cancelled_by true kept held table extent sound is on = ap (told_of (told_at kept table extent).current) (growth_unless held.task.id (slot_at kept.slots table extent).growing)
+  cancelled_by : (b : Bool) (kept : Kept U) (held : Held) (table extent : ℕ) → IsSound kept → build_in kept held.task.id ≡ Some held →
+      is_on table extent held ≡ b → (if b then told (slot_cancelled held.task.id (slot_at kept.slots table extent)) else told_at kept table extent) ≡ record
+      (told_at kept table extent) { growing = unless_of held.task.id (told_at kept table extent).growing }
+  cancelled_by true kept held table extent sound is on =
+      ap (told_of (told_at kept table extent).current) (growth_unless held.task.id (slot_at kept.slots table extent).growing)
   cancelled_by false kept held table extent sound is off =
       ap (told_of (told_at kept table extent).current)
-      (sym (unless_of-other held.task.id (told_at kept table extent).growing (λ living. false≢true (sym off ∙ living_on kept table extent held.task.id held sound is living))))
+      (sym (unless_of-other held.task.id (told_at kept table extent).growing
+          (λ living. false≢true (sym off ∙ living_on kept table extent held.task.id held sound is living))))
 
-  pub IsCancelled-made : (old after : List (List (Slot U))) (builds new : List (Option Held)) (id : ℕ) (held : Held) → IsSound (kept_of old builds) → build_among builds id ≡ Some held → after ≡ slots_with (slot_cancelled id) held.task.table held.task.extent old → new ≡ set builds (id - 1) None → IsCancelled (kept_of old builds) (kept_of after new) held
+  pub IsCancelled-made : (old after : List (List (Slot U))) (builds new : List (Option Held)) (id : ℕ) (held : Held) → IsSound (kept_of old builds) →
+      build_among builds id ≡ Some held → after ≡ slots_with (slot_cancelled id) held.task.table held.task.extent old → new ≡ set builds (id - 1) None →
+      IsCancelled (kept_of old builds) (kept_of after new) held
   IsCancelled-made old after builds new id held sound is made ended =
       let number : held.task.id ≡ id = sound.numbered id held is in
       let own : build_among builds held.task.id ≡ Some held = ap (build_among builds) number ∙ is in
@@ -172,38 +201,46 @@ module _ {U : Type 0} where
       }
 
   -- the living build of an extent is kept in its slot
-  pub has_growing : (slots : List (List (Slot U))) (builds : List (Option Held)) (id : ℕ) (held : Held) → IsSound (kept_of slots builds) → build_among builds id ≡ Some held → held.killed ≡ None → IsSome (slot_at slots held.task.table held.task.extent).growing
+  pub has_growing : (slots : List (List (Slot U))) (builds : List (Option Held)) (id : ℕ) (held : Held) → IsSound (kept_of slots builds) →
+      build_among builds id ≡ Some held → held.killed ≡ None → IsSome (slot_at slots held.task.table held.task.extent).growing
   has_growing slots builds id held sound is alive = some_before (slot_at slots held.task.table held.task.extent).growing id (sound.lives id held is alive)
 
   -- ---- extents are taken out
 
-  pub kill_held : (slots : List (List (Slot U))) (builds : List (Option Held)) (table extent : ℕ) → IsSound (kept_of slots builds) → ForSome (option_map (λ (g : Growing). g.id) (slot_at slots table extent).growing) (λ id. IsSome (build_among builds id))
+  pub kill_held : (slots : List (List (Slot U))) (builds : List (Option Held)) (table extent : ℕ) → IsSound (kept_of slots builds) →
+      ForSome (option_map (λ (g : Growing). g.id) (slot_at slots table extent).growing) (λ id. IsSome (build_among builds id))
   kill_held slots builds table extent sound = λ id is.
       let was = sound.living table extent id (number_after (slot_at slots table extent).growing ∙ is) in
       ap is_some was.is
 
   -- what an Evict makes of a build: it kills that of its number
-  evicted_by : (b : Bool) (kept : Kept U) (place table extent id : ℕ) (held : Held) → IsSound kept → build_in kept id ≡ Some held → is_on_by held table extent ≡ b → (living_in kept table extent ≡ Some id → ⊥) → (if b then killed_at place held else held) ≡ held
+  evicted_by : (b : Bool) (kept : Kept U) (place table extent id : ℕ) (held : Held) → IsSound kept → build_in kept id ≡ Some held →
+      is_on_by held table extent ≡ b → (living_in kept table extent ≡ Some id → ⊥) → (if b then killed_at place held else held) ≡ held
   evicted_by true kept place table extent id held sound is on other =
       killed_again place held (λ alive. other (living_own kept table extent id held sound is alive (on_sides held table extent on)))
   evicted_by false kept place table extent id held sound is off other = refl
 
   -- the living build is on the extent of the Evict
-  evicted_living : (kept : Kept U) (place table extent id : ℕ) (held : Held) → IsSound kept → build_in kept id ≡ Some held → living_in kept table extent ≡ Some id → killed_by place (Evict table extent) held ≡ killed_at place held
+  evicted_living : (kept : Kept U) (place table extent id : ℕ) (held : Held) → IsSound kept → build_in kept id ≡ Some held →
+      living_in kept table extent ≡ Some id → killed_by place (Evict table extent) held ≡ killed_at place held
   evicted_living kept place table extent id held sound is living =
       ap (λ (b : Bool). if b then killed_at place held else held) (sides_on held table extent (living_on kept table extent id held sound is living))
 
   build_some_of : (kept : Kept U) (table extent id : ℕ) → IsSound kept → living_in kept table extent ≡ Some id → 1 ≤ id
   build_some_of kept table extent id sound lives = let was = sound.living table extent id lives in build_some kept.builds id was.held was.is
 
-  evicted_at : (kept : Kept U) (place table extent id : ℕ) (living : Option ℕ) (build : Option Held) → IsSound kept → build_in kept id ≡ build → living_in kept table extent ≡ living → (living ≡ Some id → option_map (killed_at place) build ≡ option_map (killed_by place (Evict table extent)) build) × ((living ≡ Some id → ⊥) → build ≡ option_map (killed_by place (Evict table extent)) build)
+  evicted_at : (kept : Kept U) (place table extent id : ℕ) (living : Option ℕ) (build : Option Held) → IsSound kept → build_in kept id ≡ build →
+      living_in kept table extent ≡ living → (living ≡ Some id →
+      option_map (killed_at place) build ≡ option_map (killed_by place (Evict table extent)) build) × ((living ≡ Some id → ⊥) →
+      build ≡ option_map (killed_by place (Evict table extent)) build)
   evicted_at kept place table extent id living None sound is lives = (λ same. refl, λ other. refl)
   evicted_at kept place table extent id living (Some held) sound is lives = (
     λ same. ap Some (sym (evicted_living kept place table extent id held sound is (lives ∙ same))),
     λ other. ap Some (sym (evicted_by (is_on_by held table extent) kept place table extent id held sound is refl (λ same. other (sym lives ∙ same)))),
   )
 
-  killed_list : (kept : Kept U) (place table extent : ℕ) (living : Option ℕ) → IsSound kept → living_in kept table extent ≡ living → builds_killed place living kept.builds ≡ map (option_map (killed_by place (Evict table extent))) kept.builds
+  killed_list : (kept : Kept U) (place table extent : ℕ) (living : Option ℕ) → IsSound kept → living_in kept table extent ≡ living →
+      builds_killed place living kept.builds ≡ map (option_map (killed_by place (Evict table extent))) kept.builds
   killed_list kept place table extent living sound lives =
       let f = option_map (killed_by place (Evict table extent)) in
       let long : length (map f kept.builds) ≡ length kept.builds = length-map kept.builds f in
@@ -215,7 +252,10 @@ module _ {U : Type 0} where
       killed_read place living kept.builds k (f (build_in kept (suc k))) (λ id is. build_some_of kept table extent id sound (lives ∙ is)) both.0 both.1
       ∙ sym (get_or-map f kept.builds k None None within))
 
-  pub IsDropped-evicted : (slots after : List (List (Slot U))) (builds new : List (Option Held)) (place table extent : ℕ) (living : Option ℕ) → IsSound (kept_of slots builds) → living ≡ option_map (λ (g : Growing). g.id) (slot_at slots table extent).growing → after ≡ slots_with slot_dropped table extent slots → new ≡ builds_killed place living builds → IsDropped (kept_of slots builds) (kept_of after new) place (Evict table extent)
+  pub IsDropped-evicted : (slots after : List (List (Slot U))) (builds new : List (Option Held)) (place table extent : ℕ) (living : Option ℕ) →
+      IsSound (kept_of slots builds) → living ≡ option_map (λ (g : Growing). g.id) (slot_at slots table extent).growing →
+      after ≡ slots_with slot_dropped table extent slots → new ≡ builds_killed place living builds →
+      IsDropped (kept_of slots builds) (kept_of after new) place (Evict table extent)
   IsDropped-evicted slots after builds new place table extent living sound is made killed = record {
     slots = λ t e.
         ap (λ (s : List (List (Slot U))). told (slot_at s t e)) made

@@ -18,7 +18,8 @@ use Rattle.im_directory.proofs.JournalLemmas.{IsJournal-quiet}
 use Rattle.im_directory.proofs.SoundLemmas.{IsEnding-cancelled, IsEnding-switched, IsSound-ended, living_on, living_own, on_parts, some_same}
 
 -- a living build that is left is not the one that ended
-left_by : (b : Bool) (id : ℕ) (growth left : Growth) → (growth.id == id) ≡ b → (if b then None else Some growth) ≡ Some left → ((left.id == id) ≡ false) × (Some growth ≡ Some left)
+left_by : (b : Bool) (id : ℕ) (growth left : Growth) → (growth.id == id) ≡ b → (if b then None else Some growth) ≡ Some left →
+    ((left.id == id) ≡ false) × (Some growth ≡ Some left)
 left_by true id growth left is found = absurd (false≢true (ap is_some found))
 left_by false id growth left is found = (ap (λ (g : Growth). g.id == id) (sym (some_same _ _ found)) ∙ is, found)
 
@@ -28,14 +29,18 @@ left_of id (Some growth) left found = left_by (growth.id == id) id growth left r
 
 module _ {U : Type 0} (content : U → Content) where
   -- a living build that is left stays held
-  growth_kept : (h : History) (entry : Entry) (old : Kept U) (table extent id : ℕ) (growth : Growth) → is_quiet entry.what ≡ true → Agrees content h old → held_at (h ++ entry ∷ []) growth.id ≡ (if growth.id == id then None else held_at h growth.id) → (growth.id == id) ≡ false → (told_at old table extent).growing ≡ Some growth → IsGrowth content (h ++ entry ∷ []) table extent growth
+  growth_kept : (h : History) (entry : Entry) (old : Kept U) (table extent id : ℕ) (growth : Growth) → is_quiet entry.what ≡ true → Agrees content h old →
+      held_at (h ++ entry ∷ []) growth.id ≡ (if growth.id == id then None else held_at h growth.id) → (growth.id == id) ≡ false →
+      (told_at old table extent).growing ≡ Some growth → IsGrowth content (h ++ entry ∷ []) table extent growth
   growth_kept h entry old table extent id growth quiet agrees held apart is =
       let kept = agrees.growth table extent growth is in
-      IsGrowth-quiet content h entry table extent growth kept kept.held quiet (held ∙ (ap (λ (b : Bool). if b then None else held_at h growth.id) apart ∙ kept.is)) refl
+      IsGrowth-quiet content h entry table extent growth kept kept.held quiet (held
+          ∙ (ap (λ (b : Bool). if b then None else held_at h growth.id) apart ∙ kept.is)) refl
 
   -- ---- without its unit
 
-  pub Agrees-cancel : (h : History) (who id : ℕ) (full : Bool) (held : Held) (old new : Kept U) → Agrees content h old → held_at h id ≡ Some held → IsCancelled old new held → Agrees content (h ++ record { who = who; what = Cancel id full } ∷ []) new
+  pub Agrees-cancel : (h : History) (who id : ℕ) (full : Bool) (held : Held) (old new : Kept U) → Agrees content h old → held_at h id ≡ Some held →
+      IsCancelled old new held → Agrees content (h ++ record { who = who; what = Cancel id full } ∷ []) new
   Agrees-cancel h who id full held old new agrees is cancelled =
       let entry : Entry = record { who = who; what = Cancel id full } in
       let build : build_in old id ≡ Some held = agrees.held id ∙ is in
@@ -45,13 +50,17 @@ module _ {U : Type 0} (content : U → Content) where
       record {
         numbered = ap length cancelled.builds ∙ (long ∙ (agrees.numbered ∙ sym (builds-push h entry)));
         sound = IsSound-ended old new id ending agrees.sound;
-        held = λ other. ending.builds other ∙ (ap (λ (o : Option Held). if other == id then None else o) (agrees.held other) ∙ sym (held_at-cancel h who id full other));
+        held =
+            λ other. ending.builds other ∙ (ap (λ (o : Option Held). if other == id then None else o) (agrees.held other)
+            ∙ sym (held_at-cancel h who id full other));
         units = λ t e. ap (λ (told : Told U). scn_of content told.current) (cancelled.slots t e) ∙ (agrees.units t e ∙ sym (unit-push h entry t e));
         living = λ t e. ending.living t e ∙ (ap (unless_ended id) (agrees.living t e) ∙ sym (living-push h entry t e));
         stock = λ t e stock found.
             IsStock-quiet content h entry t e stock refl (agrees.stock t e stock (sym (ap (λ (told : Told U). told.current) (cancelled.slots t e)) ∙ found));
         growth = λ t e growth found.
-            let left = left_of id (told_at old t e).growing growth (ap (λ (k : ℕ). unless_of k (told_at old t e).growing) (sym number) ∙ (sym (ap (λ (told : Told U). told.growing) (cancelled.slots t e)) ∙ found)) in
+            let left =
+                left_of id (told_at old t e).growing growth (ap (λ (k : ℕ). unless_of k (told_at old t e).growing) (sym number)
+                ∙ (sym (ap (λ (told : Told U). told.growing) (cancelled.slots t e)) ∙ found)) in
             growth_kept h entry old t e id growth refl agrees (held_at-cancel h who id full growth.id) left.0 left.1;
       }
 
@@ -96,27 +105,33 @@ module _ {U : Type 0} (content : U → Content) where
         ap (λ (o : Option Growth). scn_of content (grown unit o)) kept.is ∙ ap Some scn_is
     unit_by false t e off = switches.agrees.units t e
 
-    stock_by : (b : Bool) (t e : ℕ) (stock : Stock U) → is_on t e held ≡ b → (told_by b t e).current ≡ Some stock → IsStock content (h ++ record { who = who; what = Switch id } ∷ []) t e stock
+    stock_by : (b : Bool) (t e : ℕ) (stock : Stock U) → is_on t e held ≡ b → (told_by b t e).current ≡ Some stock →
+        IsStock content (h ++ record { who = who; what = Switch id } ∷ []) t e stock
     stock_by true t e stock on found =
         let entry : Entry = record { who = who; what = Switch id } in
         let kept = built t e on in
         let parts = on_parts t e held on in
         let same : record { unit = unit; notes = kept.growth.notes } ≡ stock = some_same _ _ (sym (ap (grown unit) kept.is) ∙ found) in
-        let here : content_at h held.task.table held.task.extent held.task.scn ≡ content_at h t e held.task.scn = ap₂ (λ (table extent : ℕ). content_at h table extent held.task.scn) parts.0 parts.1 in
+        let here : content_at h held.task.table held.task.extent held.task.scn ≡ content_at h t e held.task.scn =
+            ap₂ (λ (table extent : ℕ). content_at h table extent held.task.scn) parts.0 parts.1 in
         subst (λ (s : Stock U). IsStock content (h ++ entry ∷ []) t e s) same (record {
           holds = switches.holds
               ∙ (here
               ∙ (sym (content_at-push h entry t e held.task.scn kept.journal.exists kept.journal.from) ∙ ap (content_at (h ++ entry ∷ []) t e) (sym scn_is)));
-          journal = subst (λ (n : ℕ). IsJournal (h ++ entry ∷ []) t e n kept.growth.notes) (sym scn_is) (IsJournal-quiet h entry t e held.task.scn kept.growth.notes refl kept.journal);
+          journal =
+              subst (λ (n : ℕ). IsJournal (h ++ entry ∷ []) t e n kept.growth.notes) (sym scn_is)
+              (IsJournal-quiet h entry t e held.task.scn kept.growth.notes refl kept.journal);
         })
     stock_by false t e stock off found = IsStock-quiet content h (record { who = who; what = Switch id }) t e stock refl (switches.agrees.stock t e stock found)
 
-    growth_by : (b : Bool) (t e : ℕ) (growth : Growth) → is_on t e held ≡ b → (told_by b t e).growing ≡ Some growth → IsGrowth content (h ++ record { who = who; what = Switch id } ∷ []) t e growth
+    growth_by : (b : Bool) (t e : ℕ) (growth : Growth) → is_on t e held ≡ b → (told_by b t e).growing ≡ Some growth →
+        IsGrowth content (h ++ record { who = who; what = Switch id } ∷ []) t e growth
     growth_by true t e growth on found = absurd (false≢true (ap is_some found))
     growth_by false t e growth off found =
         let apart : growth.id ≡ id → ⊥ = λ same.
         false≢true (sym off ∙ living_on old t e id held switches.agrees.sound build_is (ap (option_map (λ (g : Growth). g.id)) found ∙ ap Some same)) in
-        growth_kept h (record { who = who; what = Switch id }) old t e id growth refl switches.agrees (held_at-switch h who id growth.id) (ne_eqb growth.id id apart) found
+        growth_kept h (record { who =
+            who; what = Switch id }) old t e id growth refl switches.agrees (held_at-switch h who id growth.id) (ne_eqb growth.id id apart) found
 
     agrees_switched : Agrees content (h ++ record { who = who; what = Switch id } ∷ []) new
     agrees_switched =
@@ -127,16 +142,23 @@ module _ {U : Type 0} (content : U → Content) where
         record {
           numbered = ap length switches.switched.builds ∙ (long ∙ (agrees.numbered ∙ sym (builds-push h entry)));
           sound = IsSound-ended old new id ending agrees.sound;
-          held = λ other. ending.builds other ∙ (ap (λ (o : Option Held). if other == id then None else o) (agrees.held other) ∙ sym (held_at-switch h who id other));
+          held =
+              λ other. ending.builds other ∙ (ap (λ (o : Option Held). if other == id then None else o) (agrees.held other)
+              ∙ sym (held_at-switch h who id other));
           units = λ t e.
               ap (λ (told : Told U). scn_of content told.current) (switches.switched.slots t e)
               ∙ (unit_by (is_on t e held) t e refl
               ∙ sym (unit-push h entry t e ∙ ap (switched t e (unit_at h t e)) switches.is));
           living = λ t e. ending.living t e ∙ (ap (unless_ended id) (agrees.living t e) ∙ sym (living-push h entry t e));
-          stock = λ t e stock found. stock_by (is_on t e held) t e stock refl (sym (ap (λ (told : Told U). told.current) (switches.switched.slots t e)) ∙ found);
-          growth = λ t e growth found. growth_by (is_on t e held) t e growth refl (sym (ap (λ (told : Told U). told.growing) (switches.switched.slots t e)) ∙ found);
+          stock =
+              λ t e stock found. stock_by (is_on t e held) t e stock refl (sym (ap (λ (told : Told U). told.current) (switches.switched.slots t e)) ∙ found);
+          growth =
+              λ t e growth found. growth_by (is_on t e held) t e growth refl (sym (ap (λ (told : Told U). told.growing) (switches.switched.slots t e))
+              ∙ found);
         }
 
-  pub Agrees-switch : (h : History) (who id : ℕ) (held : Held) (unit : U) (old new : Kept U) → Agrees content h old → held_at h id ≡ Some held → held.killed ≡ None → content unit ≡ content_at h held.task.table held.task.extent held.task.scn → IsSwitched old new held unit → Agrees content (h ++ record { who = who; what = Switch id } ∷ []) new
+  pub Agrees-switch : (h : History) (who id : ℕ) (held : Held) (unit : U) (old new : Kept U) → Agrees content h old → held_at h id ≡ Some held →
+      held.killed ≡ None → content unit ≡ content_at h held.task.table held.task.extent held.task.scn → IsSwitched old new held unit →
+      Agrees content (h ++ record { who = who; what = Switch id } ∷ []) new
   Agrees-switch h who id held unit old new agrees is alive holds switched =
       agrees_switched h who id held unit old new (record { agrees = agrees; is = is; alive = alive; holds = holds; switched = switched })

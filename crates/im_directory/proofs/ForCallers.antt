@@ -21,28 +21,34 @@ pub use Rattle.im_directory.proofs.EndLemmas.{Agrees-cancel, Agrees-switch}
 
 module _ {U : Type 0} (content : U → Content) where
   -- an entry that takes extents out of the column store
-  pub Agrees-drop : (h : History) (who : ℕ) (what : What) (old new : Kept U) → takes_out what ≡ true → Agrees content h old → IsDropped old new (length h) what → Agrees content (h ++ record { who = who; what = what } ∷ []) new
+  pub Agrees-drop : (h : History) (who : ℕ) (what : What) (old new : Kept U) → takes_out what ≡ true → Agrees content h old →
+      IsDropped old new (length h) what → Agrees content (h ++ record { who = who; what = what } ∷ []) new
   Agrees-drop h who what old new out agrees dropped = Agrees-plain content h who what old new (plain-out what out) (quiet-out what out) agrees dropped
 
   -- the stale rows of a current unit are those of its journal
-  pub stale-by : (h : History) (kept : Kept U) (table extent : ℕ) (stock : Stock U) (to : ℕ) → Agrees content h kept → (told_at kept table extent).current ≡ Some stock → 1 ≤ per_at h table → stale h table extent (content stock.unit).scn to ≡ stale_rows_at stock.notes to
-  stale-by h kept table extent stock to agrees is some = stale-noted h table extent (content stock.unit).scn stock.notes to (agrees.stock table extent stock is).journal some
+  pub stale-by : (h : History) (kept : Kept U) (table extent : ℕ) (stock : Stock U) (to : ℕ) → Agrees content h kept →
+      (told_at kept table extent).current ≡ Some stock → 1 ≤ per_at h table → stale h table extent (content stock.unit).scn to ≡ stale_rows_at stock.notes to
+  stale-by h kept table extent stock to agrees is some =
+      stale-noted h table extent (content stock.unit).scn stock.notes to (agrees.stock table extent stock is).journal some
 
   -- no note is of a later commit than the present one
   pub IsBefore-by : (h : History) (kept : Kept U) (n : ℕ) → Agrees content h kept → scn h ≤ n → IsBefore kept n
   IsBefore-by h kept n agrees past = record {
     current = λ table extent stock is. NoneBehind-from n stock.notes (upto-later (scn h) n stock.notes past (agrees.stock table extent stock is).journal.to);
-    growing = λ table extent growth is. NoneBehind-from n growth.notes (upto-later (scn h) n growth.notes past (agrees.growth table extent growth is).journal.to);
+    growing =
+        λ table extent growth is. NoneBehind-from n growth.notes (upto-later (scn h) n growth.notes past (agrees.growth table extent growth is).journal.to);
   }
 
   -- a living build is held, on its extent, and nothing killed it
-  pub living-by : (h : History) (kept : Kept U) (table extent id : ℕ) → Agrees content h kept → living h table extent ≡ Some id → IsLivingBuild h table extent id
+  pub living-by : (h : History) (kept : Kept U) (table extent id : ℕ) → Agrees content h kept → living h table extent ≡ Some id →
+      IsLivingBuild h table extent id
   living-by h kept table extent id agrees is =
       let was = agrees.sound.living table extent id (agrees.living table extent ∙ is) in
       record { held = was.held; is = sym (agrees.held id) ∙ was.is; on = was.on; alive = was.alive }
 
   -- a held build that nothing killed is the living one of its extent
-  pub lives-by : (h : History) (kept : Kept U) (id : ℕ) (held : Held) → Agrees content h kept → held_at h id ≡ Some held → held.killed ≡ None → living h held.task.table held.task.extent ≡ Some id
+  pub lives-by : (h : History) (kept : Kept U) (id : ℕ) (held : Held) → Agrees content h kept → held_at h id ≡ Some held → held.killed ≡ None →
+      living h held.task.table held.task.extent ≡ Some id
   lives-by h kept id held agrees is alive = sym (agrees.living held.task.table held.task.extent) ∙ agrees.sound.lives id held (agrees.held id ∙ is) alive
 
   -- a held build is of its number
@@ -50,5 +56,6 @@ module _ {U : Type 0} (content : U → Content) where
   numbered-by h kept id held agrees is = agrees.sound.numbered id held (agrees.held id ∙ is)
 
   -- a held build that nothing killed may be switched in
-  pub IsAlive-by : (h : History) (kept : Kept U) (id : ℕ) (held : Held) → Agrees content h kept → held_at h id ≡ Some held → held.killed ≡ None → IsAlive kept id
+  pub IsAlive-by : (h : History) (kept : Kept U) (id : ℕ) (held : Held) → Agrees content h kept → held_at h id ≡ Some held → held.killed ≡ None →
+      IsAlive kept id
   IsAlive-by h kept id held agrees is alive = record { held = held; is = agrees.held id ∙ is; alive = alive }

@@ -29,7 +29,8 @@ pub upto-later : (n m : ℕ) (notes : List Note) → n ≤ m → AreUpTo n notes
 upto-later n m notes rises upto = All-weaker (λ (note : Note). note.1 ≤ n) (λ (note : Note). note.1 ≤ m) (λ note below. omega (arith, below, rises)) notes upto
 
 -- an entry that commits no changes leaves each journal as it is
-pub IsJournal-quiet : (h : History) (entry : Entry) (table extent after : ℕ) (notes : List Note) → is_quiet entry.what ≡ true → IsJournal h table extent after notes → IsJournal (h ++ entry ∷ []) table extent after notes
+pub IsJournal-quiet : (h : History) (entry : Entry) (table extent after : ℕ) (notes : List Note) → is_quiet entry.what ≡ true →
+    IsJournal h table extent after notes → IsJournal (h ++ entry ∷ []) table extent after notes
 IsJournal-quiet h entry table extent after notes quiet journal =
     let rises = scn-rises h entry in
     record {
@@ -38,11 +39,13 @@ IsJournal-quiet h entry table extent after notes quiet journal =
       to = upto-later (scn h) (scn (h ++ entry ∷ [])) notes rises journal.to;
       each = λ to rid.
           journal.each to rid
-          ∙ ap₂ (λ (per : ℕ) (b : Bool). (rid / per == extent) && b) (sym (per_at-push h entry table journal.exists)) (sym (touched_between-quiet h entry after to table rid quiet));
+          ∙ ap₂ (λ (per : ℕ) (b : Bool). (rid / per == extent) && b) (sym (per_at-push h entry table journal.exists))
+              (sym (touched_between-quiet h entry after to table rid quiet));
     }
 
 -- a journal that is begun with an entry which commits no changes is empty
-pub IsJournal-begun : (h : History) (entry : Entry) (table extent : ℕ) → is_quiet entry.what ≡ true → Exists h table → IsJournal (h ++ entry ∷ []) table extent (scn h) []
+pub IsJournal-begun : (h : History) (entry : Entry) (table extent : ℕ) → is_quiet entry.what ≡ true → Exists h table →
+    IsJournal (h ++ entry ∷ []) table extent (scn h) []
 IsJournal-begun h entry table extent quiet exists = record {
   exists = Exists-push h entry table exists;
   from = scn-rises h entry;
@@ -57,7 +60,9 @@ between_commit : (b x after_ok l : Bool) (m : Bool) → after_ok ≡ true → l 
 between_commit b x after_ok l m is same = rw (is, same) refl
 
 -- a commit notes its changes
-pub IsJournal-commit : (h : History) (who table extent after : ℕ) (notes : List Note) → IsJournal h table extent after notes → IsJournal (h ++ record { who = who; what = Commit } ∷ []) table extent after (with_notes (notes_of (tables h) (scn h + 1) (pending h who) table extent) notes)
+pub IsJournal-commit : (h : History) (who table extent after : ℕ) (notes : List Note) → IsJournal h table extent after notes →
+    IsJournal (h ++ record { who = who; what = Commit } ∷ []) table extent after
+    (with_notes (notes_of (tables h) (scn h + 1) (pending h who) table extent) notes)
 IsJournal-commit h who table extent after notes journal =
     let entry : Entry = record { who = who; what = Commit } in
     let now : History = h ++ entry ∷ [] in
@@ -70,7 +75,8 @@ IsJournal-commit h who table extent after notes journal =
       each = λ to rid.
           is_noted-commit (tables h) (scn h + 1) (pending h who) table extent notes (touched_between h after to table rid) to rid upto (journal.each to rid)
           ∙ (ap (λ (b : Bool). (rid / per_at h table == extent) && b)
-          (between_commit (touched_between h after to table rid) (touches (pending h who) table rid) (nat_le after (scn h)) (nat_lt (scn h) to) (nat_le (scn h + 1) to) (le-leb after (scn h) journal.from) (nat_lt-next (scn h) to)
+          (between_commit (touched_between h after to table rid) (touches (pending h who) table rid) (nat_le after (scn h)) (nat_lt (scn h) to)
+              (nat_le (scn h + 1) to) (le-leb after (scn h) journal.from) (nat_lt-next (scn h) to)
           ∙ sym (touched_between-commit h who after to table rid))
           ∙ ap (λ (per : ℕ). (rid / per == extent) && touched_between now after to table rid) (sym (per_at-push h entry table journal.exists)));
     }

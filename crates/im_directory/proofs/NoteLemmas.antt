@@ -21,7 +21,8 @@ AreUpTo scn notes = All (λ (note : Note). note.1 ≤ scn) notes
 all_to : (to : ℕ) (notes : List Note) → AreUpTo to notes → notes_to to notes ≡ notes
 all_to to [] upto = refl
 all_to to (note ∷ notes) upto =
-    rw (le-leb note.1 to (All-head (λ (n : Note). n.1 ≤ to) note notes upto)) (ap (λ l. note ∷ l) (all_to to notes (All-tail (λ (n : Note). n.1 ≤ to) note notes upto)))
+    rw (le-leb note.1 to (All-head (λ (n : Note). n.1 ≤ to) note notes upto))
+        (ap (λ l. note ∷ l) (all_to to notes (All-tail (λ (n : Note). n.1 ≤ to) note notes upto)))
 
 -- ---- Booleans
 
@@ -78,7 +79,8 @@ one_by t e false r s same equal = rw same (front_false t r)
 
 -- ---- one note more
 
-known_by : (l : Bool) (notes : List Note) (row scn to rid : ℕ) → AreUpTo scn notes → is_noted notes row ≡ true → nat_le scn to ≡ l → is_noted (notes_to to notes) rid ≡ is_noted (notes_to to notes) rid || (l && ((rid == row) || false))
+known_by : (l : Bool) (notes : List Note) (row scn to rid : ℕ) → AreUpTo scn notes → is_noted notes row ≡ true → nat_le scn to ≡ l →
+    is_noted (notes_to to notes) rid ≡ is_noted (notes_to to notes) rid || (l && ((rid == row) || false))
 known_by false notes row scn to rid upto known after = or_none (is_noted (notes_to to notes) rid) false
 known_by true notes row scn to rid upto known after =
     ⊎_elim (λ (is : rid ≡ row).
@@ -88,14 +90,18 @@ known_by true notes row scn to rid upto known after =
     (λ (other : rid ≡ row → ⊥). rw (ne_eqb rid row other) (or_none (is_noted (notes_to to notes) rid) true))
     (cases_eq rid row)
 
-fresh_by : (l : Bool) (before : List Note) (row scn rid : ℕ) → is_noted (before ++ (if l then (row, scn) ∷ [] else [])) rid ≡ is_noted before rid || (l && ((rid == row) || false))
+fresh_by : (l : Bool) (before : List Note) (row scn rid : ℕ) →
+    is_noted (before ++ (if l then (row, scn) ∷ [] else [])) rid ≡ is_noted before rid || (l && ((rid == row) || false))
 fresh_by true before row scn rid = list_any-append (λ (n : Note). rid == n.0) before ((row, scn) ∷ [])
 fresh_by false before row scn rid = list_any-append (λ (n : Note). rid == n.0) before []
 
-noted_by : (b : Bool) (notes : List Note) (row scn to rid : ℕ) → AreUpTo scn notes → is_noted notes row ≡ b → is_noted (notes_to to (if b then notes else notes ++ (row, scn) ∷ [])) rid ≡ is_noted (notes_to to notes) rid || (nat_le scn to && ((rid == row) || false))
+noted_by : (b : Bool) (notes : List Note) (row scn to rid : ℕ) → AreUpTo scn notes → is_noted notes row ≡ b →
+    is_noted (notes_to to (if b then notes else notes ++ (row, scn) ∷ [])) rid ≡ is_noted (notes_to to notes) rid ||
+    (nat_le scn to && ((rid == row) || false))
 noted_by true notes row scn to rid upto known = known_by (nat_le scn to) notes row scn to rid upto known refl
 noted_by false notes row scn to rid upto fresh =
-    ap (λ (l : List Note). is_noted l rid) (filter-append (λ (n : Note). nat_le n.1 to) notes ((row, scn) ∷ [])) ∙ fresh_by (nat_le scn to) (notes_to to notes) row scn rid
+    ap (λ (l : List Note). is_noted l rid) (filter-append (λ (n : Note). nat_le n.1 to) notes ((row, scn) ∷ []))
+        ∙ fresh_by (nat_le scn to) (notes_to to notes) row scn rid
 
 upto_by : (b : Bool) (notes : List Note) (row scn : ℕ) → AreUpTo scn notes → AreUpTo scn (if b then notes else notes ++ (row, scn) ∷ [])
 upto_by true notes row scn upto = upto
@@ -114,14 +120,18 @@ made_of p scn changes = map (λ (c : Change). (c.rid, scn)) (filter p changes)
 -- the notes after those of a commit
 record AreMade (p : Change → Bool) (scn : ℕ) (changes : List Change) (notes : List Note) : Type 0 where
   upto : AreUpTo scn (with_notes (made_of p scn changes) notes)
-  each : (to rid : ℕ) → is_noted (notes_to to (with_notes (made_of p scn changes) notes)) rid ≡ is_noted (notes_to to notes) rid || (nat_le scn to && any_to p changes rid)
+  each : (to rid : ℕ) → is_noted (notes_to to (with_notes (made_of p scn changes) notes)) rid ≡ is_noted (notes_to to notes) rid ||
+      (nat_le scn to && any_to p changes rid)
 
 -- the same with one change more, which passes or not
 record MadeBy (b : Bool) (p : Change → Bool) (scn : ℕ) (change : Change) (changes : List Change) (notes : List Note) : Type 0 where
   upto : AreUpTo scn (with_notes (map (λ (c : Change). (c.rid, scn)) (if b then change ∷ filter p changes else filter p changes)) notes)
-  each : (to rid : ℕ) → is_noted (notes_to to (with_notes (map (λ (c : Change). (c.rid, scn)) (if b then change ∷ filter p changes else filter p changes)) notes)) rid ≡ is_noted (notes_to to notes) rid || (nat_le scn to && ((b && (rid == change.rid)) || any_to p changes rid))
+  each : (to rid : ℕ) → is_noted (notes_to to (with_notes (map (λ (c : Change). (c.rid, scn))
+      (if b then change ∷ filter p changes else filter p changes)) notes)) rid ≡ is_noted (notes_to to notes) rid ||
+      (nat_le scn to && ((b && (rid == change.rid)) || any_to p changes rid))
 
-made_by : (b : Bool) (p : Change → Bool) (scn : ℕ) (change : Change) (changes : List Change) (notes : List Note) → AreUpTo scn notes → ((other : List Note) → AreUpTo scn other → AreMade p scn changes other) → MadeBy b p scn change changes notes
+made_by : (b : Bool) (p : Change → Bool) (scn : ℕ) (change : Change) (changes : List Change) (notes : List Note) → AreUpTo scn notes →
+    ((other : List Note) → AreUpTo scn other → AreMade p scn changes other) → MadeBy b p scn change changes notes
 made_by true p scn change changes notes upto rest =
     let next : List Note = noted notes (change.rid, scn) in
     let after = rest next (upto_by (is_noted notes change.rid) notes change.rid scn upto) in
@@ -144,33 +154,42 @@ made p scn (change ∷ changes) notes upto =
 -- ---- of an extent
 
 -- the changes that pass for an extent and are to a row are those to the row, where it is in the extent
-one_to : (tables : List TableInfo) (table extent rid : ℕ) (change : Change) → is_in_extent tables table extent change && (rid == change.rid) ≡ (rid / per_extent (grid_of (table_among tables table)) == extent) && is_to table rid change
+one_to : (tables : List TableInfo) (table extent rid : ℕ) (change : Change) →
+    is_in_extent tables table extent change && (rid == change.rid) ≡
+    (rid / per_extent (grid_of (table_among tables table)) == extent) && is_to table rid change
 one_to tables table extent rid change =
     ⊎_elim (λ (is : change.table ≡ table).
     ⊎_elim (λ (same : rid ≡ change.rid).
-    one_by (change.table == table) (extent_in tables change == extent) (rid / per_extent (grid_of (table_among tables table)) == extent) (rid == change.rid) (change.rid == rid)
+    one_by (change.table == table) (extent_in tables change == extent) (rid / per_extent (grid_of (table_among tables table)) == extent) (rid == change.rid)
+        (change.rid == rid)
     (ap₂ (λ (r t : ℕ). r / per_extent (grid_of (table_among tables t)) == extent) (sym same) is)
     (eq-eqb rid change.rid same ∙ sym (eq-eqb change.rid rid (sym same))))
     (λ (other : rid ≡ change.rid → ⊥).
     let first : (rid == change.rid) ≡ false = ne_eqb rid change.rid other in
     let second : (change.rid == rid) ≡ false = ne_eqb change.rid rid (λ e. other (sym e)) in
-    rw (first, second) (none_both (is_in_extent tables table extent change) (rid / per_extent (grid_of (table_among tables table)) == extent) (change.table == table)))
+    rw (first, second) (none_both (is_in_extent tables table extent change) (rid / per_extent (grid_of (table_among tables table)) == extent)
+        (change.table == table)))
     (cases_eq rid change.rid))
     (λ (other : change.table ≡ table → ⊥). rw (ne_eqb change.table table other) (none_here (rid / per_extent (grid_of (table_among tables table)) == extent)))
     (cases_eq change.table table)
 
-any_to-extent : (tables : List TableInfo) (table extent rid : ℕ) (changes : List Change) → any_to (is_in_extent tables table extent) changes rid ≡ (rid / per_extent (grid_of (table_among tables table)) == extent) && touches changes table rid
+any_to-extent : (tables : List TableInfo) (table extent rid : ℕ) (changes : List Change) →
+    any_to (is_in_extent tables table extent) changes rid ≡ (rid / per_extent (grid_of (table_among tables table)) == extent) && touches changes table rid
 any_to-extent tables table extent rid [] = none_here (rid / per_extent (grid_of (table_among tables table)) == extent)
 any_to-extent tables table extent rid (change ∷ changes) =
     ap₂ (λ (a b : Bool). a || b) (one_to tables table extent rid change) (any_to-extent tables table extent rid changes)
     ∙ both_under (rid / per_extent (grid_of (table_among tables table)) == extent) (is_to table rid change) (touches changes table rid)
 
 -- the notes of a commit go up to its SCN
-pub notes_of-upto : (tables : List TableInfo) (scn : ℕ) (changes : List Change) (table extent : ℕ) (notes : List Note) → AreUpTo scn notes → AreUpTo scn (with_notes (notes_of tables scn changes table extent) notes)
+pub notes_of-upto : (tables : List TableInfo) (scn : ℕ) (changes : List Change) (table extent : ℕ) (notes : List Note) → AreUpTo scn notes →
+    AreUpTo scn (with_notes (notes_of tables scn changes table extent) notes)
 notes_of-upto tables scn changes table extent notes upto = (made (is_in_extent tables table extent) scn changes notes upto).upto
 
 -- and note the rows of the extent that its changes touch
-pub is_noted-commit : (tables : List TableInfo) (scn : ℕ) (changes : List Change) (table extent : ℕ) (notes : List Note) (between : Bool) (to rid : ℕ) → AreUpTo scn notes → is_noted (notes_to to notes) rid ≡ (rid / per_extent (grid_of (table_among tables table)) == extent) && between → is_noted (notes_to to (with_notes (notes_of tables scn changes table extent) notes)) rid ≡ (rid / per_extent (grid_of (table_among tables table)) == extent) && (between || (nat_le scn to && touches changes table rid))
+pub is_noted-commit : (tables : List TableInfo) (scn : ℕ) (changes : List Change) (table extent : ℕ) (notes : List Note) (between : Bool) (to rid : ℕ) →
+    AreUpTo scn notes → is_noted (notes_to to notes) rid ≡ (rid / per_extent (grid_of (table_among tables table)) == extent) && between →
+    is_noted (notes_to to (with_notes (notes_of tables scn changes table extent) notes)) rid ≡
+    (rid / per_extent (grid_of (table_among tables table)) == extent) && (between || (nat_le scn to && touches changes table rid))
 is_noted-commit tables scn changes table extent notes between to rid upto before =
     (made (is_in_extent tables table extent) scn changes notes upto).each to rid
     ∙ (ap₂ (λ (a b : Bool). a || (nat_le scn to && b)) before (any_to-extent tables table extent rid changes)

@@ -65,7 +65,8 @@ number_unless : (id : ℕ) (o : Option Growth) → option_map (λ (g : Growth). 
 number_unless id None = refl
 number_unless id (Some growth) = number_by (growth.id == id) growth
 
-pub number_noted : (notes : List Note) (o : Option Growth) → option_map (λ (g : Growth). g.id) (option_map (λ (g : Growth). record g { notes = with_notes notes g.notes }) o) ≡ option_map (λ (g : Growth). g.id) o
+pub number_noted : (notes : List Note) (o : Option Growth) → option_map (λ (g : Growth). g.id)
+    (option_map (λ (g : Growth). record g { notes = with_notes notes g.notes }) o) ≡ option_map (λ (g : Growth). g.id) o
 number_noted notes None = refl
 number_noted notes (Some growth) = refl
 
@@ -75,7 +76,8 @@ one_before id before some =
     (λ (other : suc before ≡ id → ⊥). ne_eqb (id - 1) before (λ (e : id - 1 ≡ before). other (omega arith)) ∙ sym (ne_eqb (suc before) id other))
     (cases_eq (suc before) id)
 
-build_ended : (builds : List (Option Held)) (id other : ℕ) → 1 ≤ id → build_among (set builds (id - 1) None) other ≡ (if other == id then None else build_among builds other)
+build_ended : (builds : List (Option Held)) (id other : ℕ) → 1 ≤ id →
+    build_among (set builds (id - 1) None) other ≡ (if other == id then None else build_among builds other)
 build_ended builds id zero some = same_either (0 == id) None
 build_ended builds id (suc before) some =
     get_or-changed (λ (b : Option Held). None) builds None (id - 1) before (inr refl)
@@ -94,7 +96,8 @@ pub build_past : (builds : List (Option Held)) (id : ℕ) → length builds + 1 
 build_past builds zero past = refl
 build_past builds (suc before) past = get_or_past builds before None (omega (arith, past))
 
-build_begun : (builds : List (Option Held)) (held : Held) (id : ℕ) → held.task.id ≡ length builds + 1 → build_among (builds ++ Some held ∷ []) id ≡ (if id == held.task.id then Some held else build_among builds id)
+build_begun : (builds : List (Option Held)) (held : Held) (id : ℕ) → held.task.id ≡ length builds + 1 →
+    build_among (builds ++ Some held ∷ []) id ≡ (if id == held.task.id then Some held else build_among builds id)
 build_begun builds held zero next = let other : 0 ≡ held.task.id → ⊥ = λ e. omega (arith, e, next) in rw (ne_eqb 0 held.task.id other) refl
 build_begun builds held (suc before) next =
     ⊎_elim (λ (inside : before < length builds).
@@ -107,11 +110,13 @@ build_begun builds held (suc before) next =
     (λ (beyond : before ≡ length builds → ⊥).
     let long = length_push builds (Some held) in
     let other : suc before ≡ held.task.id → ⊥ = λ e. beyond (omega (arith, e, next)) in
-    rw (ne_eqb (suc before) held.task.id other) (get_or_past (builds ++ Some held ∷ []) before None (omega (arith, long, past, beyond)) ∙ sym (get_or_past builds before None past)))
+    rw (ne_eqb (suc before) held.task.id other) (get_or_past (builds ++ Some held ∷ []) before None (omega (arith, long, past, beyond))
+        ∙ sym (get_or_past builds before None past)))
     (cases_eq before (length builds)))
     (cases_lt before (length builds))
 
-pub build_mapped : (f : Option Held → Option Held) (builds : List (Option Held)) (id : ℕ) → f None ≡ None → build_among (map f builds) id ≡ f (build_among builds id)
+pub build_mapped : (f : Option Held → Option Held) (builds : List (Option Held)) (id : ℕ) → f None ≡ None →
+    build_among (map f builds) id ≡ f (build_among builds id)
 build_mapped f builds zero none = sym none
 build_mapped f builds (suc before) none =
     ⊎_elim (λ (inside : before < length builds). get_or-map f builds before None None inside)
@@ -153,7 +158,8 @@ here_some place (Some p) is = false≢true (sym (ap is_some is))
 pub killed_off : (place : ℕ) (what : What) (held : Held) → drops held.task.table held.task.extent what ≡ false → killed_by place what held ≡ held
 killed_off place what held off = ap (λ (b : Bool). if b then record held { killed = or_here place held.killed } else held) off
 
-spared_by : (b : Bool) (place : ℕ) (what : What) (held : Held) → drops held.task.table held.task.extent what ≡ b → (if b then record held { killed = or_here place held.killed } else held).killed ≡ None → IsSpared place what held
+spared_by : (b : Bool) (place : ℕ) (what : What) (held : Held) → drops held.task.table held.task.extent what ≡ b →
+    (if b then record held { killed = or_here place held.killed } else held).killed ≡ None → IsSpared place what held
 spared_by true place what held off none = absurd (here_some place held.killed none)
 spared_by false place what held off none = record { off = off; same = killed_off place what held off; alive = none }
 
@@ -189,11 +195,14 @@ module _ {U : Type 0} where
         living = λ table extent. ap (λ (told : Told U). number_of told) (same.slots table extent);
       }) sound
 
-  pub IsSound-noted : (old new : Kept U) (tables : List TableInfo) (scn : ℕ) (changes : List Change) → IsNoted old new tables scn changes → IsSound old → IsSound new
+  pub IsSound-noted : (old new : Kept U) (tables : List TableInfo) (scn : ℕ) (changes : List Change) → IsNoted old new tables scn changes → IsSound old →
+      IsSound new
   IsSound-noted old new tables scn changes noted sound =
       IsSound-reads old new (record {
         builds = λ id. ap (λ (b : List (Option Held)). build_among b id) noted.builds;
-        living = λ table extent. ap (λ (told : Told U). number_of told) (noted.slots table extent) ∙ number_noted (notes_of tables scn changes table extent) (told_at old table extent).growing;
+        living =
+            λ table extent. ap (λ (told : Told U). number_of told) (noted.slots table extent)
+            ∙ number_noted (notes_of tables scn changes table extent) (told_at old table extent).growing;
       }) sound
 
   -- ---- nothing at first
@@ -238,29 +247,35 @@ module _ {U : Type 0} where
   }
 
   -- the living build of an extent is on it
-  pub living_on : (kept : Kept U) (table extent id : ℕ) (held : Held) → IsSound kept → build_in kept id ≡ Some held → living_in kept table extent ≡ Some id → is_on table extent held ≡ true
+  pub living_on : (kept : Kept U) (table extent id : ℕ) (held : Held) → IsSound kept → build_in kept id ≡ Some held →
+      living_in kept table extent ≡ Some id → is_on table extent held ≡ true
   living_on kept table extent id held sound is living =
       let was = sound.living table extent id living in
       let same : was.held ≡ held = some_same _ _ (sym was.is ∙ is) in
       subst (λ (h : Held). is_on table extent h ≡ true) same was.on
 
   -- on another extent than its own, no living build is it
-  pub living_off : (kept : Kept U) (table extent id : ℕ) (held : Held) → IsSound kept → build_in kept id ≡ Some held → is_on table extent held ≡ false → unless_ended id (living_in kept table extent) ≡ living_in kept table extent
+  pub living_off : (kept : Kept U) (table extent id : ℕ) (held : Held) → IsSound kept → build_in kept id ≡ Some held → is_on table extent held ≡ false →
+      unless_ended id (living_in kept table extent) ≡ living_in kept table extent
   living_off kept table extent id held sound is off =
       unless_other id (living_in kept table extent) (λ living. false≢true (sym off ∙ living_on kept table extent id held sound is living))
 
   -- a held build that nothing killed is the living one of its extent
-  pub living_own : (kept : Kept U) (table extent id : ℕ) (held : Held) → IsSound kept → build_in kept id ≡ Some held → held.killed ≡ None → is_on table extent held ≡ true → living_in kept table extent ≡ Some id
+  pub living_own : (kept : Kept U) (table extent id : ℕ) (held : Held) → IsSound kept → build_in kept id ≡ Some held → held.killed ≡ None →
+      is_on table extent held ≡ true → living_in kept table extent ≡ Some id
   living_own kept table extent id held sound is alive on =
       let parts = on_parts table extent held on in
       sym (ap₂ (living_in kept) parts.0 parts.1) ∙ sound.lives id held is alive
 
-  switched_by : (b : Bool) (old : Kept U) (told : Told U) (table extent id : ℕ) (held : Held) → IsSound old → build_in old id ≡ Some held → held.killed ≡ None → told.growing ≡ None → is_on table extent held ≡ b → number_of (if b then told else told_at old table extent) ≡ unless_ended id (living_in old table extent)
+  switched_by : (b : Bool) (old : Kept U) (told : Told U) (table extent id : ℕ) (held : Held) → IsSound old → build_in old id ≡ Some held →
+      held.killed ≡ None → told.growing ≡ None → is_on table extent held ≡ b →
+      number_of (if b then told else told_at old table extent) ≡ unless_ended id (living_in old table extent)
   switched_by true old told table extent id held sound is alive none on =
       ap (option_map (λ (g : Growth). g.id)) none ∙ sym (ap (unless_ended id) (living_own old table extent id held sound is alive on) ∙ unless_same id)
   switched_by false old told table extent id held sound is alive none off = sym (living_off old table extent id held sound is off)
 
-  pub IsEnding-switched : (old new : Kept U) (id : ℕ) (held : Held) (unit : U) → IsSound old → build_in old id ≡ Some held → held.killed ≡ None → IsSwitched old new held unit → IsEnding old new id
+  pub IsEnding-switched : (old new : Kept U) (id : ℕ) (held : Held) (unit : U) → IsSound old → build_in old id ≡ Some held → held.killed ≡ None →
+      IsSwitched old new held unit → IsEnding old new id
   IsEnding-switched old new id held unit sound is alive switched =
       let number : held.task.id ≡ id = sound.numbered id held is in
       record {
@@ -272,7 +287,8 @@ module _ {U : Type 0} where
             ∙ switched_by (is_on table extent held) old _ table extent id held sound is alive refl refl;
       }
 
-  pub IsEnding-cancelled : (old new : Kept U) (id : ℕ) (held : Held) → IsSound old → build_in old id ≡ Some held → IsCancelled old new held → IsEnding old new id
+  pub IsEnding-cancelled : (old new : Kept U) (id : ℕ) (held : Held) → IsSound old → build_in old id ≡ Some held → IsCancelled old new held →
+      IsEnding old new id
   IsEnding-cancelled old new id held sound is cancelled =
       let number : held.task.id ≡ id = sound.numbered id held is in
       record {
@@ -299,18 +315,22 @@ module _ {U : Type 0} where
         ∙ ap_if (λ (told : Told U). number_of told) (is_on table extent held) _ (told_at old table extent);
   }
 
-  numbered_by : (b : Bool) (old : Kept U) (held other : Held) (id : ℕ) → IsSound old → (id == held.task.id) ≡ b → (if b then Some held else build_in old id) ≡ Some other → other.task.id ≡ id
+  numbered_by : (b : Bool) (old : Kept U) (held other : Held) (id : ℕ) → IsSound old → (id == held.task.id) ≡ b →
+      (if b then Some held else build_in old id) ≡ Some other → other.task.id ≡ id
   numbered_by true old held other id sound same is =
       let equal : held ≡ other = some_same _ _ is in
       sym (ap (λ (h : Held). h.task.id) equal) ∙ sym (eqb-true id held.task.id same)
   numbered_by false old held other id sound same is = sound.numbered id other is
 
-  lives_by : (b : Bool) (old new : Kept U) (held other : Held) (id : ℕ) → IsSound old → IsBeginning old new held → living_in old held.task.table held.task.extent ≡ None → (id == held.task.id) ≡ b → (if b then Some held else build_in old id) ≡ Some other → other.killed ≡ None → living_in new other.task.table other.task.extent ≡ Some id
+  lives_by : (b : Bool) (old new : Kept U) (held other : Held) (id : ℕ) → IsSound old → IsBeginning old new held →
+      living_in old held.task.table held.task.extent ≡ None → (id == held.task.id) ≡ b → (if b then Some held else build_in old id) ≡ Some other →
+      other.killed ≡ None → living_in new other.task.table other.task.extent ≡ Some id
   lives_by true old new held other id sound begins free same is alive =
       let equal : held ≡ other = some_same _ _ is in
       let number : Some held.task.id ≡ Some id = ap Some (sym (eqb-true id held.task.id same)) in
       subst (λ (h : Held). living_in new h.task.table h.task.extent ≡ Some id) equal
-      (begins.living held.task.table held.task.extent ∙ (ap (λ (b : Bool). if b then Some held.task.id else living_in old held.task.table held.task.extent) (on_own held) ∙ number))
+      (begins.living held.task.table held.task.extent ∙ (ap (λ (b : Bool). if b then Some held.task.id else living_in old held.task.table held.task.extent)
+          (on_own held) ∙ number))
   lives_by false old new held other id sound begins free same is alive =
       let was = sound.lives id other is alive in
       let off : is_on other.task.table other.task.extent held ≡ false = ⊎_elim (λ (on : is_on other.task.table other.task.extent held ≡ true).
@@ -318,9 +338,12 @@ module _ {U : Type 0} where
       absurd (false≢true (ap is_some (sym free ∙ (ap₂ (living_in old) parts.0 parts.1 ∙ was)))))
       (λ (no : is_on other.task.table other.task.extent held ≡ false). no)
       (cases_Bool (is_on other.task.table other.task.extent held)) in
-      begins.living other.task.table other.task.extent ∙ (ap (λ (b : Bool). if b then Some held.task.id else living_in old other.task.table other.task.extent) off ∙ was)
+      begins.living other.task.table other.task.extent ∙ (ap (λ
+          (b : Bool). if b then Some held.task.id else living_in old other.task.table other.task.extent) off ∙ was)
 
-  living_by : (b : Bool) (old new : Kept U) (held : Held) (table extent id : ℕ) → IsSound old → IsBeginning old new held → held.killed ≡ None → build_in old held.task.id ≡ None → is_on table extent held ≡ b → (if b then Some held.task.id else living_in old table extent) ≡ Some id → IsLiving new table extent id
+  living_by : (b : Bool) (old new : Kept U) (held : Held) (table extent id : ℕ) → IsSound old → IsBeginning old new held → held.killed ≡ None →
+      build_in old held.task.id ≡ None → is_on table extent held ≡ b → (if b then Some held.task.id else living_in old table extent) ≡ Some id →
+      IsLiving new table extent id
   living_by true old new held table extent id sound begins alive absent on is =
       let number : held.task.id ≡ id = some_same _ _ is in
       record {
@@ -339,14 +362,17 @@ module _ {U : Type 0} where
         alive = was.alive;
       }
 
-  pub IsSound-begun : (old new : Kept U) (held : Held) → held.task.id ≡ length old.builds + 1 → held.killed ≡ None → living_in old held.task.table held.task.extent ≡ None → IsBegun old new held → IsSound old → IsSound new
+  pub IsSound-begun : (old new : Kept U) (held : Held) → held.task.id ≡ length old.builds + 1 → held.killed ≡ None →
+      living_in old held.task.table held.task.extent ≡ None → IsBegun old new held → IsSound old → IsSound new
   IsSound-begun old new held next alive free begun sound =
       let begins = IsBeginning-begun old new held next begun in
       let absent : build_in old held.task.id ≡ None = build_past old.builds held.task.id (omega (arith, next)) in
       record {
         numbered = λ id other is. numbered_by (id == held.task.id) old held other id sound refl (sym (begins.builds id) ∙ is);
         lives = λ id other is lives. lives_by (id == held.task.id) old new held other id sound begins free refl (sym (begins.builds id) ∙ is) lives;
-        living = λ table extent id is. living_by (is_on table extent held) old new held table extent id sound begins alive absent refl (sym (begins.living table extent) ∙ is);
+        living =
+            λ table extent id is. living_by (is_on table extent held) old new held table extent id sound begins alive absent refl
+            (sym (begins.living table extent) ∙ is);
       }
 
   -- ---- extents are taken out of the column store
@@ -375,7 +401,8 @@ module _ {U : Type 0} where
         let equal : held ≡ was.held = was.same ∙ spared.same in
         subst (λ (h : Held). living_in new h.task.table h.task.extent ≡ Some id) (sym equal)
         (killing.living was.held.task.table was.held.task.extent
-        ∙ (ap (λ (b : Bool). if b then None else living_in old was.held.task.table was.held.task.extent) spared.off ∙ sound.lives id was.held was.is spared.alive));
+        ∙ (ap (λ (b : Bool). if b then None else living_in old was.held.task.table was.held.task.extent) spared.off
+            ∙ sound.lives id was.held was.is spared.alive));
     living = λ table extent id is.
         let left = kept_by (drops table extent what) (living_in old table extent) id (sym (killing.living table extent) ∙ is) in
         let was = sound.living table extent id left.1 in

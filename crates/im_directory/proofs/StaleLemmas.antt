@@ -51,13 +51,16 @@ never true false = refl
 never false true = refl
 never false false = refl
 
-in_filter_by : (b : Bool) (p : ℕ → Bool) (x n : ℕ) (rest all : List ℕ) → p x ≡ b → is_in rest n ≡ is_in all n && p n → is_in (if b then x ∷ rest else rest) n ≡ ((x == n) || is_in all n) && p n
+in_filter_by : (b : Bool) (p : ℕ → Bool) (x n : ℕ) (rest all : List ℕ) → p x ≡ b → is_in rest n ≡ is_in all n && p n →
+    is_in (if b then x ∷ rest else rest) n ≡ ((x == n) || is_in all n) && p n
 in_filter_by true p x n rest all is same =
     ⊎_elim (λ (e : x ≡ n). let here : p n ≡ true = ap p (sym e) ∙ is in rw (eq-eqb x n e) (sym here))
     (λ (other : x ≡ n → ⊥). rw (ne_eqb x n other) same)
     (cases_eq x n)
 in_filter_by false p x n rest all is same =
-    ⊎_elim (λ (e : x ≡ n). let here : p n ≡ false = ap p (sym e) ∙ is in same ∙ (ap (λ (b : Bool). is_in all n && b) here ∙ (never (is_in all n) ((x == n) || is_in all n) ∙ sym (ap (λ (b : Bool). ((x == n) || is_in all n) && b) here))))
+    ⊎_elim (λ (e : x ≡ n). let here : p n ≡ false = ap p (sym e) ∙ is in same
+        ∙ (ap (λ (b : Bool). is_in all n && b) here ∙ (never (is_in all n) ((x == n) || is_in all n)
+        ∙ sym (ap (λ (b : Bool). ((x == n) || is_in all n) && b) here))))
     (λ (other : x ≡ n → ⊥). rw (ne_eqb x n other) same)
     (cases_eq x n)
 
@@ -114,7 +117,8 @@ within_extent per extent rid some =
     (cases_eq (rid / per) extent)
 
 -- the stale rows of an extent are those that are noted up to an SCN
-pub stale-noted : (h : History) (table extent after : ℕ) (notes : List Note) (to : ℕ) → IsJournal h table extent after notes → 1 ≤ per_at h table → stale h table extent after to ≡ stale_rows_at notes to
+pub stale-noted : (h : History) (table extent after : ℕ) (notes : List Note) (to : ℕ) → IsJournal h table extent after notes → 1 ≤ per_at h table →
+    stale h table extent after to ≡ stale_rows_at notes to
 stale-noted h table extent after notes to journal some =
     let per : ℕ = per_at h table in
     same_rising (stale h table extent after to) (stale_rows_at notes to)

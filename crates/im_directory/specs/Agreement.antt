@@ -32,17 +32,26 @@ module _ {U : Type 0} (content : U → Content) where
   -- each call keeps the agreement, with the entry that it goes with
   pub record KeepsAgreement : Type 0 where
     pub at_first : (kept : Kept U) → IsNew kept → Agrees content [] kept
-    pub begins : (h : History) (who table extent : ℕ) (trickle : Bool) (held : Held) (old new : Kept U) → Agrees content h old → Exists h table → living h table extent ≡ None → held ≡ next_build h who table extent trickle → IsBegun old new held → Agrees content (h ++ record { who = who; what = Build (builds h + 1) table extent trickle } ∷ []) new
-    pub commits : (h : History) (who : ℕ) (old new : Kept U) → Agrees content h old → IsNoted old new (tables h) (scn h + 1) (pending h who) → Agrees content (h ++ record { who = who; what = Commit } ∷ []) new
-    pub switches : (h : History) (who id : ℕ) (held : Held) (unit : U) (old new : Kept U) → Agrees content h old → held_at h id ≡ Some held → held.killed ≡ None → content unit ≡ content_at h held.task.table held.task.extent held.task.scn → IsSwitched old new held unit → Agrees content (h ++ record { who = who; what = Switch id } ∷ []) new
-    pub cancels : (h : History) (who id : ℕ) (full : Bool) (held : Held) (old new : Kept U) → Agrees content h old → held_at h id ≡ Some held → IsCancelled old new held → Agrees content (h ++ record { who = who; what = Cancel id full } ∷ []) new
-    pub drops : (h : History) (who : ℕ) (what : What) (old new : Kept U) → takes_out what ≡ true → Agrees content h old → IsDropped old new (length h) what → Agrees content (h ++ record { who = who; what = what } ∷ []) new
-    pub others : (h : History) (who : ℕ) (what : What) (kept : Kept U) → is_apart what ≡ true → Agrees content h kept → Agrees content (h ++ record { who = who; what = what } ∷ []) kept
+    pub begins : (h : History) (who table extent : ℕ) (trickle : Bool) (held : Held) (old new : Kept U) → Agrees content h old → Exists h table →
+        living h table extent ≡ None → held ≡ next_build h who table extent trickle → IsBegun old new held →
+        Agrees content (h ++ record { who = who; what = Build (builds h + 1) table extent trickle } ∷ []) new
+    pub commits : (h : History) (who : ℕ) (old new : Kept U) → Agrees content h old → IsNoted old new (tables h) (scn h + 1) (pending h who) →
+        Agrees content (h ++ record { who = who; what = Commit } ∷ []) new
+    pub switches : (h : History) (who id : ℕ) (held : Held) (unit : U) (old new : Kept U) → Agrees content h old → held_at h id ≡ Some held →
+        held.killed ≡ None → content unit ≡ content_at h held.task.table held.task.extent held.task.scn → IsSwitched old new held unit →
+        Agrees content (h ++ record { who = who; what = Switch id } ∷ []) new
+    pub cancels : (h : History) (who id : ℕ) (full : Bool) (held : Held) (old new : Kept U) → Agrees content h old → held_at h id ≡ Some held →
+        IsCancelled old new held → Agrees content (h ++ record { who = who; what = Cancel id full } ∷ []) new
+    pub drops : (h : History) (who : ℕ) (what : What) (old new : Kept U) → takes_out what ≡ true → Agrees content h old →
+        IsDropped old new (length h) what → Agrees content (h ++ record { who = who; what = what } ∷ []) new
+    pub others : (h : History) (who : ℕ) (what : What) (kept : Kept U) → is_apart what ≡ true → Agrees content h kept →
+        Agrees content (h ++ record { who = who; what = what } ∷ []) kept
     pub room : (h : History) (old new : Kept U) → Agrees content h old → SameTold old new → Agrees content h new
 
   -- where it agrees, each reading is the history's, and each call may be made that the history allows
   pub record ReadsHistory (h : History) (kept : Kept U) : Type 0 where
-    pub stale_rows : (table extent : ℕ) (stock : Stock U) (to : ℕ) → (told_at kept table extent).current ≡ Some stock → 1 ≤ per_at h table → stale h table extent (content stock.unit).scn to ≡ stale_rows_at stock.notes to
+    pub stale_rows : (table extent : ℕ) (stock : Stock U) (to : ℕ) → (told_at kept table extent).current ≡ Some stock → 1 ≤ per_at h table →
+        stale h table extent (content stock.unit).scn to ≡ stale_rows_at stock.notes to
     pub before : IsBefore kept (scn h)
     pub later : IsBefore kept (scn h + 1)
     pub is_living : (table extent id : ℕ) → living h table extent ≡ Some id → IsLivingBuild h table extent id

@@ -54,8 +54,10 @@ module _ {U : Type 0} where
 
   -- there is room in both journals of each extent for the notes of these changes
   pub record HasRoom (kept : Kept U) (tables : List TableInfo) (changes : List Change) : Type 0 where
-    pub current : (table extent : ℕ) → ForSome (slot_at kept.slots table extent).current (λ current. notes_for tables changes table extent ≤ current.journal.spare)
-    pub growing : (table extent : ℕ) → ForSome (slot_at kept.slots table extent).growing (λ growing. notes_for tables changes table extent ≤ growing.journal.spare)
+    pub current : (table extent : ℕ) → ForSome (slot_at kept.slots table extent).current
+        (λ current. notes_for tables changes table extent ≤ current.journal.spare)
+    pub growing : (table extent : ℕ) → ForSome (slot_at kept.slots table extent).growing
+        (λ growing. notes_for tables changes table extent ≤ growing.journal.spare)
 
   -- no journal has a note of a later commit than this one
   pub record IsBefore (kept : Kept U) (scn : ℕ) : Type 0 where
@@ -77,7 +79,8 @@ module _ {U : Type 0} where
   -- this build began, with an empty journal
   pub record IsBegun (old new : Kept U) (held : Held) : Type 0 where
     pub slots : (table extent : ℕ) → told_at new table extent
-        ≡ (if is_on table extent held then record (told_at old table extent) { growing = Some (record { id = held.task.id; notes = [] }) } else told_at old table extent)
+        ≡ (if is_on table extent held then record (told_at old table extent) { growing =
+            Some (record { id = held.task.id; notes = [] }) } else told_at old table extent)
     pub builds : new.builds ≡ old.builds ++ Some held ∷ []
 
   -- the commit with this SCN noted its changes
@@ -97,10 +100,12 @@ module _ {U : Type 0} where
 
   -- this build ended, and its unit is not used
   pub record IsCancelled (old new : Kept U) (held : Held) : Type 0 where
-    pub slots : (table extent : ℕ) → told_at new table extent ≡ record (told_at old table extent) { growing = unless_of held.task.id (told_at old table extent).growing }
+    pub slots : (table extent : ℕ) → told_at new table extent ≡ record
+        (told_at old table extent) { growing = unless_of held.task.id (told_at old table extent).growing }
     pub builds : new.builds ≡ set old.builds (held.task.id - 1) None
 
   -- an entry at this place took extents out of the column store: their units are gone, and their living builds are killed
   pub record IsDropped (old new : Kept U) (place : ℕ) (what : What) : Type 0 where
-    pub slots : (table extent : ℕ) → told_at new table extent ≡ (if drops table extent what then record { current = None; growing = None } else told_at old table extent)
+    pub slots : (table extent : ℕ) → told_at new table extent ≡
+        (if drops table extent what then record { current = None; growing = None } else told_at old table extent)
     pub builds : new.builds ≡ map (option_map (killed_by place what)) old.builds

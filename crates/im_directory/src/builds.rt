@@ -51,7 +51,7 @@ impl Builds {
         ensures held { result ≡ count_by is_some self.now }
         ensures few { result < 2 ^ 63 }
     {
-        self.held.min(self.list.len() as u64)
+        self.held
     }
 
     /// The held build of a number.

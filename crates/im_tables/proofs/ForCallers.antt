@@ -9,7 +9,8 @@ use Rattle.std.specs.List.{slice_get}
 use Rattle.im_tables.specs.Table.{HasCell, IsGrown, cell_at, found_at, row_of, with_cell}
 
 -- what is found is what is read, and where nothing is found the cell is empty
-pub unwrap_or-found_at : {T : Type 0} (empty : T) (cells : List (List T)) (table number : ℕ) → unwrap_or (found_at cells table number) empty ≡ cell_at empty cells table number
+pub unwrap_or-found_at : {T : Type 0} (empty : T) (cells : List (List T)) (table number : ℕ) →
+    unwrap_or (found_at cells table number) empty ≡ cell_at empty cells table number
 unfolding cell_at
 unwrap_or-found_at empty cells table number = unwrap_or-slice_get (row_of cells table) number empty
 
@@ -24,7 +25,8 @@ table_of cells table number has =
     (cases_lt table (length cells))
 
 -- a cell that is another than the empty one is there
-pub HasCell-where : {T : Type 0} (empty : T) (cells : List (List T)) (table number : ℕ) → (cell_at empty cells table number ≡ empty → ⊥) → HasCell cells table number
+pub HasCell-where : {T : Type 0} (empty : T) (cells : List (List T)) (table number : ℕ) → (cell_at empty cells table number ≡ empty → ⊥) →
+    HasCell cells table number
 unfolding cell_at
 HasCell-where empty cells table number some =
     ⊎_elim (λ (inside : number < length (row_of cells table)). record { below = inside })
@@ -79,9 +81,11 @@ past_where_none xs i none =
     ⊎_elim (λ found. absurd (cc)) (λ past. past.0) ((slice_get_cases xs i).1)
 
 -- where nothing is found, nothing is changed
-pub with_cell-none : {T : Type 0} (cells : List (List T)) (table number : ℕ) (cell : T) → found_at cells table number ≡ None → with_cell table number cell cells ≡ cells
+pub with_cell-none : {T : Type 0} (cells : List (List T)) (table number : ℕ) (cell : T) → found_at cells table number ≡ None →
+    with_cell table number cell cells ≡ cells
 with_cell-none cells table number cell none =
-    ap (λ (row : List _). set cells table row) (set_past (row_of cells table) number cell (past_where_none (row_of cells table) number none)) ∙ set-get_or cells table []
+    ap (λ (row : List _). set cells table row) (set_past (row_of cells table) number cell (past_where_none (row_of cells table) number none))
+    ∙ set-get_or cells table []
 
 -- each cell after one is another, where that is there or the other is empty
 pub cell_at-with_cell : {T : Type 0} (empty : T) (cells : List (List T)) (table number : ℕ) (cell : T) (t n : ℕ) → HasCell cells table number ⊎ (cell ≡ empty)
@@ -91,20 +95,24 @@ cell_at-with_cell empty cells table number cell t n can =
     let row = set (row_of cells table) number cell in
     ⊎_elim
     (λ (inside : table < length cells).
-    let here : (number < length (row_of cells table)) ⊎ (cell ≡ empty) = ⊎_elim (λ (has : HasCell cells table number). inl has.below) (λ (is_empty : cell ≡ empty). inr is_empty) can in
+    let here : (number < length (row_of cells table)) ⊎ (cell ≡ empty) =
+    ⊎_elim (λ (has : HasCell cells table number). inl has.below) (λ (is_empty : cell ≡ empty). inr is_empty) can in
     ap (λ (line : List _). get_or line n empty) (row_of-set cells table t row inside)
     ∙ ⊎_elim
-    (λ (is : table ≡ t). rw (eq-eqb table t is) (get_or-set (row_of cells table) number n cell empty here ∙ ap (λ (k : ℕ). if number == n then cell else get_or (row_of cells k) n empty) is))
+    (λ (is : table ≡ t). rw (eq-eqb table t is) (get_or-set (row_of cells table) number n cell empty here
+    ∙ ap (λ (k : ℕ). if number == n then cell else get_or (row_of cells k) n empty) is))
     (λ (apart : table ≡ t → ⊥). rw (ne_eqb table t apart) refl)
     (cases_eq table t))
     (λ (past : length cells ≤ table).
     let none : row_of cells table ≡ [] = get_or_past cells table [] past in
     let short : length (row_of cells table) ≡ 0 = ap length none in
-    let is_empty : cell ≡ empty = ⊎_elim (λ (has : HasCell cells table number). let below = has.below in absurd (omega (arith, below, short))) (λ (e : cell ≡ empty). e) can in
+    let is_empty : cell ≡ empty =
+    ⊎_elim (λ (has : HasCell cells table number). let below = has.below in absurd (omega (arith, below, short))) (λ (e : cell ≡ empty). e) can in
     ap (λ (all : List (List _)). get_or (row_of all t) n empty) (with_cell-past cells table number cell past)
     ∙ ⊎_elim
     (λ (is : table ≡ t).
-    let nothing : get_or (row_of cells t) n empty ≡ empty = ap (λ (line : List _). get_or line n empty) (ap (row_of cells) (sym is) ∙ none) ∙ get_or_past [] n empty (omega arith) in
+    let nothing : get_or (row_of cells t) n empty ≡ empty = ap (λ (line : List _). get_or line n empty) (ap (row_of cells) (sym is) ∙ none)
+    ∙ get_or_past [] n empty (omega arith) in
     rw (eq-eqb table t is, nothing, is_empty) (same_either (number == n) empty))
     (λ (apart : table ≡ t → ⊥). rw (ne_eqb table t apart) refl)
     (cases_eq table t))
@@ -136,14 +144,16 @@ cell_at-with_cell_other empty cells table number cell t n apart =
     ⊎_elim
     (λ (inside : table < length cells).
     ap (λ (line : List _). get_or line n empty) (get_or-set_at cells table t row [] same inside)
-    ∙ (get_or-set_other (row_of cells table) number n cell empty (λ (e : n ≡ number). apart same e) ∙ ap (λ (k : ℕ). get_or (row_of cells k) n empty) (sym same)))
+    ∙ (get_or-set_other (row_of cells table) number n cell empty (λ (e : n ≡ number). apart same e)
+    ∙ ap (λ (k : ℕ). get_or (row_of cells k) n empty) (sym same)))
     (λ (past : length cells ≤ table). ap (λ (all : List (List _)). get_or (row_of all t) n empty) (with_cell-past cells table number cell past))
     (cases_lt table (length cells)))
     (λ (other : t ≡ table → ⊥). ap (λ (line : List _). get_or line n empty) (get_or-set_other cells table t row [] other))
     (cases_eq t table)
 
 -- no table has more or fewer cells
-pub length-with_cell : {T : Type 0} (cells : List (List T)) (table number : ℕ) (cell : T) (t : ℕ) → length (row_of (with_cell table number cell cells) t) ≡ length (row_of cells t)
+pub length-with_cell : {T : Type 0} (cells : List (List T)) (table number : ℕ) (cell : T) (t : ℕ) →
+    length (row_of (with_cell table number cell cells) t) ≡ length (row_of cells t)
 length-with_cell cells table number cell t =
     let row = set (row_of cells table) number cell in
     ⊎_elim
@@ -156,7 +166,8 @@ length-with_cell cells table number cell t =
     (λ (past : length cells ≤ table). ap (λ (all : List (List _)). length (row_of all t)) (with_cell-past cells table number cell past))
     (cases_lt table (length cells))
 
-pub HasCell-with_cell : {T : Type 0} (cells : List (List T)) (table number : ℕ) (cell : T) (t n : ℕ) → HasCell cells t n → HasCell (with_cell table number cell cells) t n
+pub HasCell-with_cell : {T : Type 0} (cells : List (List T)) (table number : ℕ) (cell : T) (t n : ℕ) → HasCell cells t n →
+    HasCell (with_cell table number cell cells) t n
 HasCell-with_cell cells table number cell t n has = record { below = rw (length-with_cell cells table number cell t) has.below }
 
 -- ---- growth
@@ -171,5 +182,6 @@ IsGrown-trans empty a b c ab bc = record {
 }
 
 -- a cell that is there stays
-pub HasCell-grown : {T : Type 0} (empty : T) (old new : List (List T)) (table number : ℕ) → IsGrown empty old new → HasCell old table number → HasCell new table number
+pub HasCell-grown : {T : Type 0} (empty : T) (old new : List (List T)) (table number : ℕ) → IsGrown empty old new → HasCell old table number →
+    HasCell new table number
 HasCell-grown empty old new table number grown has = record { below = let more = grown.room table in let was = has.below in omega (arith, more, was) }

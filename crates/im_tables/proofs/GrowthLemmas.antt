@@ -40,17 +40,20 @@ IsGrown-line empty old new table before row padded inside was longer =
     record {
       cells = λ k number.
           ⊎_elim
-          (λ (is : k ≡ table). ap (λ (line : List _). get_or line number empty) (here k is) ∙ (longer.each number ∙ ap (λ (line : List _). get_or line number empty) (first k is)))
+          (λ (is : k ≡ table). ap (λ (line : List _). get_or line number empty) (here k is)
+          ∙ (longer.each number ∙ ap (λ (line : List _). get_or line number empty) (first k is)))
           (λ (is : k ≢ table). ap (λ (line : List _). get_or line number empty) (there k is ∙ padded.each k))
           (cases_eq k table);
       room = λ k.
           ⊎_elim
-          (λ (is : k ≡ table). let now = ap length (here k is) in let then_ = ap length (first k is) in let more = longer.longer in omega (arith, now, then_, more))
+          (λ (is : k ≡ table). let now = ap length (here k is) in let then_ = ap length (first k is) in let more =
+          longer.longer in omega (arith, now, then_, more))
           (λ (is : k ≢ table). let now = ap length (there k is ∙ padded.each k) in omega (arith, now))
           (cases_eq k table);
     }
 
 -- a cell read in the cells of its table
-pub cell_at-row : {T : Type 0} (empty : T) (cells : List (List T)) (table number : ℕ) (row : List T) → row ≡ row_of cells table → get_or row number empty ≡ cell_at empty cells table number
+pub cell_at-row : {T : Type 0} (empty : T) (cells : List (List T)) (table number : ℕ) (row : List T) → row ≡ row_of cells table →
+    get_or row number empty ≡ cell_at empty cells table number
 unfolding cell_at
 cell_at-row empty cells table number row is = ap (λ (line : List _). get_or line number empty) is

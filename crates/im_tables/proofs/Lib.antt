@@ -1,2 +1,4 @@
 pub mod ForCallers
 mod GrowthLemmas
+pub mod Lists
+pub mod Tests

@@ -18,14 +18,16 @@ use Rattle.im_txn.specs.Agrees.{Agrees, kept, owed, owes}
 use Rattle.im_txn.specs.Effects.{Becomes}
 use Rattle.im_txn.specs.LockCells.{Locks, lock_of}
 use Rattle.im_txn.specs.Standing.{Standing, activity_at, lock_at}
-use Rattle.im_txn.proofs.ListLemmas.{sum_by-moves, sum_by-equal}
+use Rattle.im_tables.proofs.Lists.{sum_by-moves, sum_by-equal}
 
 -- one more entry
 abbrev pub with_entry : History → ℕ → What → History
 with_entry h who what = h ++ record { who = who; what = what } ∷ []
 
 -- a part of each activity is what it should be, where that of one session is
-by_number : {X : Type 0} (read : Activity → X) (now next was : ℕ → X) (who : ℕ) (old new : Standing) (after : Activity) → Becomes old new who after → ((other : ℕ) → now other ≡ (if who == other then next other else was other)) → ((other : ℕ) → read (activity_at old other) ≡ was other) → read after ≡ next who → (other : ℕ) → read (activity_at new other) ≡ now other
+by_number : {X : Type 0} (read : Activity → X) (now next was : ℕ → X) (who : ℕ) (old new : Standing) (after : Activity) → Becomes old new who after →
+    ((other : ℕ) → now other ≡ (if who == other then next other else was other)) → ((other : ℕ) → read (activity_at old other) ≡ was other) →
+    read after ≡ next who → (other : ℕ) → read (activity_at new other) ≡ now other
 by_number read now next was who old new after becomes law agrees mine other =
     ⊎_elim (λ (is : who ≡ other).
     let here : read (activity_at new who) ≡ next who = ap read becomes.mine ∙ mine in
@@ -41,7 +43,8 @@ kept-if true x y = refl
 kept-if false x y = refl
 
 -- what one number owes, by what it has going on
-pub owes-is : (h : History) (who : ℕ) (activity : Activity) → activity.begun ≡ begun h who → activity.cursors ≡ map kept (opened h who) → owes h who ≡ owed_by activity
+pub owes-is : (h : History) (who : ℕ) (activity : Activity) → activity.begun ≡ begun h who → activity.cursors ≡ map kept (opened h who) →
+    owes h who ≡ owed_by activity
 owes-is h who activity began cursors =
     let opens : (if is_open h who then 1 else 0) ≡ transactions activity = ap (λ (b : Option ℕ). if is_some b then 1 else 0) (sym began) in
     let long : length activity.cursors ≡ length (opened h who) = ap length cursors ∙ length-map (opened h who) kept in
@@ -60,7 +63,8 @@ pub record Locked (h : History) (new : Standing) : Type 0 where
   pub locks : (table rid other : ℕ) → other < NUMBERS → (lock_at new table rid == suc other) ≡ touches (pending h other) table rid
   pub holders : (table rid : ℕ) → lock_at new table rid ≤ NUMBERS
 
-owing-push : (h k : History) (who : ℕ) (old new : Standing) (after : Activity) → who < NUMBERS → Becomes old new who after → old.owed ≡ owed h → ((other : ℕ) → owes h other ≡ owed_by (activity_at old other)) → ((other : ℕ) → owes k other ≡ owed_by (activity_at new other)) → new.owed ≡ owed k
+owing-push : (h k : History) (who : ℕ) (old new : Standing) (after : Activity) → who < NUMBERS → Becomes old new who after → old.owed ≡ owed h →
+    ((other : ℕ) → owes h other ≡ owed_by (activity_at old other)) → ((other : ℕ) → owes k other ≡ owed_by (activity_at new other)) → new.owed ≡ owed k
 unfolding owed
 owing-push h k who old new after number becomes owing before now =
     let apart = λ (other : ℕ) (off : other ≡ who → ⊥). now other ∙ (ap owed_by (becomes.others other off) ∙ sym (before other)) in
@@ -69,23 +73,39 @@ owing-push h k who old new after number becomes owing before now =
     omega (arith, moves, becomes.owed, owing, before who, now who, mine)
 
 -- all agrees after one more entry
-pub Agrees-follows : (h : History) (who : ℕ) (what : What) (old new : Standing) (after : Activity) → Agrees h old → who < NUMBERS → Becomes old new who after → Follows h who what after → Locked (with_entry h who what) new → Agrees (with_entry h who what) new
+pub Agrees-follows : (h : History) (who : ℕ) (what : What) (old new : Standing) (after : Activity) → Agrees h old → who < NUMBERS →
+    Becomes old new who after → Follows h who what after → Locked (with_entry h who what) new → Agrees (with_entry h who what) new
 Agrees-follows h who what old new after agrees number becomes follows locked =
     let entry : Entry = record { who = who; what = what } in
-    let began = by_number (λ (a : Activity). a.begun) (begun (with_entry h who what)) (λ other. begun_after (length h) (begun h other) what) (begun h) who old new after becomes (begun-push h entry) agrees.began follows.began in
-    let cursors = by_number (λ (a : Activity). a.cursors) (λ other. map kept (opened (with_entry h who what) other)) (λ other. map kept (opened_after h other (opened h other) what)) (λ other. map kept (opened h other)) who old new after becomes (λ other. ap (map kept) (opened-push h entry other) ∙ kept-if (who == other) (opened_after h other (opened h other) what) (opened h other)) agrees.cursors follows.cursors in
+    let began =
+        by_number (λ (a : Activity). a.begun) (begun (with_entry h who what)) (λ other. begun_after (length h) (begun h other) what)
+        (begun h) who old new after becomes (begun-push h entry) agrees.began follows.began in
+    let cursors =
+        by_number (λ (a : Activity). a.cursors) (λ other. map kept (opened (with_entry h who what) other))
+        (λ other. map kept (opened_after h other (opened h other) what)) (λ other. map kept (opened h other)) who old new after becomes
+        (λ other. ap (map kept) (opened-push h entry other) ∙ kept-if (who == other) (opened_after h other (opened h other) what)
+        (opened h other)) agrees.cursors follows.cursors in
     record {
-      changes = by_number (λ (a : Activity). a.pending) (pending (with_entry h who what)) (λ other. pending_after (pending h other) what) (pending h) who old new after becomes (pending-push h entry) agrees.changes follows.changes;
+      changes =
+          by_number (λ (a : Activity). a.pending) (pending (with_entry h who what)) (λ other. pending_after (pending h other) what)
+          (pending h) who old new after becomes (pending-push h entry) agrees.changes follows.changes;
       began = began;
-      modes = by_number (λ (a : Activity). a.mode) (mode (with_entry h who what)) (λ other. mode_after (mode h other) what) (mode h) who old new after becomes (mode-push h entry) agrees.modes follows.modes;
+      modes =
+          by_number (λ (a : Activity). a.mode) (mode (with_entry h who what)) (λ other. mode_after (mode h other) what) (mode h) who old new after becomes
+          (mode-push h entry) agrees.modes follows.modes;
       cursors = cursors;
       once = λ other cursor.
-          ⊎_elim (λ (is : other ≡ who). subst (λ (a : Activity). count_by (is_number cursor) a.cursors ≤ 1) (sym (ap (activity_at new) is ∙ becomes.mine)) (follows.once cursor))
-          (λ (apart : other ≡ who → ⊥). subst (λ (a : Activity). count_by (is_number cursor) a.cursors ≤ 1) (sym (becomes.others other apart)) (agrees.once other cursor))
+          ⊎_elim (λ (is : other ≡ who). subst (λ (a : Activity). count_by (is_number cursor) a.cursors ≤ 1) (sym (ap (activity_at new) is ∙ becomes.mine))
+              (follows.once cursor))
+          (λ (apart : other ≡ who → ⊥). subst (λ (a : Activity). count_by (is_number cursor) a.cursors ≤ 1) (sym (becomes.others other apart))
+              (agrees.once other cursor))
           (cases_eq other who);
       locks = locked.locks;
       holders = locked.holders;
-      owing = owing-push h (with_entry h who what) who old new after number becomes agrees.owing (λ other. owes-is h other (activity_at old other) (agrees.began other) (agrees.cursors other)) (λ other. owes-is (with_entry h who what) other (activity_at new other) (began other) (cursors other));
+      owing =
+          owing-push h (with_entry h who what) who old new after number becomes agrees.owing
+          (λ other. owes-is h other (activity_at old other) (agrees.began other) (agrees.cursors other))
+          (λ other. owes-is (with_entry h who what) other (activity_at new other) (began other) (cursors other));
     }
 
 if-same : {X : Type 0} (b : Bool) (x : X) → (if b then x else x) ≡ x
@@ -93,10 +113,12 @@ if-same true x = refl
 if-same false x = refl
 
 -- the cells stay where nothing becomes pending or ceases to be
-pub Locked-same : (h : History) (who : ℕ) (what : What) (old new : Standing) → Agrees h old → new.locks ≡ old.locks → ((so_far : List Change) → pending_after so_far what ≡ so_far) → Locked (with_entry h who what) new
+pub Locked-same : (h : History) (who : ℕ) (what : What) (old new : Standing) → Agrees h old → new.locks ≡ old.locks →
+    ((so_far : List Change) → pending_after so_far what ≡ so_far) → Locked (with_entry h who what) new
 Locked-same h who what old new agrees same stays =
     let cell = λ (table rid : ℕ). ap (λ (all : Locks). lock_of all table rid) same in
-    let list = λ (other : ℕ). pending-push h (record { who = who; what = what }) other ∙ (ap (λ (l : List Change). if who == other then l else pending h other) (stays (pending h other)) ∙ if-same (who == other) (pending h other)) in
+    let list = λ (other : ℕ). pending-push h (record { who = who; what = what }) other
+        ∙ (ap (λ (l : List Change). if who == other then l else pending h other) (stays (pending h other)) ∙ if-same (who == other) (pending h other)) in
     record {
       locks = λ table rid other below.
           ap (λ (n : ℕ). n == suc other) (cell table rid)
@@ -123,10 +145,16 @@ owed-same h k standing owing same = owing ∙ sum_by-equal (owes k) (owes h) (ra
 pub Agrees-apart-by : (h : History) (who : ℕ) (what : What) (standing : Standing) → Apart what → Agrees h standing → Agrees (with_entry h who what) standing
 Agrees-apart-by h who what standing apart agrees =
     let entry : Entry = record { who = who; what = what } in
-    let changes = λ (other : ℕ). pending-push h entry other ∙ stays (who == other) (pending_after (pending h other) what) (pending h other) (apart.changes (pending h other)) in
-    let began = λ (other : ℕ). begun-push h entry other ∙ stays (who == other) (begun_after (length h) (begun h other) what) (begun h other) (apart.began (length h) (begun h other)) in
+    let changes =
+        λ (other : ℕ). pending-push h entry other ∙ stays (who == other) (pending_after (pending h other) what) (pending h other)
+        (apart.changes (pending h other)) in
+    let began =
+        λ (other : ℕ). begun-push h entry other ∙ stays (who == other) (begun_after (length h) (begun h other) what) (begun h other)
+        (apart.began (length h) (begun h other)) in
     let modes = λ (other : ℕ). mode-push h entry other ∙ stays (who == other) (mode_after (mode h other) what) (mode h other) (apart.modes (mode h other)) in
-    let cursors = λ (other : ℕ). opened-push h entry other ∙ stays (who == other) (opened_after h other (opened h other) what) (opened h other) (apart.cursors h other (opened h other)) in
+    let cursors =
+        λ (other : ℕ). opened-push h entry other ∙ stays (who == other) (opened_after h other (opened h other) what) (opened h other)
+        (apart.cursors h other (opened h other)) in
     record {
       changes = λ other. agrees.changes other ∙ sym (changes other);
       began = λ other. agrees.began other ∙ sym (began other);
@@ -135,5 +163,7 @@ Agrees-apart-by h who what standing apart agrees =
       once = agrees.once;
       locks = λ table rid other below. agrees.locks table rid other below ∙ ap (λ (l : List Change). touches l table rid) (sym (changes other));
       holders = agrees.holders;
-      owing = owed-same h (with_entry h who what) standing agrees.owing (λ other. ap₂ (λ (b : Option ℕ) (l : List Opened). (if is_some b then 1 else 0) + length l) (began other) (cursors other));
+      owing =
+          owed-same h (with_entry h who what) standing agrees.owing
+          (λ other. ap₂ (λ (b : Option ℕ) (l : List Opened). (if is_some b then 1 else 0) + length l) (began other) (cursors other));
     }

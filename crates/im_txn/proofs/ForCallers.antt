@@ -31,19 +31,22 @@ use Rattle.im_txn.proofs.AgreesLemmas.{Apart, Agrees-apart-by, Agrees-follows, L
 use Rattle.im_txn.proofs.CellLemmas.{HasCells-longer}
 use Rattle.im_txn.proofs.GivenLemmas.{pending-below}
 use Rattle.im_txn.proofs.LockLemmas.{Locked-write, Locked-end, holder-is}
-use Rattle.im_txn.proofs.ListLemmas.{sum_by-part, find-none, find-map, is_some-find, list_any-map, count_by-map, filter-map, count_by-none, count_by-some, count_by-filter, length-filter-not}
+use Rattle.im_tables.proofs.Lists.{sum_by-part, find-none, find-map, is_some-find, list_any-map, count_by-map, filter-map, count_by-none, count_by-some, count_by-filter, length-filter-not}
 
 -- what a transaction that may begin here adds
 
-opens-one : (began : Option ℕ) (place old new n : ℕ) → is_some began ≡ false → new + ((if is_some began then 1 else 0) + n) ≡ old + ((if is_some (or_here place began) then 1 else 0) + n) → new ≡ old + 1
+opens-one : (began : Option ℕ) (place old new n : ℕ) → is_some began ≡ false →
+    new + ((if is_some began then 1 else 0) + n) ≡ old + ((if is_some (or_here place began) then 1 else 0) + n) → new ≡ old + 1
 opens-one None place old new n shut owed = omega (arith, owed)
 opens-one (Some b) place old new n shut owed = absurd (true≢false shut)
 
-opens-none : (began : Option ℕ) (place old new n : ℕ) → is_some began ≡ true → new + ((if is_some began then 1 else 0) + n) ≡ old + ((if is_some (or_here place began) then 1 else 0) + n) → new ≡ old
+opens-none : (began : Option ℕ) (place old new n : ℕ) → is_some began ≡ true →
+    new + ((if is_some began then 1 else 0) + n) ≡ old + ((if is_some (or_here place began) then 1 else 0) + n) → new ≡ old
 opens-none None place old new n is owed = absurd (false≢true is)
 opens-none (Some b) place old new n is owed = omega (arith, owed)
 
-opens-most : (began : Option ℕ) (place old new n : ℕ) → new + ((if is_some began then 1 else 0) + n) ≡ old + ((if is_some (or_here place began) then 1 else 0) + n) → new ≤ old + 1
+opens-most : (began : Option ℕ) (place old new n : ℕ) → new + ((if is_some began then 1 else 0) + n) ≡ old +
+    ((if is_some (or_here place began) then 1 else 0) + n) → new ≤ old + 1
 opens-most None place old new n owed = omega (arith, owed)
 opens-most (Some b) place old new n owed = omega (arith, owed)
 
@@ -70,7 +73,8 @@ Agrees-nil standing none = record {
 }
 
 -- a Begin
-pub Agrees-begin : (h : History) (who : ℕ) (mode : Mode) (old new : Standing) → Agrees h old → who < NUMBERS → IsBegun old new who (length h) mode → Agrees (h ++ record { who = who; what = Begin mode } ∷ []) new
+pub Agrees-begin : (h : History) (who : ℕ) (mode : Mode) (old new : Standing) → Agrees h old → who < NUMBERS → IsBegun old new who (length h) mode →
+    Agrees (h ++ record { who = who; what = Begin mode } ∷ []) new
 Agrees-begin h who mode old new agrees number begins =
     Agrees-follows h who (Begin mode) old new (with_mode (length h) mode (activity_at old who)) agrees number begins.activity (record {
       changes = agrees.changes who;
@@ -85,11 +89,14 @@ map-push [] x = refl
 map-push (y ∷ xs) x = ap (λ (l : List Cursor). kept y ∷ l) (map-push xs x)
 
 -- a cursor number that is not open counts for nothing
-none-open : (h : History) (who cursor : ℕ) (standing : Standing) → Agrees h standing → is_cursor_open h who cursor ≡ false → count_by (is_number cursor) (activity_at standing who).cursors ≡ 0
+none-open : (h : History) (who cursor : ℕ) (standing : Standing) → Agrees h standing → is_cursor_open h who cursor ≡ false →
+    count_by (is_number cursor) (activity_at standing who).cursors ≡ 0
 none-open h who cursor standing agrees shut =
-    rw (agrees.cursors who, count_by-map kept (is_number cursor) (is_cursor cursor) (opened h who) (λ x. refl)) (count_by-none (is_cursor cursor) (opened h who) shut)
+    rw (agrees.cursors who, count_by-map kept (is_number cursor) (is_cursor cursor) (opened h who) (λ x. refl))
+        (count_by-none (is_cursor cursor) (opened h who) shut)
 
-once-push : (cursors : List Cursor) (cursor : Cursor) (number : ℕ) → count_by (is_number cursor.cursor) cursors ≡ 0 → count_by (is_number number) cursors ≤ 1 → count_by (is_number number) (cursors ++ cursor ∷ []) ≤ 1
+once-push : (cursors : List Cursor) (cursor : Cursor) (number : ℕ) → count_by (is_number cursor.cursor) cursors ≡ 0 →
+    count_by (is_number number) cursors ≤ 1 → count_by (is_number number) (cursors ++ cursor ∷ []) ≤ 1
 once-push cursors cursor number none once =
     let sum = sum_by_push (λ c. if is_number number c then 1 else 0) cursors cursor in
     ⊎_elim (λ (is : cursor.cursor ≡ number).
@@ -102,31 +109,40 @@ once-push cursors cursor number none once =
     (cases_eq cursor.cursor number)
 
 -- an Open of a cursor that is not open
-pub Agrees-open : (h : History) (who cursor table : ℕ) (old new : Standing) → Agrees h old → who < NUMBERS → is_cursor_open h who cursor ≡ false → IsOpened old new who (cursor_of h who cursor table) → Agrees (h ++ record { who = who; what = Open cursor table } ∷ []) new
+pub Agrees-open : (h : History) (who cursor table : ℕ) (old new : Standing) → Agrees h old → who < NUMBERS → is_cursor_open h who cursor ≡ false →
+    IsOpened old new who (cursor_of h who cursor table) → Agrees (h ++ record { who = who; what = Open cursor table } ∷ []) new
 Agrees-open h who cursor table old new agrees number shut opens =
     Agrees-follows h who (Open cursor table) old new (with_cursor (cursor_of h who cursor table) (activity_at old who)) agrees number opens.activity (record {
       changes = agrees.changes who;
       began = agrees.began who;
       modes = agrees.modes who;
-      cursors = ap (λ (l : List Cursor). l ++ cursor_of h who cursor table ∷ []) (agrees.cursors who) ∙ sym (map-push (opened h who) (record { cursor = cursor; view = view_at h who table }));
-      once = λ other. once-push (activity_at old who).cursors (cursor_of h who cursor table) other (none-open h who cursor old agrees shut) (agrees.once who other);
+      cursors =
+          ap (λ (l : List Cursor). l ++ cursor_of h who cursor table ∷ []) (agrees.cursors who)
+          ∙ sym (map-push (opened h who) (record { cursor = cursor; view = view_at h who table }));
+      once =
+          λ other. once-push (activity_at old who).cursors (cursor_of h who cursor table) other (none-open h who cursor old agrees shut)
+          (agrees.once who other);
     }) (Locked-same h who (Open cursor table) old new agrees opens.locks (λ so_far. refl))
 
 -- a Shut
-pub Agrees-shut : (h : History) (who cursor : ℕ) (old new : Standing) → Agrees h old → who < NUMBERS → IsShut old new who cursor → Agrees (h ++ record { who = who; what = Shut cursor } ∷ []) new
+pub Agrees-shut : (h : History) (who cursor : ℕ) (old new : Standing) → Agrees h old → who < NUMBERS → IsShut old new who cursor →
+    Agrees (h ++ record { who = who; what = Shut cursor } ∷ []) new
 Agrees-shut h who cursor old new agrees number shuts =
     Agrees-follows h who (Shut cursor) old new (without_cursor cursor (activity_at old who)) agrees number shuts.activity (record {
       changes = agrees.changes who;
       began = agrees.began who;
       modes = agrees.modes who;
-      cursors = ap (λ (l : List Cursor). filter (λ c. not (is_number cursor c)) l) (agrees.cursors who) ∙ filter-map kept (λ c. not (is_number cursor c)) (λ o. not (is_cursor cursor o)) (opened h who) (λ x. refl);
+      cursors =
+          ap (λ (l : List Cursor). filter (λ c. not (is_number cursor c)) l) (agrees.cursors who)
+          ∙ filter-map kept (λ c. not (is_number cursor c)) (λ o. not (is_cursor cursor o)) (opened h who) (λ x. refl);
       once = λ other.
           let fewer = count_by-filter (is_number other) (λ c. not (is_number cursor c)) (activity_at old who).cursors in
           omega (arith, fewer, agrees.once who other);
     }) (Locked-same h who (Shut cursor) old new agrees shuts.locks (λ so_far. refl))
 
 -- a Write of changes whose rows no other holds
-pub Agrees-write : (h : History) (who : ℕ) (changes : List Change) (old new : Standing) → Agrees h old → who < NUMBERS → IsFree old who changes → IsWritten old new who (length h) changes → Agrees (h ++ record { who = who; what = Write changes } ∷ []) new
+pub Agrees-write : (h : History) (who : ℕ) (changes : List Change) (old new : Standing) → Agrees h old → who < NUMBERS → IsFree old who changes →
+    IsWritten old new who (length h) changes → Agrees (h ++ record { who = who; what = Write changes } ∷ []) new
 Agrees-write h who changes old new agrees number free written =
     Agrees-follows h who (Write changes) old new (with_changes (length h) changes (activity_at old who)) agrees number written.activity (record {
       changes = ap (λ (l : List Change). l ++ changes) (agrees.changes who);
@@ -137,7 +153,8 @@ Agrees-write h who changes old new agrees number free written =
     }) (Locked-write h who (Write changes) (length h) changes old new (λ so_far. refl) agrees number free written)
 
 -- a Commit
-pub Agrees-commit : (h : History) (who : ℕ) (old new : Standing) → Agrees h old → who < NUMBERS → IsEnded old new who → Agrees (h ++ record { who = who; what = Commit } ∷ []) new
+pub Agrees-commit : (h : History) (who : ℕ) (old new : Standing) → Agrees h old → who < NUMBERS → IsEnded old new who →
+    Agrees (h ++ record { who = who; what = Commit } ∷ []) new
 Agrees-commit h who old new agrees number ends =
     Agrees-follows h who Commit old new (ended (activity_at old who)) agrees number ends.activity (record {
       changes = refl;
@@ -148,7 +165,8 @@ Agrees-commit h who old new agrees number ends =
     }) (Locked-end h who Commit old new (λ so_far. refl) agrees number ends)
 
 -- a Rollback
-pub Agrees-rollback : (h : History) (who : ℕ) (old new : Standing) → Agrees h old → who < NUMBERS → IsEnded old new who → Agrees (h ++ record { who = who; what = Rollback } ∷ []) new
+pub Agrees-rollback : (h : History) (who : ℕ) (old new : Standing) → Agrees h old → who < NUMBERS → IsEnded old new who →
+    Agrees (h ++ record { who = who; what = Rollback } ∷ []) new
 Agrees-rollback h who old new agrees number ends =
     Agrees-follows h who Rollback old new (ended (activity_at old who)) agrees number ends.activity (record {
       changes = refl;
@@ -159,18 +177,23 @@ Agrees-rollback h who old new agrees number ends =
     }) (Locked-end h who Rollback old new (λ so_far. refl) agrees number ends)
 
 apart-kinds : (what : What) → is_apart what ≡ true → Apart what
-apart-kinds (Create name schema shape) is = record { changes = λ so_far. refl; began = λ place so_far. refl; modes = λ so_far. refl; cursors = λ before who so_far. refl }
-apart-kinds (Memory table priority) is = record { changes = λ so_far. refl; began = λ place so_far. refl; modes = λ so_far. refl; cursors = λ before who so_far. refl }
-apart-kinds (Build id table extent trickle) is = record { changes = λ so_far. refl; began = λ place so_far. refl; modes = λ so_far. refl; cursors = λ before who so_far. refl }
+apart-kinds (Create name schema shape) is =
+    record { changes = λ so_far. refl; began = λ place so_far. refl; modes = λ so_far. refl; cursors = λ before who so_far. refl }
+apart-kinds (Memory table priority) is =
+    record { changes = λ so_far. refl; began = λ place so_far. refl; modes = λ so_far. refl; cursors = λ before who so_far. refl }
+apart-kinds (Build id table extent trickle) is =
+    record { changes = λ so_far. refl; began = λ place so_far. refl; modes = λ so_far. refl; cursors = λ before who so_far. refl }
 apart-kinds (Switch id) is = record { changes = λ so_far. refl; began = λ place so_far. refl; modes = λ so_far. refl; cursors = λ before who so_far. refl }
 apart-kinds (Cancel id full) is = record { changes = λ so_far. refl; began = λ place so_far. refl; modes = λ so_far. refl; cursors = λ before who so_far. refl }
 apart-kinds (Trickle n) is = record { changes = λ so_far. refl; began = λ place so_far. refl; modes = λ so_far. refl; cursors = λ before who so_far. refl }
-apart-kinds (Evict table extent) is = record { changes = λ so_far. refl; began = λ place so_far. refl; modes = λ so_far. refl; cursors = λ before who so_far. refl }
+apart-kinds (Evict table extent) is =
+    record { changes = λ so_far. refl; began = λ place so_far. refl; modes = λ so_far. refl; cursors = λ before who so_far. refl }
 apart-kinds Leave is = record { changes = λ so_far. refl; began = λ place so_far. refl; modes = λ so_far. refl; cursors = λ before who so_far. refl }
 apart-kinds _ is = absurd (false≢true is)
 
 -- an entry of any other kind, with no call
-pub Agrees-apart : (h : History) (who : ℕ) (what : What) (standing : Standing) → is_apart what ≡ true → Agrees h standing → Agrees (h ++ record { who = who; what = what } ∷ []) standing
+pub Agrees-apart : (h : History) (who : ℕ) (what : What) (standing : Standing) → is_apart what ≡ true → Agrees h standing →
+    Agrees (h ++ record { who = who; what = what } ∷ []) standing
 Agrees-apart h who what standing is agrees = Agrees-apart-by h who what standing (apart-kinds what is) agrees
 
 -- making room, with no entry
@@ -212,13 +235,17 @@ pub own-by : (h : History) (standing : Standing) (who table : ℕ) → Agrees h 
 own-by h standing who table agrees = ap (λ (l : List Change). filter (λ change. change.table == table) l) (agrees.changes who)
 
 -- the open cursor of a number is what is kept of that opened
-pub cursor-by : (h : History) (standing : Standing) (who cursor : ℕ) → Agrees h standing → cursor_in (activity_at standing who) cursor ≡ option_map kept (cursor_at h who cursor)
+pub cursor-by : (h : History) (standing : Standing) (who cursor : ℕ) → Agrees h standing →
+    cursor_in (activity_at standing who) cursor ≡ option_map kept (cursor_at h who cursor)
 cursor-by h standing who cursor agrees =
     ap (λ (l : List Cursor). find (is_number cursor) l) (agrees.cursors who) ∙ find-map kept (is_number cursor) (is_cursor cursor) (opened h who) (λ x. refl)
 
-pub is_cursor_open-by : (h : History) (standing : Standing) (who cursor : ℕ) → Agrees h standing → is_cursor_open h who cursor ≡ is_some (cursor_in (activity_at standing who) cursor)
+pub is_cursor_open-by : (h : History) (standing : Standing) (who cursor : ℕ) → Agrees h standing →
+    is_cursor_open h who cursor ≡ is_some (cursor_in (activity_at standing who) cursor)
 is_cursor_open-by h standing who cursor agrees =
-    sym (is_some-find (is_number cursor) (activity_at standing who).cursors ∙ (ap (λ (l : List Cursor). list_any (is_number cursor) l) (agrees.cursors who) ∙ list_any-map kept (is_number cursor) (is_cursor cursor) (opened h who) (λ x. refl)))
+    sym (is_some-find (is_number cursor) (activity_at standing who).cursors
+        ∙ (ap (λ (l : List Cursor). list_any (is_number cursor) l) (agrees.cursors who)
+        ∙ list_any-map kept (is_number cursor) (is_cursor cursor) (opened h who) (λ x. refl)))
 
 pub cursors_open-by : (h : History) (standing : Standing) (who : ℕ) → Agrees h standing → cursors_in (activity_at standing who) ≡ cursors_open h who
 cursors_open-by h standing who agrees =
@@ -231,7 +258,8 @@ holder-by h standing who table rid agrees =
     holder-is who (lock_at standing table rid) (λ other. touches (pending h other) table rid) (agrees.holders table rid) (agrees.locks table rid)
 
 -- rows are free where the history has no holder of them
-pub IsFree-by : (h : History) (standing : Standing) (who : ℕ) (changes : List Change) → Agrees h standing → All (λ change. holder h who change.table change.rid ≡ None) changes → IsFree standing who changes
+pub IsFree-by : (h : History) (standing : Standing) (who : ℕ) (changes : List Change) → Agrees h standing →
+    All (λ change. holder h who change.table change.rid ≡ None) changes → IsFree standing who changes
 IsFree-by h standing who changes agrees none = record {
   each = λ k d inside. holder-by h standing who (get_or changes k d).table (get_or changes k d).rid agrees ∙ none k d inside;
 }
@@ -248,14 +276,18 @@ rest-none : (first rest : Option Why) → option_or first rest ≡ None → rest
 rest-none None rest none = none
 rest-none (Some why) rest none = absurd cc
 
-none-locked : (h : History) (who : ℕ) (changes : List Change) → row_locked h who changes ≡ None → All (λ change. holder h who change.table change.rid ≡ None) changes
+none-locked : (h : History) (who : ℕ) (changes : List Change) → row_locked h who changes ≡ None →
+    All (λ change. holder h who change.table change.rid ≡ None) changes
 none-locked h who [] none = All-nil (λ change. holder h who change.table change.rid ≡ None)
 none-locked h who (change ∷ changes) none =
     let first = option_map (λ other. RowLocked change.rid other) (holder h who change.table change.rid) in
-    All-cons (λ c. holder h who c.table c.rid ≡ None) change changes (no-holder change.rid (holder h who change.table change.rid) (first-none first (row_locked h who changes) none)) (none-locked h who changes (rest-none first (row_locked h who changes) none))
+    All-cons (λ c. holder h who c.table c.rid ≡ None) change changes
+        (no-holder change.rid (holder h who change.table change.rid) (first-none first (row_locked h who changes) none))
+        (none-locked h who changes (rest-none first (row_locked h who changes) none))
 
 -- rows are free where none of them refuses a write as locked
-pub IsFree-unlocked : (h : History) (standing : Standing) (who : ℕ) (changes : List Change) → Agrees h standing → row_locked h who changes ≡ None → IsFree standing who changes
+pub IsFree-unlocked : (h : History) (standing : Standing) (who : ℕ) (changes : List Change) → Agrees h standing → row_locked h who changes ≡ None →
+    IsFree standing who changes
 IsFree-unlocked h standing who changes agrees none = IsFree-by h standing who changes agrees (none-locked h who changes none)
 
 -- a row number that was not given yet is touched by nothing that is pending
@@ -263,7 +295,8 @@ pub untouched-past-given : (h : History) (who table rid : ℕ) → given h table
 untouched-past-given h who table rid past = pending-below h who table rid past
 
 -- so an insert's rows are free
-pub IsFree-past-given : (h : History) (standing : Standing) (who : ℕ) (changes : List Change) → Agrees h standing → All (λ change. given h change.table ≤ change.rid) changes → IsFree standing who changes
+pub IsFree-past-given : (h : History) (standing : Standing) (who : ℕ) (changes : List Change) → Agrees h standing →
+    All (λ change. given h change.table ≤ change.rid) changes → IsFree standing who changes
 IsFree-past-given h standing who changes agrees past = IsFree-by h standing who changes agrees (λ k d inside.
     find-none (λ other. not (other == who) && touches (pending h other) (get_or changes k d).table (get_or changes k d).rid) 0 NUMBERS (λ other from to.
     rw (untouched-past-given h other (get_or changes k d).table (get_or changes k d).rid (past k d inside)) (and-false (not (other == who)))))
@@ -282,35 +315,49 @@ owed-open h standing who agrees number is =
     omega (arith, owed-part h standing who agrees number, one)
 
 -- an open cursor is owed a Shut
-pub owed-cursor : (h : History) (standing : Standing) (who cursor : ℕ) → Agrees h standing → who < NUMBERS → is_cursor_open h who cursor ≡ true → 1 ≤ standing.owed
+pub owed-cursor : (h : History) (standing : Standing) (who cursor : ℕ) → Agrees h standing → who < NUMBERS → is_cursor_open h who cursor ≡ true →
+    1 ≤ standing.owed
 owed-cursor h standing who cursor agrees number is =
-    omega (arith, owed-part h standing who agrees number, count_by-some (is_cursor cursor) (opened h who) is, count_by-le-length (is_cursor cursor) (opened h who))
+    omega (arith, owed-part h standing who agrees number, count_by-some (is_cursor cursor) (opened h who) is, count_by-le-length (is_cursor cursor)
+        (opened h who))
 
 -- where none is open, a Begin is one entry more
-pub owed-begun : (h : History) (who place : ℕ) (mode : Mode) (old new : Standing) → Agrees h old → is_open h who ≡ false → IsBegun old new who place mode → new.owed ≡ old.owed + 1
-owed-begun h who place mode old new agrees shut begins = opens-one (activity_at old who).begun place old.owed new.owed (length (activity_at old who).cursors) (ap (λ (b : Option ℕ). is_some b) (agrees.began who) ∙ shut) begins.activity.owed
+pub owed-begun : (h : History) (who place : ℕ) (mode : Mode) (old new : Standing) → Agrees h old → is_open h who ≡ false → IsBegun old new who place mode →
+    new.owed ≡ old.owed + 1
+owed-begun h who place mode old new agrees shut begins =
+    opens-one (activity_at old who).begun place old.owed new.owed (length (activity_at old who).cursors)
+    (ap (λ (b : Option ℕ). is_some b) (agrees.began who) ∙ shut) begins.activity.owed
 
 -- where none is open, a Write is one entry more
-pub owed-first-write : (h : History) (who place : ℕ) (changes : List Change) (old new : Standing) → Agrees h old → is_open h who ≡ false → IsWritten old new who place changes → new.owed ≡ old.owed + 1
-owed-first-write h who place changes old new agrees shut written = opens-one (activity_at old who).begun place old.owed new.owed (length (activity_at old who).cursors) (ap (λ (b : Option ℕ). is_some b) (agrees.began who) ∙ shut) written.activity.owed
+pub owed-first-write : (h : History) (who place : ℕ) (changes : List Change) (old new : Standing) → Agrees h old → is_open h who ≡ false →
+    IsWritten old new who place changes → new.owed ≡ old.owed + 1
+owed-first-write h who place changes old new agrees shut written =
+    opens-one (activity_at old who).begun place old.owed new.owed (length (activity_at old who).cursors)
+    (ap (λ (b : Option ℕ). is_some b) (agrees.began who) ∙ shut) written.activity.owed
 
 -- where one is open, a Write is none more
-pub owed-write : (h : History) (who place : ℕ) (changes : List Change) (old new : Standing) → Agrees h old → is_open h who ≡ true → IsWritten old new who place changes → new.owed ≡ old.owed
-owed-write h who place changes old new agrees is written = opens-none (activity_at old who).begun place old.owed new.owed (length (activity_at old who).cursors) (ap (λ (b : Option ℕ). is_some b) (agrees.began who) ∙ is) written.activity.owed
+pub owed-write : (h : History) (who place : ℕ) (changes : List Change) (old new : Standing) → Agrees h old → is_open h who ≡ true →
+    IsWritten old new who place changes → new.owed ≡ old.owed
+owed-write h who place changes old new agrees is written =
+    opens-none (activity_at old who).begun place old.owed new.owed (length (activity_at old who).cursors)
+    (ap (λ (b : Option ℕ). is_some b) (agrees.began who) ∙ is) written.activity.owed
 
 -- a write or a Begin is at most one entry more
 pub owed-write-most : (who place : ℕ) (changes : List Change) (old new : Standing) → IsWritten old new who place changes → new.owed ≤ old.owed + 1
-owed-write-most who place changes old new written = opens-most (activity_at old who).begun place old.owed new.owed (length (activity_at old who).cursors) written.activity.owed
+owed-write-most who place changes old new written =
+    opens-most (activity_at old who).begun place old.owed new.owed (length (activity_at old who).cursors) written.activity.owed
 
 -- an Open is one entry more
 pub owed-opened : (who : ℕ) (cursor : Cursor) (old new : Standing) → IsOpened old new who cursor → new.owed ≡ old.owed + 1
 owed-opened who cursor old new opens = omega (arith, opens.activity.owed, length_push (activity_at old who).cursors cursor)
 
 -- a Shut of an open cursor is one entry fewer
-pub owed-shut : (h : History) (who cursor : ℕ) (old new : Standing) → Agrees h old → is_cursor_open h who cursor ≡ true → IsShut old new who cursor → new.owed + 1 ≡ old.owed
+pub owed-shut : (h : History) (who cursor : ℕ) (old new : Standing) → Agrees h old → is_cursor_open h who cursor ≡ true → IsShut old new who cursor →
+    new.owed + 1 ≡ old.owed
 owed-shut h who cursor old new agrees is shuts =
     let cursors = (activity_at old who).cursors in
-    let there : list_any (is_number cursor) cursors ≡ true = ap (λ (l : List Cursor). list_any (is_number cursor) l) (agrees.cursors who) ∙ (list_any-map kept (is_number cursor) (is_cursor cursor) (opened h who) (λ x. refl) ∙ is) in
+    let there : list_any (is_number cursor) cursors ≡ true = ap (λ (l : List Cursor). list_any (is_number cursor) l) (agrees.cursors who)
+        ∙ (list_any-map kept (is_number cursor) (is_cursor cursor) (opened h who) (λ x. refl) ∙ is) in
     omega (arith, shuts.activity.owed, length-filter-not (is_number cursor) cursors, agrees.once who cursor, count_by-some (is_number cursor) cursors there)
 
 -- the end of an open transaction is one entry fewer
@@ -326,5 +373,9 @@ owed-ended-none h who old new agrees shut ends =
     omega (arith, ends.activity.owed, none)
 
 -- one row that no other holds
-pub IsFree-one : (standing : Standing) (who : ℕ) (change : Change) → is_some (holder_in standing who change.table change.rid) ≡ false → IsFree standing who (change ∷ [])
-IsFree-one standing who change free = record { each = All-cons (λ c. holder_in standing who c.table c.rid ≡ None) change [] (none-from (holder_in standing who change.table change.rid) free) (All-nil (λ c. holder_in standing who c.table c.rid ≡ None)) }
+pub IsFree-one : (standing : Standing) (who : ℕ) (change : Change) → is_some (holder_in standing who change.table change.rid) ≡ false →
+    IsFree standing who (change ∷ [])
+IsFree-one standing who change free =
+    record { each =
+    All-cons (λ c. holder_in standing who c.table c.rid ≡ None) change [] (none-from (holder_in standing who change.table change.rid) free)
+    (All-nil (λ c. holder_in standing who c.table c.rid ≡ None)) }

@@ -48,7 +48,8 @@ given_by-touches table rid n (change ∷ changes) past =
     rw here (given_by-touches table rid next changes past)
 
 -- what is pending after one more entry is not past what is given then
-after-entry : (what : What) (list : List Change) (table rid n : ℕ) → (n ≤ rid → touches list table rid ≡ false) → given_after table n what ≤ rid → touches (pending_after list what) table rid ≡ false
+after-entry : (what : What) (list : List Change) (table rid n : ℕ) → (n ≤ rid → touches list table rid ≡ false) → given_after table n what ≤ rid →
+    touches (pending_after list what) table rid ≡ false
 after-entry (Write changes) list table rid n below past =
     let rises = given_by-rises table n changes in
     list_any-append (is_to table rid) list changes ∙ rw (below (omega (arith, rises, past))) (given_by-touches table rid n changes past)
@@ -60,7 +61,8 @@ given-rises : (what : What) (table n : ℕ) → n ≤ given_after table n what
 given-rises (Write changes) table n = given_by-rises table n changes
 given-rises _ table n = omega arith
 
-either : (b : Bool) (x y : List Change) (table rid : ℕ) → touches x table rid ≡ false → touches y table rid ≡ false → touches (if b then x else y) table rid ≡ false
+either : (b : Bool) (x y : List Change) (table rid : ℕ) → touches x table rid ≡ false → touches y table rid ≡ false →
+    touches (if b then x else y) table rid ≡ false
 either true x y table rid first second = first
 either false x y table rid first second = second
 
@@ -70,13 +72,16 @@ Below-push h entry below = record {
       let now : given_after table (given h table) entry.what ≤ rid = rw (given-push h entry table) at past in
       let rises : given h table ≤ given_after table (given h table) entry.what = given-rises entry.what table (given h table) in
       let was : touches (pending h who) table rid ≡ false = below.below who table rid (omega (arith, rises, now)) in
-      let next : touches (pending_after (pending h who) entry.what) table rid ≡ false = after-entry entry.what (pending h who) table rid (given h table) (λ p. below.below who table rid p) now in
-      ap (λ (l : List Change). touches l table rid) (pending-push h entry who) ∙ either (entry.who == who) (pending_after (pending h who) entry.what) (pending h who) table rid next was;
+      let next : touches (pending_after (pending h who) entry.what) table rid ≡ false =
+          after-entry entry.what (pending h who) table rid (given h table) (λ p. below.below who table rid p) now in
+      ap (λ (l : List Change). touches l table rid) (pending-push h entry who)
+          ∙ either (entry.who == who) (pending_after (pending h who) entry.what) (pending h who) table rid next was;
 }
 
 Below-from : (before rest : History) → Below before → Below (before ++ rest)
 Below-from before [] below = rw append-nil below
-Below-from before (entry ∷ rest) below = subst Below (append_assoc before (entry ∷ []) rest) (Below-from (before ++ entry ∷ []) rest (Below-push before entry below))
+Below-from before (entry ∷ rest) below =
+    subst Below (append_assoc before (entry ∷ []) rest) (Below-from (before ++ entry ∷ []) rest (Below-push before entry below))
 
 pub pending-below : (h : History) (who table rid : ℕ) → given h table ≤ rid → touches (pending h who) table rid ≡ false
 pending-below h who table rid past = (Below-from [] h Below-nil).below who table rid past

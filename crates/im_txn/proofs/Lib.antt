@@ -1,6 +1,5 @@
 mod CellLemmas
 mod StandingLemmas
-mod ListLemmas
 mod AgreesLemmas
 mod LockLemmas
 mod GivenLemmas

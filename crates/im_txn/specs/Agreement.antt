@@ -22,13 +22,20 @@ use Rattle.im_txn.specs.Standing.{Standing, activity_at, holder_in, IsFree}
 -- each call keeps the agreement, with the entry that it goes with
 pub record KeepsAgreement : Type 0 where
   pub at_first : (standing : Standing) → IsIdle standing → Agrees [] standing
-  pub begins : (h : History) (who : ℕ) (mode : Mode) (old new : Standing) → Agrees h old → who < NUMBERS → IsBegun old new who (length h) mode → Agrees (h ++ record { who = who; what = Begin mode } ∷ []) new
-  pub opens : (h : History) (who cursor table : ℕ) (old new : Standing) → Agrees h old → who < NUMBERS → is_cursor_open h who cursor ≡ false → IsOpened old new who (cursor_of h who cursor table) → Agrees (h ++ record { who = who; what = Open cursor table } ∷ []) new
-  pub shuts : (h : History) (who cursor : ℕ) (old new : Standing) → Agrees h old → who < NUMBERS → IsShut old new who cursor → Agrees (h ++ record { who = who; what = Shut cursor } ∷ []) new
-  pub writes : (h : History) (who : ℕ) (changes : List Change) (old new : Standing) → Agrees h old → who < NUMBERS → IsFree old who changes → IsWritten old new who (length h) changes → Agrees (h ++ record { who = who; what = Write changes } ∷ []) new
-  pub commits : (h : History) (who : ℕ) (old new : Standing) → Agrees h old → who < NUMBERS → IsEnded old new who → Agrees (h ++ record { who = who; what = Commit } ∷ []) new
-  pub rolls_back : (h : History) (who : ℕ) (old new : Standing) → Agrees h old → who < NUMBERS → IsEnded old new who → Agrees (h ++ record { who = who; what = Rollback } ∷ []) new
-  pub others : (h : History) (who : ℕ) (what : What) (standing : Standing) → is_apart what ≡ true → Agrees h standing → Agrees (h ++ record { who = who; what = what } ∷ []) standing
+  pub begins : (h : History) (who : ℕ) (mode : Mode) (old new : Standing) → Agrees h old → who < NUMBERS → IsBegun old new who (length h) mode →
+      Agrees (h ++ record { who = who; what = Begin mode } ∷ []) new
+  pub opens : (h : History) (who cursor table : ℕ) (old new : Standing) → Agrees h old → who < NUMBERS → is_cursor_open h who cursor ≡ false →
+      IsOpened old new who (cursor_of h who cursor table) → Agrees (h ++ record { who = who; what = Open cursor table } ∷ []) new
+  pub shuts : (h : History) (who cursor : ℕ) (old new : Standing) → Agrees h old → who < NUMBERS → IsShut old new who cursor →
+      Agrees (h ++ record { who = who; what = Shut cursor } ∷ []) new
+  pub writes : (h : History) (who : ℕ) (changes : List Change) (old new : Standing) → Agrees h old → who < NUMBERS → IsFree old who changes →
+      IsWritten old new who (length h) changes → Agrees (h ++ record { who = who; what = Write changes } ∷ []) new
+  pub commits : (h : History) (who : ℕ) (old new : Standing) → Agrees h old → who < NUMBERS → IsEnded old new who →
+      Agrees (h ++ record { who = who; what = Commit } ∷ []) new
+  pub rolls_back : (h : History) (who : ℕ) (old new : Standing) → Agrees h old → who < NUMBERS → IsEnded old new who →
+      Agrees (h ++ record { who = who; what = Rollback } ∷ []) new
+  pub others : (h : History) (who : ℕ) (what : What) (standing : Standing) → is_apart what ≡ true → Agrees h standing →
+      Agrees (h ++ record { who = who; what = what } ∷ []) standing
   pub room : (h : History) (old new : Standing) → Agrees h old → IsGrown old new → Agrees h new
 
 -- where it agrees, each reading is the history's

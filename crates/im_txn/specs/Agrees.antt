@@ -21,7 +21,8 @@ kept opened = record { cursor = opened.cursor; table = opened.view.table; scn = 
 
 -- the cursor that a session's opening of this number on this table keeps
 abbrev pub cursor_of : History → ℕ → ℕ → ℕ → Cursor
-cursor_of history who cursor table = record { cursor = cursor; table = table; scn = snapshot history who; rows = given history table; per = per_at history table }
+cursor_of history who cursor table =
+    record { cursor = cursor; table = table; scn = snapshot history who; rows = given history table; per = per_at history table }
 
 -- a Rollback where a session has an open transaction, and a Shut for each cursor that it has open
 abbrev pub owes : History → ℕ → ℕ

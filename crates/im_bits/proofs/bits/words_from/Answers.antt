@@ -10,7 +10,9 @@ share-requires-clause-within c =
 pub loop-place-preserved : goal.loop-place-preserved
 loop-place-preserved c =
     let next = rw c.share.ensures at c.word_from.ensures in
-    rw c.in_ok-push.ensures.items (words_of-more c.args.width c.args.codes.now c.loop-place.place _ c.loop-place.words.items _ c.words_for-count.ensures c.loop-place-test.true c.loop-place.invariant next)
+    rw c.in_ok-push.ensures.items (words_of-more c.args.width c.args.codes.now c.loop-place.place _ c.loop-place.words.items _ c.words_for-count.ensures
+        c.loop-place-test.true c.loop-place.invariant next)
 
 pub returns : goal.returns
-returns c = words_of-all c.args.width c.args.codes.now c.loop-place.place _ c.loop-place.words.items c.words_for-count.ensures (omega arith) c.loop-place.invariant
+returns c =
+    words_of-all c.args.width c.args.codes.now c.loop-place.place _ c.loop-place.words.items c.words_for-count.ensures (omega arith) c.loop-place.invariant

@@ -1,4 +1,4 @@
-use Rattle.std.proofs.Common.{◌<◌, sym, subst, arith, List}
+use Rattle.std.proofs.Common.{sym, subst, arith, List}
 use Rattle.im_versions.specs.Versions.{Versions}
 use Rattle.im_blocks.specs.Transitions.{IsBefore}
 use Rattle.im_blocks.proofs.ForCallers.{IsBefore-nil}

@@ -11,4 +11,5 @@ pub returns-in_default : goal.returns-in_default
 returns-in_default c =
     let versions = c.args.versions.now in
     let parted = IsPartitionedBy-leb (λ v. v.scn) versions c.args.scn (rises versions c.requires) in
-    part_to versions c.args.scn c.partition_point.result (c.partition_point.ensures.partitioned (λ v. nat_le v.scn c.args.scn) (always_returns_same _ _ _ (λ a r f k. search (rules, of_calls))) parted)
+    part_to versions c.args.scn c.partition_point.result (c.partition_point.ensures.partitioned (λ v. nat_le v.scn c.args.scn)
+        (always_returns_same _ _ _ (λ a r f k. search (rules, of_calls))) parted)

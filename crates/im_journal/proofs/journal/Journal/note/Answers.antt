@@ -11,7 +11,9 @@ invariant_of-self c =
     let new : is_noted notes c.args.row ≡ false = sym known ∙ c.if-not-contains_key.true in
     let entries = rw c.unwrap.ensures at c.insert.ensures.entries in (
       omega (arith, c.insert.ensures.spare),
-      rw (entries, insert_entry-new notes c.args.row c.args.scn new) (later-push notes c.args.row c.args.scn c.self.invariant.1 (λ last is. c.requires.later last (ap (λ n. last_scn n.notes) (sym c.self.view_is) ∙ is))),
+      rw (entries, insert_entry-new notes c.args.row c.args.scn new)
+          (later-push notes c.args.row c.args.scn c.self.invariant.1
+          (λ last is. c.requires.later last (ap (λ n. last_scn n.notes) (sym c.self.view_is) ∙ is))),
     )
 
 pub returns-then-not-contains_key-clause-notes : goal.returns-then-not-contains_key-clause-notes

@@ -18,7 +18,9 @@ overflow_add-self c =
     let has : 0 < (activity_at c.args.self.now c.index.result).cursor_room = rw c.index.ensures.same c.requires.room in
     let room : c.index_mut.result.now.cursor_room ≡ (activity_at c.args.self.now c.index.result).cursor_room =
     ap (λ (a : Activity). a.cursor_room) is ∙ ap (λ (s : Standing). (activity_at s c.index.result).cursor_room) c.self.view_is in
-    let turns = open-turns _ c.index.result c.args.cursor c.index_mut.result.now c.open_cursor.new.self c.self.invariant c.index.ensures.few c.index_mut.ensures.value c.open_cursor.ensures (omega (arith, room, has)) in
+    let turns =
+        open-turns _ c.index.result c.args.cursor c.index_mut.result.now c.open_cursor.new.self c.self.invariant c.index.ensures.few
+            c.index_mut.ensures.value c.open_cursor.ensures (omega (arith, room, has)) in
     omega (arith, Turns-fits _ _ _ _ _ turns)
 
 pub invariant_of-self : goal.invariant_of-self
@@ -27,7 +29,9 @@ invariant_of-self c =
     let has : 0 < (activity_at c.args.self.now c.index.result).cursor_room = rw c.index.ensures.same c.requires.room in
     let room : c.index_mut.result.now.cursor_room ≡ (activity_at c.args.self.now c.index.result).cursor_room =
     ap (λ (a : Activity). a.cursor_room) is ∙ ap (λ (s : Standing). (activity_at s c.index.result).cursor_room) c.self.view_is in
-    let turns = open-turns _ c.index.result c.args.cursor c.index_mut.result.now c.open_cursor.new.self c.self.invariant c.index.ensures.few c.index_mut.ensures.value c.open_cursor.ensures (omega (arith, room, has)) in
+    let turns =
+        open-turns _ c.index.result c.args.cursor c.index_mut.result.now c.open_cursor.new.self c.self.invariant c.index.ensures.few
+            c.index_mut.ensures.value c.open_cursor.ensures (omega (arith, room, has)) in
     Turns-counted _ _ _ _ c.self.inside.locks _ turns
 
 pub returns : goal.returns
@@ -36,5 +40,8 @@ returns c =
     let has : 0 < (activity_at c.args.self.now c.index.result).cursor_room = rw c.index.ensures.same c.requires.room in
     let room : c.index_mut.result.now.cursor_room ≡ (activity_at c.args.self.now c.index.result).cursor_room =
     ap (λ (a : Activity). a.cursor_room) is ∙ ap (λ (s : Standing). (activity_at s c.index.result).cursor_room) c.self.view_is in
-    let turns = open-turns _ c.index.result c.args.cursor c.index_mut.result.now c.open_cursor.new.self c.self.invariant c.index.ensures.few c.index_mut.ensures.value c.open_cursor.ensures (omega (arith, room, has)) in
-    rw (← c.index.ensures.same, ← c.self.view_is) (record { activity = Turns-becomes _ _ _ _ c.self.inside.locks _ (with_cursor c.args.cursor) turns c.open_cursor.ensures; locks = refl })
+    let turns =
+        open-turns _ c.index.result c.args.cursor c.index_mut.result.now c.open_cursor.new.self c.self.invariant c.index.ensures.few
+            c.index_mut.ensures.value c.open_cursor.ensures (omega (arith, room, has)) in
+    rw (← c.index.ensures.same, ← c.self.view_is) (record { activity =
+        Turns-becomes _ _ _ _ c.self.inside.locks _ (with_cursor c.args.cursor) turns c.open_cursor.ensures; locks = refl })

@@ -8,5 +8,6 @@ invariant_of-self c =
     let items = rw c.unwrap.ensures at c.push.ensures.items in
     let longer = rw c.unwrap.ensures at c.push.ensures.len in (
       omega (arith, c.push.ensures.capacity),
-      rw items (IsRising-push c.self.inside.versions.items _ c.self.invariant.1 (λ last is. c.requires.later last (ap (λ v. latest v.versions) (sym c.self.view_is) ∙ is))),
+      rw items (IsRising-push c.self.inside.versions.items _ c.self.invariant.1
+          (λ last is. c.requires.later last (ap (λ v. latest v.versions) (sym c.self.view_is) ∙ is))),
     )

@@ -1,22 +1,10 @@
--- Sums and searches over the numbers of sessions, and counts of cursors.
-use Rattle.std.proofs.Common.{◌≡◌, ℕ, zero, suc, ◌+◌, ◌<◌, ◌≤◌, Bool, true, false, not, ◌||◌, List, [], ◌∷◌, length, map, filter, count_by, Option, Some, None, is_some, ◌⊎◌, inl, inr, ⊎_elim, refl, sym, ap, ◌∙◌, arith, if◌then◌else◌}
+-- General laws of sums, searches and counts.
+use Rattle.std.proofs.Common.{◌≡◌, ℕ, zero, suc, ◌+◌, ◌<◌, ◌≤◌, Bool, true, false, not, ◌||◌, List, [], ◌∷◌, length, map, filter, count_by, Option, Some, None, is_some, ⊎_elim, refl, sym, ap, ◌∙◌, arith, if◌then◌else◌}
 use Rattle.std.specs.List.{sum_by, range_with_len, find, list_any}
 use Rattle.std.specs.Option.{option_map}
-use Rattle.std.proofs.lemmas.Bool.{cases_eq, false≢true}
+use Rattle.std.proofs.lemmas.Bool.{cases_Bool, cases_eq, false≢true}
 use Rattle.std.proofs.lemmas.List.Sums.{sum_by-cons}
-
-or_left : (b c : Bool) → b || c ≡ false → b ≡ false
-or_left true c e = e
-or_left false c e = refl
-
-or_right : (b c : Bool) → b || c ≡ false → c ≡ false
-or_right true c e = absurd (false≢true (sym e))
-or_right false c e = e
-
--- a test passes or not
-pub cases_bool : (b : Bool) → (b ≡ true) ⊎ (b ≡ false)
-cases_bool true = inl refl
-cases_bool false = inr refl
+use Rattle.im_tables.proofs.Tests.{or-false}
 
 sum_by-same : (f g : ℕ → ℕ) (a n : ℕ) → ((k : ℕ) → a ≤ k → g k ≡ f k) → sum_by g (range_with_len a n) ≡ sum_by f (range_with_len a n)
 sum_by-same f g a zero same = refl
@@ -44,7 +32,8 @@ sum_by-part f a (suc n) who from to =
     (cases_eq a who)
 
 -- one number has another term now: the sum moves with it
-pub sum_by-moves : (f g : ℕ → ℕ) (a n who : ℕ) → a ≤ who → who < a + n → ((other : ℕ) → (other ≡ who → ⊥) → g other ≡ f other) → sum_by g (range_with_len a n) + f who ≡ sum_by f (range_with_len a n) + g who
+pub sum_by-moves : (f g : ℕ → ℕ) (a n who : ℕ) → a ≤ who → who < a + n → ((other : ℕ) → (other ≡ who → ⊥) → g other ≡ f other) →
+    sum_by g (range_with_len a n) + f who ≡ sum_by f (range_with_len a n) + g who
 sum_by-moves f g a zero who from to same = absurd (omega arith)
 sum_by-moves f g a (suc n) who from to same =
     let gs = sum_by-cons g a (range_with_len (a + 1) n) in
@@ -65,7 +54,8 @@ pub find-none : (p : ℕ → Bool) (a n : ℕ) → ((k : ℕ) → a ≤ k → k 
 find-none p a zero none = refl
 find-none p a (suc n) none = rw (none a (omega arith) (omega arith)) (find-none p (a + 1) n (λ k from to. none k (omega arith) (omega arith)))
 
-pub find-one : (p : ℕ → Bool) (a n who : ℕ) → a ≤ who → who < a + n → p who ≡ true → ((k : ℕ) → k < a + n → (k ≡ who → ⊥) → p k ≡ false) → find p (range_with_len a n) ≡ Some who
+pub find-one : (p : ℕ → Bool) (a n who : ℕ) → a ≤ who → who < a + n → p who ≡ true → ((k : ℕ) → k < a + n → (k ≡ who → ⊥) → p k ≡ false) →
+    find p (range_with_len a n) ≡ Some who
 find-one p a zero who from to here none = absurd (omega arith)
 find-one p a (suc n) who from to here none =
     ⊎_elim (λ (is : a ≡ who).
@@ -78,7 +68,8 @@ find-one p a (suc n) who from to here none =
 
 -- what is sought in a list that was mapped
 
-found-map : {X Y : Type 0} (f : X → Y) (b : Bool) (x : X) (rest : Option Y) (left : Option X) → rest ≡ option_map f left → (if b then Some (f x) else rest) ≡ option_map f (if b then Some x else left)
+found-map : {X Y : Type 0} (f : X → Y) (b : Bool) (x : X) (rest : Option Y) (left : Option X) → rest ≡ option_map f left →
+    (if b then Some (f x) else rest) ≡ option_map f (if b then Some x else left)
 found-map f true x rest left same = refl
 found-map f false x rest left same = same
 
@@ -104,7 +95,8 @@ count_by-map f p q (x ∷ xs) same =
     let here : ◌≡◌ {A = ℕ} (if p (f x) then 1 else 0) (if q x then 1 else 0) = ap (λ (b : Bool). if b then 1 else 0) (same x) in
     omega (arith, sum_by-cons (λ y. if p y then 1 else 0) (f x) (map f xs), sum_by-cons (λ y. if q y then 1 else 0) x xs, count_by-map f p q xs same, here)
 
-put-map : {X Y : Type 0} (f : X → Y) (b : Bool) (x : X) (ys : List Y) (xs : List X) → ys ≡ map f xs → (if b then f x ∷ ys else ys) ≡ map f (if b then x ∷ xs else xs)
+put-map : {X Y : Type 0} (f : X → Y) (b : Bool) (x : X) (ys : List Y) (xs : List X) → ys ≡ map f xs →
+    (if b then f x ∷ ys else ys) ≡ map f (if b then x ∷ xs else xs)
 put-map f true x ys xs same = ap (λ l. f x ∷ l) same
 put-map f false x ys xs same = same
 
@@ -117,8 +109,8 @@ filter-map f p q (x ∷ xs) same = rw (same x) (put-map f (q x) x (filter p (map
 pub count_by-none : {X : Type 0} (p : X → Bool) (xs : List X) → list_any p xs ≡ false → count_by p xs ≡ 0
 count_by-none p [] none = refl
 count_by-none p (x ∷ xs) none =
-    let here : p x ≡ false = or_left (p x) (list_any p xs) none in
-    let rest = count_by-none p xs (or_right (p x) (list_any p xs) none) in
+    let here : p x ≡ false = (or-false (p x) (list_any p xs) none).0 in
+    let rest = count_by-none p xs ((or-false (p x) (list_any p xs) none).1) in
     let term : ◌≡◌ {A = ℕ} (if p x then 1 else 0) 0 = ap (λ (b : Bool). if b then 1 else 0) here in
     omega (arith, sum_by-cons (λ y. if p y then 1 else 0) x xs, rest, term)
 
@@ -132,13 +124,14 @@ count_by-some p (x ∷ xs) some =
     (λ (off : p x ≡ false).
     let rest : list_any p xs ≡ true = rw off at some in
     omega (arith, sum, count_by-some p xs rest))
-    (cases_bool (p x))
+    (cases_Bool (p x))
 
 count-kept : (b c : Bool) (n m : ℕ) → m ≤ n → (if b then (if c then 1 else 0) + m else m) ≤ (if c then 1 else 0) + n
 count-kept true c n m below = omega (arith, below)
 count-kept false c n m below = omega (arith, below)
 
-count-put : {X : Type 0} (p : X → Bool) (b : Bool) (x : X) (xs : List X) → count_by p (if b then x ∷ xs else xs) ≡ (if b then (if p x then 1 else 0) + count_by p xs else count_by p xs)
+count-put : {X : Type 0} (p : X → Bool) (b : Bool) (x : X) (xs : List X) →
+    count_by p (if b then x ∷ xs else xs) ≡ (if b then (if p x then 1 else 0) + count_by p xs else count_by p xs)
 count-put p true x xs = sum_by-cons (λ y. if p y then 1 else 0) x xs
 count-put p false x xs = refl
 
@@ -146,7 +139,8 @@ count-put p false x xs = refl
 pub count_by-filter : {X : Type 0} (p q : X → Bool) (xs : List X) → count_by p (filter q xs) ≤ count_by p xs
 count_by-filter p q [] = omega arith
 count_by-filter p q (x ∷ xs) =
-    rw (count-put p (q x) x (filter q xs), sum_by-cons (λ y. if p y then 1 else 0) x xs) (count-kept (q x) (p x) (count_by p xs) (count_by p (filter q xs)) (count_by-filter p q xs))
+    rw (count-put p (q x) x (filter q xs), sum_by-cons (λ y. if p y then 1 else 0) x xs)
+    (count-kept (q x) (p x) (count_by p xs) (count_by p (filter q xs)) (count_by-filter p q xs))
 
 kept-length : {X : Type 0} (b : Bool) (x : X) (xs : List X) (n : ℕ) → length (if not b then x ∷ xs else xs) + ((if b then 1 else 0) + n) ≡ length xs + n + 1
 kept-length true x xs n = omega arith
