@@ -7,8 +7,9 @@ use Rattle.im_names.specs.declared.fault.NameFault.TheVariants as names
 use Rattle.im_replies.specs.declared.fault.Fault.{Fault}
 use Rattle.im_replies.specs.declared.fault.Fault.TheVariants as fault
 
--- the fault of a call that was refused for this cause. A call that names no cursor opens cursor 0, and out of memory comes
--- here before the line's first entry. Which name is taken and which extent has no unit, only what was asked can tell
+-- the fault of a call that was refused for this cause, before its line made an entry. A call that names no cursor opens
+-- cursor 0. Which name is taken and which extent has no unit does not follow from the cause: `creation_fault` and
+-- `eviction_fault` have it from what was asked
 abbrev pub fault_of : Why → Fault
 fault_of (why.TableExists table) = fault.NotBuilt
 fault_of why.TooManyTables = fault.TooManyTables
@@ -38,7 +39,7 @@ abbrev pub eviction_fault : ℕ → ℕ → Why → Fault
 eviction_fault table extent why.NoUnit = fault.NoUnit table extent
 eviction_fault table extent cause = fault_of cause
 
--- the fault of a statement whose names or values have this fault. Out of memory comes here before the line's first entry
+-- the fault of a statement whose names or values have this fault. It came before the line made an entry
 abbrev pub name_fault : NameFault → Fault
 name_fault (names.UnknownTable name) = fault.UnknownTable name
 name_fault (names.UnknownColumn name) = fault.UnknownColumn name

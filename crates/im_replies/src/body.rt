@@ -76,7 +76,7 @@ pub enum Body {
         /// The session's number for it.
         cursor: u32,
     },
-    /// CLOSE shut a cursor.
+    /// CLOSE closed a cursor.
     Closed {
         /// The session's number for it.
         cursor: u32,

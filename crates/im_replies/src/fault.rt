@@ -61,7 +61,7 @@ pub enum Fault {
         /// The name.
         name: Name,
     },
-    /// As many tables stand as may stand.
+    /// The most tables stand that there may be.
     TooManyTables,
     /// STEP, FETCH or CLOSE of a cursor that is not open.
     CursorUnknown {
@@ -73,7 +73,7 @@ pub enum Fault {
         /// The session's number for the cursor.
         cursor: u32,
     },
-    /// OPEN while the session has as many cursors open as it may have.
+    /// OPEN while the session has the most cursors open that it may have.
     TooManyCursors,
     /// SET TRANSACTION while a transaction is open.
     TransactionOpen {
@@ -117,7 +117,7 @@ pub enum Fault {
         /// The extent as asked for.
         extent: u64,
     },
-    /// Memory lacked. The entries made so far stay, and no row was changed.
+    /// Out of memory. The entries made so far stay, and no row was changed.
     Memory {
         /// How many entries of the history the line had made.
         k: u64,

@@ -1,7 +1,7 @@
 //! What replies say.
 //!
 //! A [`Reply`] is what a line of a script is answered with: a [`Body`], the place in the history at which it was settled,
-//! and one mark for each extent that a scan served. Each refusal is a [`Fault`] of its own, with the values that tell why.
+//! and one mark for each extent that a scan served. Each refusal is a [`Fault`] of its own, with the values that say why.
 //! The faults that a statement's names have and the causes for which a call is refused become faults by `From`, and
 //! `specs/Causes.antt` says which.
 //!

@@ -7,7 +7,7 @@ use Rattle.csv.specs.Quoting.{needs_byte}
 use Rattle.csv.specs.Writing as csv
 use Rattle.csv.specs.Writing.{escaped}
 use Rattle.im_text.specs.Fields.{calls_for_quotes, doubled, field_text}
-use Rattle.im_text.specs.Pages.{reply_writer}
+use Rattle.im_text.specs.inner.Pages.{reply_writer}
 
 or-false : (b : Bool) → (b || false) ≡ b
 or-false true = refl

@@ -11,7 +11,7 @@ use Rattle.csv.specs.Writing.{writer_setup, fields_written, has_written, text_wr
 use Rattle.im_text.specs.declared.page.Page.{Page}
 use Rattle.im_text.specs.Fields.{field_text}
 use Rattle.im_text.specs.Records.{further, record_text, numbered}
-use Rattle.im_text.specs.Pages.{reply_writer, written, IsBetween, IsInside, Adds, Ends, Puts}
+use Rattle.im_text.specs.inner.Pages.{reply_writer, written, IsBetween, IsInside, Adds, Ends, Puts}
 use Rattle.im_text.proofs.FieldLemmas.{field-same, field-shows}
 
 -- what the writer of CSV says of a field that it wrote
@@ -79,7 +79,8 @@ whole a b c d fields first rest end =
     let text : written d ≡ written a ++ numbered a.line (fields ∷ []) =
     end.text ∙ ap (λ (t : List ℕ). t ++ (10 ∷ [])) body.text
     ∙ append_assoc (written a) (head ++ further fields) (10 ∷ [])
-    ∙ ap (λ (t : List ℕ). written a ++ t) (append_assoc head (further fields) (10 ∷ []) ∙ sym (append-nil (head ++ (further fields ++ (10 ∷ []))))) in
+    ∙ ap (λ (t : List ℕ). written a ++ t)
+    (append_assoc head (further fields) (10 ∷ []) ∙ sym (append-nil (head ++ (further fields ++ (10 ∷ []))))) in
     record { between = end.between; line = end.line ∙ body.line; text = text }
 
 -- one field and then others

@@ -1,4 +1,4 @@
--- The record of a refusal: its code, its words, and the values that tell why.
+-- The record of a refusal: its code, its words, and the values that say why.
 use Rattle.std.specs.Prelude.{ℕ, List, [], ◌∷◌, Option, Some, None, codes, decimal}
 use Rattle.im_values.specs.declared.limits.TheConstants.{MOST_TABLES, MOST_CURSORS}
 use Rattle.im_replies.specs.declared.fault.Fault.{Fault}

@@ -6,5 +6,4 @@ pub mod Tasks
 pub mod Faults
 pub mod Bodies
 pub mod Replies
-pub mod Shown
-pub mod Pages
+pub mod inner

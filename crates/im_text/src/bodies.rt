@@ -1,6 +1,6 @@
 ghost use Rattle.std.specs.Prelude.{OnOk};
 ghost use Rattle.im_text.specs.Bodies as spec;
-ghost use Rattle.im_text.specs.Pages.{IsBetween, Puts};
+ghost use Rattle.im_text.specs.inner.Pages.{IsBetween, Puts};
 
 use crate::extents::{put_extents, put_served};
 use crate::faults::put_fault;

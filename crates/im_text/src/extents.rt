@@ -1,6 +1,6 @@
 ghost use Rattle.std.specs.Prelude.{[], ◌∷◌, OnOk, map};
 ghost use Rattle.im_text.specs.Extents.{served_record};
-ghost use Rattle.im_text.specs.Pages.{IsBetween, Puts};
+ghost use Rattle.im_text.specs.inner.Pages.{IsBetween, Puts};
 
 use crate::field::Field;
 use crate::page::Page;

@@ -1,6 +1,6 @@
 ghost use Rattle.std.specs.Prelude.{[], ◌∷◌, OnOk, ◌≡◌};
 ghost use Rattle.im_text.specs.Faults as spec;
-ghost use Rattle.im_text.specs.Pages.{IsBetween, Puts};
+ghost use Rattle.im_text.specs.inner.Pages.{IsBetween, Puts};
 
 use crate::page::Page;
 use im_replies::Fault;

@@ -1,9 +1,9 @@
 ghost use Rattle.std.specs.Prelude.{◌≡◌, ◌∷◌, ◌++◌, [], OnOk, IfOk, map, codes, decimal};
 ghost use Rattle.im_text.specs.Fields.{field_text};
 ghost use Rattle.im_text.specs.Records.{further};
-ghost use Rattle.im_text.specs.Pages as spec;
+ghost use Rattle.im_text.specs.inner.Pages as spec;
 ghost use Rattle.im_text.specs.Cells.{cell_field, row_record};
-ghost use Rattle.im_text.specs.Shown.{shown};
+ghost use Rattle.im_text.specs.inner.Shown.{shown};
 
 use crate::field::Field;
 use csv::{Writer, WriterBuilder};

@@ -10,7 +10,7 @@ use std::alloc::Global;
 /// The text of the reply to a line.
 ///
 /// Lines are numbered from 1. The text is bytes, since a text of a table may hold any. Its size is what its records take,
-/// and so is the time to write it; it fails for want of memory alone.
+/// and so is the time to write it; it fails out of memory alone.
 pub fn reply(alloc: Global, line: u64, body: &Body) -> Result<Vec<u8>, NoMemory>
     ensures { IfOk result (λ text. text.items ≡ reply_text line body.now) }
 {

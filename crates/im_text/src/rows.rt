@@ -1,6 +1,6 @@
 ghost use Rattle.std.specs.Prelude.{OnOk, map};
 ghost use Rattle.im_text.specs.Cells.{row_record};
-ghost use Rattle.im_text.specs.Pages.{IsBetween, Puts};
+ghost use Rattle.im_text.specs.inner.Pages.{IsBetween, Puts};
 
 use crate::page::Page;
 use im_replies::Records;

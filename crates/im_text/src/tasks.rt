@@ -1,6 +1,6 @@
 ghost use Rattle.std.specs.Prelude.{[], ◌∷◌, OnOk, flat_map};
 ghost use Rattle.im_text.specs.Tasks.{build_record, ending_record, task_records};
-ghost use Rattle.im_text.specs.Pages.{IsBetween, Puts};
+ghost use Rattle.im_text.specs.inner.Pages.{IsBetween, Puts};
 
 use crate::page::Page;
 use im_replies::{Built, Ending};

@@ -1,6 +1,6 @@
 use Rattle.std.proofs.Common.{map, take}
 use Rattle.im_text.specs.Extents.{served_record}
-use Rattle.im_text.specs.Pages.{Puts}
+use Rattle.im_text.specs.inner.Pages.{Puts}
 use Rattle.im_text.proofs.extents.put_extents.Given as goal
 
 abbrev pub invariant-loop-extent : goal.invariant-loop-extent

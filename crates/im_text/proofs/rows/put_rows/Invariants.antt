@@ -1,6 +1,6 @@
 use Rattle.std.proofs.Common.{map, take}
 use Rattle.im_text.specs.Cells.{row_record}
-use Rattle.im_text.specs.Pages.{Puts}
+use Rattle.im_text.specs.inner.Pages.{Puts}
 use Rattle.im_text.proofs.rows.put_rows.Given as goal
 
 abbrev pub invariant-loop-cells : goal.invariant-loop-cells

@@ -1,7 +1,7 @@
 use Rattle.std.proofs.Common.{take}
 use Rattle.std.specs.Prelude.{flat_map}
 use Rattle.im_text.specs.Tasks.{task_records}
-use Rattle.im_text.specs.Pages.{Puts}
+use Rattle.im_text.specs.inner.Pages.{Puts}
 use Rattle.im_text.proofs.tasks.put_tasks.Given as goal
 
 abbrev pub invariant-loop-built : goal.invariant-loop-built

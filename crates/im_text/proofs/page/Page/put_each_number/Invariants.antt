@@ -1,6 +1,6 @@
 use Rattle.std.proofs.Common.{map, take, decimal}
 use Rattle.im_text.specs.Records.{further}
-use Rattle.im_text.specs.Pages.{Adds}
+use Rattle.im_text.specs.inner.Pages.{Adds}
 use Rattle.im_text.proofs.page.Page.put_each_number.Given as goal
 
 abbrev pub invariant-loop-number : goal.invariant-loop-number

@@ -1,7 +1,7 @@
 use Rattle.std.proofs.Common.{map, take}
 use Rattle.im_text.specs.Records.{further}
-use Rattle.im_text.specs.Pages.{Adds}
-use Rattle.im_text.specs.Shown.{shown}
+use Rattle.im_text.specs.inner.Pages.{Adds}
+use Rattle.im_text.specs.inner.Shown.{shown}
 use Rattle.im_text.proofs.page.Page.put_fields.Given as goal
 
 abbrev pub invariant-loop-field : goal.invariant-loop-field
