@@ -1,5 +1,5 @@
 -- Conditions are read as they are spelled, at each depth.
-use Rattle.std.proofs.Common.{◌≡◌, ℕ, zero, suc, Bool, true, false, cond, List, [], ◌∷◌, ◌++◌, Option, Some, None, refl, ap}
+use Rattle.std.proofs.Common.{◌≡◌, ℕ, zero, suc, Bool, true, false, List, [], ◌∷◌, ◌++◌, Option, Some, None, refl, ap}
 use Rattle.std.specs.List.{AllByRecursion}
 use Rattle.im_readers.specs.Reading.{Read, nothing}
 use Rattle.im_readers.specs.Grammar.{begins_with, Reads, never, GoodJoined, GoodBoth, spell_joined, spell_others, goes_joined, goes_optional, goes_behind}

@@ -2,7 +2,7 @@
 use Rattle.std.proofs.Common.{◌≡◌, ◌≢◌, Bool, true, false, List, [], ◌∷◌, ◌++◌, Option, Some, None, refl}
 use Rattle.std.specs.Prelude.{is_some}
 use Rattle.im_readers.specs.Reading.{Read, made}
-use Rattle.im_readers.specs.Grammar.{Ends, at_other, begins_with, Reads, never, Any, GoodBoth, GoodOptional, spell_optional, goes_optional, goes_behind}
+use Rattle.im_readers.specs.Grammar.{at_other, begins_with, Reads, never, Any, GoodBoth, GoodOptional, spell_optional, goes_optional}
 use Rattle.im_readers.proofs.Parts.{Makes, both_law, made_law, after_law, before_law, optional_law, GoodFirst, Choice, chosen, none_chosen, FirstKind, first_kind, picked_law}
 use Rattle.im_readers.proofs.Joined.{joined_law, goes_joined-false}
 use Rattle.im_values.specs.declared.comparison.Cmp.{Cmp}

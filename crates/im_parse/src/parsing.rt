@@ -1,4 +1,4 @@
-ghost use Rattle.std.specs.Prelude.{◌≡◌, ◌≤◌, [], length, IfOk, IfErr};
+ghost use Rattle.std.specs.Prelude.{◌≡◌, [], IfOk, IfErr};
 ghost use Rattle.im_readers.specs.Reading.{Found};
 ghost use Rattle.im_readers.specs.Answers.{Gives};
 ghost use Rattle.im_syntax.specs.declared.statement.Stmt.{Stmt as AnyStmt};

@@ -1,5 +1,4 @@
-ghost use Rattle.std.specs.Prelude.{◌≡◌};
-ghost use Rattle.im_readers.specs.Reading.{Found, and_then};
+ghost use Rattle.im_readers.specs.Reading.{Found};
 ghost use Rattle.im_readers.specs.Answers.{Gives};
 ghost use Rattle.im_parse.specs.inner.Marks as marks;
 ghost use Rattle.im_parse.specs.inner.Tables as tables;

@@ -1,7 +1,5 @@
-ghost use Rattle.std.specs.Prelude.{◌≡◌, Bool};
-ghost use Rattle.im_readers.specs.Reading.{Found, joined};
+ghost use Rattle.im_readers.specs.Reading.{Found};
 ghost use Rattle.im_readers.specs.Answers.{Gives};
-ghost use Rattle.im_syntax.specs.declared.token.Token.{Token as AnyToken};
 ghost use Rattle.im_parse.specs.inner.Marks as marks;
 ghost use Rattle.im_parse.specs.inner.Conditions.{tuple_at};
 

@@ -1,4 +1,4 @@
-ghost use Rattle.std.specs.Prelude.{◌≡◌, ◌≤◌, length, drop, slice_index};
+ghost use Rattle.std.specs.Prelude.{◌≡◌, ◌≤◌, length, slice_index};
 ghost use Rattle.std.specs.List.{list_all};
 ghost use Rattle.im_lex.specs.Bytes as bytes_of;
 ghost use Rattle.im_script.specs.Forms as forms;

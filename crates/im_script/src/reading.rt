@@ -1,4 +1,4 @@
-ghost use Rattle.std.specs.Prelude.{◌≡◌, ◌+◌, ◌≤◌, ◌<◌, ◌^◌, length, drop, IfOk, map};
+ghost use Rattle.std.specs.Prelude.{◌≡◌, ◌+◌, ◌≤◌, ◌<◌, ◌^◌, length, IfOk};
 ghost use Rattle.im_syntax.specs.declared.statement.Side.TheVariants as side;
 ghost use Rattle.im_script.specs.declared.line.LineKind.TheVariants as kind;
 ghost use Rattle.im_script.specs.Forms as forms;
