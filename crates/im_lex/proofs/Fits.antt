@@ -4,6 +4,7 @@ use Rattle.std.proofs.Common.{◌^◌}
 use Rattle.std.proofs.lemmas.Bool.Decides.{nat_tests}
 use Rattle.std.specs.Prelude.{◌==◌, nat_le}
 use Rattle.std.specs.Char.{is_ascii_alphabetic, is_ascii_digit}
+use Rattle.im_values.specs.declared.limits.TheConstants.{MOST_WORD_BYTES}
 use Rattle.im_syntax.specs.declared.token.Token.{Token}
 use Rattle.im_syntax.specs.declared.token.Token.TheVariants as token
 use Rattle.im_syntax.specs.declared.token.Sign.{Sign}
@@ -60,7 +61,8 @@ two_bytes : (bs : List ℕ) (b : ℕ) → 0 < b → (first bs == b) ≡ true →
 two_bytes [] b lt e = absurd (let same : 0 ≡ b = grind (arith, nat_tests) in omega arith)
 two_bytes (c ∷ bs) b lt e = omega arith
 
-two_fit : (bs : List ℕ) (b : ℕ) (x y : Front) → 0 < b → (1 ≤ length bs → FitsFront (suc (length bs)) x) → FitsFront (suc (length bs)) y → FitsFront (suc (length bs)) (cond (first bs == b) x y)
+two_fit : (bs : List ℕ) (b : ℕ) (x y : Front) → 0 < b → (1 ≤ length bs → FitsFront (suc (length bs)) x) → FitsFront (suc (length bs)) y
+    → FitsFront (suc (length bs)) (cond (first bs == b) x y)
 two_fit bs b x y lt p q = go (first bs == b) refl
   where
     go : (is : Bool) → (first bs == b) ≡ is → FitsFront (suc (length bs)) (cond is x y)
@@ -97,7 +99,8 @@ minus_fits : (bs : List ℕ) → FitsFront (suc (length bs)) (minus_front bs)
 minus_fits bs =
     let le = length-run is_ascii_digit bs in
     either_fits (first bs == 45) stop_fits
-    (either_fits (is_ascii_digit (first bs)) (either_fits (nat_le (value_of (run is_ascii_digit bs)) (2 ^ 63)) (token_fits _ (length (run is_ascii_digit bs)) (omega arith)) bad_fits) bad_fits)
+    (either_fits (is_ascii_digit (first bs))
+    (either_fits (nat_le (value_of (run is_ascii_digit bs)) (2 ^ 63)) (token_fits _ (length (run is_ascii_digit bs)) (omega arith)) bad_fits) bad_fits)
 
 run_fits : (test : ℕ → Bool) (b : ℕ) (bs : List ℕ) → suc (length (run test (b ∷ bs)) - 1) ≤ suc (length bs)
 run_fits test b bs = let le = length-run test (b ∷ bs) in omega arith
@@ -106,9 +109,11 @@ front_at_fits : (b : ℕ) (bs : List ℕ) → FitsFront (suc (length bs)) (front
 front_at_fits b bs =
     either_fits (is_blank b) blank_fits
     (either_fits (is_ascii_alphabetic b)
-    (either_fits (nat_le (length (run is_word_part (b ∷ bs))) 128) (token_fits _ (length (run is_word_part (b ∷ bs)) - 1) (run_fits is_word_part b bs)) bad_fits)
+    (either_fits (nat_le (length (run is_word_part (b ∷ bs))) MOST_WORD_BYTES)
+    (token_fits _ (length (run is_word_part (b ∷ bs)) - 1) (run_fits is_word_part b bs)) bad_fits)
     (either_fits (is_ascii_digit b)
-    (either_fits (nat_le (value_of (run is_ascii_digit (b ∷ bs))) (2 ^ 63 - 1)) (token_fits _ (length (run is_ascii_digit (b ∷ bs)) - 1) (run_fits is_ascii_digit b bs)) bad_fits)
+    (either_fits (nat_le (value_of (run is_ascii_digit (b ∷ bs))) (2 ^ 63 - 1))
+    (token_fits _ (length (run is_ascii_digit (b ∷ bs)) - 1) (run_fits is_ascii_digit b bs)) bad_fits)
     (either_fits (b == 45) (minus_fits bs)
     (either_fits (b == 39) (found_fits (length bs) (text_of bs) (text_fits bs))
     (either_fits (b == 59) (either_fits (only_ends bs) stop_fits bad_fits) (sign_fits b bs))))))

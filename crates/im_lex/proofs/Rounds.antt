@@ -7,7 +7,8 @@ use Rattle.im_syntax.specs.declared.token.Token.{Token}
 use Rattle.im_lex.specs.declared.front.Front.{Front}
 use Rattle.im_lex.specs.declared.front.Front.TheVariants.{Stop, Blank, Bad, Lexed}
 use Rattle.im_lex.specs.Bytes.{front}
-use Rattle.im_lex.specs.Lexing.{Lexes, ends, skips, takes, IsBadAt, is_bad, behind_blank, behind_token, with_token, round_of, lexed_in, Gives, IsLexedAs, IsFaultAt, IsBadByte}
+use Rattle.im_lex.specs.Lexing.{Lexes, ends, skips, takes, IsBadAt, is_bad, behind_blank, behind_token, IsLexedAs, IsFaultAt, IsBadByte}
+use Rattle.im_lex.specs.inner.Rounds.{with_token, round_of, lexed_in, Gives}
 use Rattle.im_lex.specs.declared.lexing.LexFault.{LexFault}
 use Rattle.im_lex.specs.declared.lexing.LexFault.TheVariants as fault
 use Rattle.im_lex.proofs.Fits.{token_all_fits, blank_all_fits}
@@ -85,7 +86,8 @@ bad_round : (k at b : ℕ) (bs : List ℕ) (n : ℕ) (f : Front) → front (b �
 bad_round k at b bs n Stop e more h = absurd cc
 bad_round k at b bs n Bad e more h = let same : at ≡ n = cc in subst (λ (x : ℕ). IsBadAt at (b ∷ bs) x) same (is_bad at (b ∷ bs) e)
 bad_round k at b bs n Blank e more h = behind_blank at b bs n e (more (at + 1) bs h)
-bad_round k at b bs n (Lexed t m) e more h = behind_token at b bs t m n e (more (at + 1 + m) (drop m bs) (with_token_err t at (lexed_in k (at + 1 + m) (drop m bs)) n h))
+bad_round k at b bs n (Lexed t m) e more h =
+    behind_token at b bs t m n e (more (at + 1 + m) (drop m bs) (with_token_err t at (lexed_in k (at + 1 + m) (drop m bs)) n h))
 
 pub bad_from : (k at : ℕ) (bs : List ℕ) (n : ℕ) → lexed_in k at bs ≡ Err n → IsBadAt at bs n
 unfolding lexed_in front
@@ -130,8 +132,11 @@ module _ (before : Tokens) (most i at : ℕ) (line : List ℕ) (total : Result T
       → (with_tokens before (lexed_in (most - (i + 1)) (at + 1) (drop (at + 1) line)) ≡ total) × (at + 1 ≤ length line)
   blank_step e =
       let room = blank_all_fits (drop at line) e in
-      let left = length-drop at line in
-      (ap (λ (x : List ℕ). with_tokens before (lexed_in (most - (i + 1)) (at + 1) x)) (sym (drop-drop 1 at line)) ∙ at_blank before most i at (drop at line) total so_far lt e, omega arith)
+      let left = length-drop at line in (
+        ap (λ (x : List ℕ). with_tokens before (lexed_in (most - (i + 1)) (at + 1) x)) (sym (drop-drop 1 at line))
+            ∙ at_blank before most i at (drop at line) total so_far lt e,
+        omega arith,
+      )
 
   pub token_room : (t : Token) (more : ℕ) → front (drop at line) ≡ Lexed t more → at + 1 + more ≤ length line
   token_room t more e =
@@ -143,7 +148,8 @@ module _ (before : Tokens) (most i at : ℕ) (line : List ℕ) (total : Result T
       → (with_tokens (before ++ (t, at) ∷ []) (lexed_in (most - (i + 1)) (at + 1 + more) (drop (at + 1 + more) line)) ≡ total) × (at + 1 + more ≤ length line)
   token_step t more e =
       let place : at + 1 + more ≡ at + suc more = omega arith in (
-        ap (λ (x : List ℕ). with_tokens (before ++ (t, at) ∷ []) (lexed_in (most - (i + 1)) (at + 1 + more) x)) (ap (λ (k : ℕ). drop k line) place ∙ sym (drop-drop (suc more) at line))
+        ap (λ (x : List ℕ). with_tokens (before ++ (t, at) ∷ []) (lexed_in (most - (i + 1)) (at + 1 + more) x))
+            (ap (λ (k : ℕ). drop k line) place ∙ sym (drop-drop (suc more) at line))
             ∙ at_token before most i at (drop at line) total so_far t more lt e,
         token_room t more e,
       )

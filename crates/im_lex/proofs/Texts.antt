@@ -4,7 +4,8 @@ use Rattle.std.specs.Prelude.{◌==◌}
 use Rattle.std.proofs.lemmas.List.{append-nil, drop-drop, drop_all}
 use Rattle.im_lex.specs.declared.front.Piece.{Piece}
 use Rattle.im_lex.specs.declared.front.Piece.TheVariants.{Over, End, Byte}
-use Rattle.im_lex.specs.Bytes.{with_byte, text_of, piece_of}
+use Rattle.im_lex.specs.Bytes.{with_byte, text_of}
+use Rattle.im_lex.specs.inner.Pieces.{piece_of}
 
 -- what was read before, and what is still read
 abbrev pub with_text : List ℕ → ℕ → Option (List ℕ × ℕ) → Option (List ℕ × ℕ)
@@ -22,7 +23,8 @@ last_piece b true = refl
 last_piece b false = refl
 
 two_pieces : (b c : ℕ) (bs : List ℕ) (is also : Bool)
-    → cond is (cond also (with_byte 39 2 (text_of bs)) (Some ([], 1))) (with_byte b 1 (text_of (c ∷ bs))) ≡ by_piece (cond is (cond also (Byte 39 2) End) (Byte b 1)) (b ∷ c ∷ bs)
+    → cond is (cond also (with_byte 39 2 (text_of bs)) (Some ([], 1))) (with_byte b 1 (text_of (c ∷ bs)))
+    ≡ by_piece (cond is (cond also (Byte 39 2) End) (Byte b 1)) (b ∷ c ∷ bs)
 unfolding by_piece
 two_pieces b c bs true true = refl
 two_pieces b c bs true false = refl
@@ -55,7 +57,8 @@ piece_fits (a ∷ c ∷ bs) b n e =
     let f = two_fits a b n (length bs) (a == 39) (c == 39) e in
     record { some = f.some; all = omega arith }
 
-with_text-byte : (front : List ℕ) (taken b n : ℕ) (o : Option (List ℕ × ℕ)) → with_text front taken (with_byte b n o) ≡ with_text (front ++ b ∷ []) (taken + n) o
+with_text-byte : (front : List ℕ) (taken b n : ℕ) (o : Option (List ℕ × ℕ))
+    → with_text front taken (with_byte b n o) ≡ with_text (front ++ b ∷ []) (taken + n) o
 with_text-byte front taken b n None = refl
 with_text-byte front taken b n (Some (text, more)) =
     let place : taken + (n + more) ≡ taken + n + more = omega arith in

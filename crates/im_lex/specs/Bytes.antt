@@ -1,10 +1,12 @@
 -- What stands at the front of the bytes of a line.
 use Rattle.std.specs.Prelude.{ℕ, ◌+◌, ◌-◌, ◌*◌, ◌^◌, pos, neg_ℤ, Bool, true, false, ◌||◌, ◌==◌, nat_le, List, [], ◌∷◌, length, map, Option, Some, None, if◌then◌else◌, fold}
 use Rattle.std.specs.Char.{is_ascii_alphabetic, is_ascii_digit, to_ascii_uppercase}
+use Rattle.im_values.specs.declared.limits.TheConstants.{MOST_WORD_BYTES}
+use Rattle.im_syntax.specs.Keywords.{keyword_of}
+use Rattle.im_syntax.specs.declared.keyword.Keyword.{Keyword}
+use Rattle.im_syntax.specs.declared.token.Token.{Token}
 use Rattle.im_syntax.specs.declared.token.Token.TheVariants as token
 use Rattle.im_syntax.specs.declared.token.Sign.TheVariants as sign
-use Rattle.im_lex.specs.declared.front.Piece.{Piece}
-use Rattle.im_lex.specs.declared.front.Piece.TheVariants.{Over, End, Byte}
 use Rattle.im_lex.specs.declared.front.Front.{Front}
 use Rattle.im_lex.specs.declared.front.Front.TheVariants.{Stop, Blank, Bad, Lexed}
 
@@ -16,7 +18,7 @@ is_blank b = b == 32 || b == 9 || b == 13
 abbrev pub is_word_part : ℕ → Bool
 is_word_part b = is_ascii_alphabetic b || is_ascii_digit b || b == 95 || b == 36 || b == 35
 
--- the longest front of bytes that pass a test
+-- the longest prefix of bytes that pass a test
 abbrev pub run : (ℕ → Bool) → List ℕ → List ℕ
 run test [] = []
 run test (b ∷ bs) = if test b then b ∷ run test bs else []
@@ -28,9 +30,19 @@ first (b ∷ bs) = b
 
 -- ---- words
 
+-- a word that is a keyword, or is not
+abbrev pub token_by : Option Keyword → List ℕ → Token
+token_by None w = token.Word w
+token_by (Some k) w = token.Keyword k
+
+-- the token of a word in capitals
+abbrev pub word_token : List ℕ → Token
+word_token w = token_by (keyword_of w) w
+
 -- a word with its letters as capitals, where it is not too long
 abbrev pub word_front : List ℕ → Front
-word_front w = if nat_le (length w) 128 then Lexed (token.Word (map to_ascii_uppercase w)) (length w - 1) else Bad
+word_front w =
+    if nat_le (length w) MOST_WORD_BYTES then Lexed (word_token (map to_ascii_uppercase w)) (length w - 1) else Bad
 
 -- ---- numbers
 
@@ -128,11 +140,3 @@ front_at b bs =
 unfoldable pub front : List ℕ → Front
 front [] = Stop
 front (b ∷ bs) = front_at b bs
-
--- ---- texts, piece by piece
-
--- what comes next in a text: nothing, its closing quote, or a byte of so many bytes
-abbrev pub piece_of : List ℕ → Piece
-piece_of [] = Over
-piece_of (b ∷ []) = if b == 39 then End else Byte b 1
-piece_of (b ∷ c ∷ bs) = if b == 39 then (if c == 39 then Byte 39 2 else End) else Byte b 1

@@ -1,8 +1,7 @@
 -- The tokens of a line, and its first bad byte.
-use Rattle.std.specs.Prelude.{◌≡◌, ℕ, zero, suc, ◌+◌, List, [], ◌∷◌, drop, Result, Ok, Err}
+use Rattle.std.specs.Prelude.{◌≡◌, ℕ, ◌+◌, List, [], ◌∷◌, drop, Result, Ok, Err}
 use Rattle.std.specs.Global.{Vec}
 use Rattle.im_syntax.specs.declared.token.Token.{Token}
-use Rattle.im_lex.specs.declared.front.Front.{Front}
 use Rattle.im_lex.specs.declared.front.Front.TheVariants.{Stop, Blank, Bad, Lexed}
 use Rattle.im_lex.specs.declared.lexing.LexFault.{LexFault}
 use Rattle.im_lex.specs.declared.lexing.LexFault.TheVariants as fault
@@ -22,33 +21,7 @@ pub data IsBadAt : ℕ → List ℕ → ℕ → Type 0 where
   behind_token : (at b : ℕ) (bs : List ℕ) (t : Token) (more n : ℕ) → front (b ∷ bs) ≡ Lexed t more
       → IsBadAt (at + 1 + more) (drop more bs) n → IsBadAt at (b ∷ bs) n
 
--- ---- the same, computed from left to right in so many rounds
-
-abbrev pub with_token : Token → ℕ → Result (List (Token × ℕ)) ℕ → Result (List (Token × ℕ)) ℕ
-with_token t at (Ok ts) = Ok ((t, at) ∷ ts)
-with_token t at (Err n) = Err n
-
--- one round: what stands at the front, and then the rest
-abbrev pub round_of : (ℕ → List ℕ → Result (List (Token × ℕ)) ℕ) → ℕ → Front → List ℕ → Result (List (Token × ℕ)) ℕ
-round_of rest at Stop bs = Ok []
-round_of rest at Bad bs = Err at
-round_of rest at Blank bs = rest (at + 1) (drop 1 bs)
-round_of rest at (Lexed t more) bs = with_token t at (rest (at + 1 + more) (drop (suc more) bs))
-
-unfoldable pub lexed_in : ℕ → ℕ → List ℕ → Result (List (Token × ℕ)) ℕ
-lexed_in zero at bs = Ok []
-lexed_in (suc k) at bs = round_of (lexed_in k) at (front bs) bs
-
 -- ---- what the code promises
-
-abbrev pub Halts : LexFault → Result (List (Token × ℕ)) ℕ → Type 0
-Halts fault.NoMemory read = Unit {0}
-Halts (fault.At n) read = read ≡ Err n
-
--- the code gives what reading gives, unless memory ran out
-abbrev pub Gives : Result (Vec (Token × ℕ)) LexFault → Result (List (Token × ℕ)) ℕ → Type 0
-Gives (Ok found) read = read ≡ Ok found.items
-Gives (Err f) read = Halts f read
 
 -- the answer has these tokens, unless memory ran out
 abbrev pub IsLexedAs : List (Token × ℕ) → Result (Vec (Token × ℕ)) LexFault → Type 0

@@ -1,2 +1,3 @@
 pub mod Bytes
 pub mod Lexing
+pub mod inner

@@ -38,7 +38,7 @@ pub fn first(bytes: &[u8]) -> u8
     }
 }
 
-/// The longest front of bytes that go on in a word.
+/// The longest prefix of bytes that go on in a word.
 pub fn word_run(bytes: &[u8]) -> &[u8]
     ensures { result.now ≡ bytes_of.run bytes_of.is_word_part bytes.now }
 {
@@ -50,7 +50,7 @@ pub fn word_run(bytes: &[u8]) -> &[u8]
     bytes
 }
 
-/// The longest front of digits.
+/// The longest prefix of digits.
 pub fn digit_run(bytes: &[u8]) -> &[u8]
     ensures { result.now ≡ bytes_of.run is_ascii_digit bytes.now }
 {

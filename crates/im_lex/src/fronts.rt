@@ -2,10 +2,12 @@ ghost use Rattle.std.specs.Prelude.{◌≡◌, ◌∷◌, map, IfOk, if◌then�
 ghost use Rattle.std.specs.Char.{to_ascii_uppercase};
 ghost use Rattle.im_syntax.specs.declared.token.Token.TheVariants as token;
 ghost use Rattle.im_lex.specs.Bytes as bytes_of;
+ghost use Rattle.im_lex.specs.inner.Pieces as pieces;
 
 use crate::bytes::{behind, capped_value, digit_run, first, is_blank, only_ends, word_run};
 use crate::front::{Front, Piece};
-use im_syntax::{LONGEST_WORD, Sign, Token};
+use im_syntax::{Keyword, Sign, Token};
+use im_values::limits::MOST_WORD_BYTES;
 use im_values::{Name, NoMemory};
 use std::alloc::Global;
 
@@ -20,15 +22,25 @@ fn capitals(alloc: Global, letters: &[u8]) -> Result<Name, NoMemory>
     Ok(Name::from_vec(capitals))
 }
 
+/// The token of a word in capitals.
+fn word_token(word: Name) -> Token
+    ensures { result ≡ bytes_of.word_token word }
+{
+    match Keyword::of(word.bytes()) {
+        Some(keyword) => Token::Keyword(keyword),
+        None => Token::Word(word),
+    }
+}
+
 /// A word, by its whole run of bytes.
 fn word(alloc: Global, run: &[u8]) -> Result<Front, NoMemory>
     ensures { IfOk result (λ f. f ≡ bytes_of.word_front run.now) }
 {
-    if run.len() > LONGEST_WORD {
+    if run.len() > MOST_WORD_BYTES {
         return Ok(Front::Bad);
     }
-    let name = capitals(alloc, run)?;
-    Ok(Front::Lexed(Token::Word(name), run.len().saturating_sub(1)))
+    let word = capitals(alloc, run)?;
+    Ok(Front::Lexed(word_token(word), run.len().saturating_sub(1)))
 }
 
 /// A number without a sign.
@@ -71,7 +83,7 @@ fn behind_minus(rest: &[u8]) -> Front
 
 /// What comes next in a text. Two quotes are one.
 fn piece(rest: &[u8]) -> Piece
-    ensures { result ≡ bytes_of.piece_of rest.now }
+    ensures { result ≡ pieces.piece_of rest.now }
 {
     match rest {
         [] => Piece::Over,

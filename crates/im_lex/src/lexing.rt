@@ -2,6 +2,7 @@ ghost use Rattle.std.specs.Prelude.{◌≡◌, ◌+◌, ◌≤◌, ℕ, List, le
 ghost use Rattle.im_syntax.specs.declared.token.Token.{Token as AnyToken};
 ghost use Rattle.im_lex.specs.declared.lexing.LexFault.TheVariants as fault;
 ghost use Rattle.im_lex.specs.Lexing as lexing;
+ghost use Rattle.im_lex.specs.inner.Rounds as rounds;
 
 use crate::bytes::behind;
 use crate::front::Front;
@@ -37,7 +38,7 @@ impl<T: Drop> From<AllocFailed<T>> for LexFault {
 
 /// The tokens of a line, from left to right. Each round goes on by one byte or more.
 fn lexed(alloc: Global, line: &[u8]) -> Result<Vec<(Token, u64)>, LexFault>
-    ensures { lexing.Gives result (lexing.lexed_in (length line.now) 0 line.now) }
+    ensures { rounds.Gives result (rounds.lexed_in (length line.now) 0 line.now) }
 {
     let mut tokens = Vec::new(alloc);
     let mut at = 0;
@@ -57,7 +58,7 @@ fn lexed(alloc: Global, line: &[u8]) -> Result<Vec<(Token, u64)>, LexFault>
 
 /// The tokens of a line, each with the number of bytes before it.
 ///
-/// An error is the first bad byte, wherever it stands, or want of memory. A comment's bytes are never bad.
+/// An error is the first bad byte, wherever it stands, or out of memory. A comment's bytes are never bad.
 pub fn tokens(alloc: Global, line: &[u8]) -> Result<Vec<(Token, u64)>, LexFault>
     // What is found are the line's tokens.
     ensures found { IfOk result (λ ts. lexing.Lexes 0 line.now ts.items) }

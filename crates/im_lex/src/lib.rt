@@ -1,6 +1,6 @@
 //! The bytes of a line to its tokens, each with its place, or the first bad byte.
 //!
-//! What stands at the front of the bytes is told by cases, one for each row of the table of tokens
+//! What stands first in the bytes is said by cases, one for each row of the table of tokens
 //! (`specs/Bytes.antt`): a word, a number, a text, a sign, a blank, a bad byte, or the end by a comment or the last `;`.
 //! A token takes the most bytes that it can. The tokens of a line are a relation over that (`Lexes`, in
 //! `specs/Lexing.antt`), and so is the first bad byte (`IsBadAt`). [`tokens`] finds the tokens exactly where the line has

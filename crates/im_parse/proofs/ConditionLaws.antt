@@ -1,10 +1,11 @@
 -- Conditions are read as they are spelled, at each depth.
-use Rattle.std.proofs.Common.{◌≡◌, ◌⊎◌, inl, inr, ℕ, zero, suc, Bool, true, false, cond, List, [], ◌∷◌, ◌++◌, Option, Some, None, refl, ap}
+use Rattle.std.proofs.Common.{◌≡◌, ℕ, zero, suc, Bool, true, false, List, [], ◌∷◌, ◌++◌, Option, Some, None, refl, ap}
 use Rattle.std.specs.List.{AllByRecursion}
 use Rattle.im_readers.specs.Reading.{Read, nothing}
 use Rattle.im_readers.specs.Grammar.{begins_with, Reads, never, GoodJoined, GoodBoth, spell_joined, spell_others, goes_joined, goes_optional, goes_behind}
 use Rattle.im_readers.proofs.Parts.{Makes, both_law, made_law, after_law, before_law, optional_law, GoodFirst, Choice, chosen, none_chosen, FirstKind, first_kind, picked_law}
 use Rattle.im_readers.proofs.Joined.{joined_law, goes_joined-false}
+use Rattle.im_values.specs.declared.limits.TheConstants.{MOST_LEVELS}
 use Rattle.im_syntax.specs.declared.keyword.Keyword.TheVariants as key
 use Rattle.im_syntax.specs.declared.token.Token.{Token}
 use Rattle.im_syntax.specs.declared.token.Token.TheVariants as token
@@ -12,14 +13,12 @@ use Rattle.im_syntax.specs.declared.token.Sign.TheVariants as sign
 use Rattle.im_syntax.specs.declared.literal.Lit.{Lit}
 use Rattle.im_syntax.specs.Condition.{TermOf, negation, nested, comparison, null_test, between, within, ConjOf, no_term, and_term, CondOf, no_conj, or_conj, conj_of, terms_of, cond_of, conjs_of}
 use Rattle.im_syntax.specs.Words.{IsName}
-use Rattle.im_syntax.specs.Rules.{IsTerm, IsConj, AreTerms, IsCond, AreConjs, IsWhere, deepest}
+use Rattle.im_syntax.specs.Rules.{IsTerm, IsConj, AreTerms, IsCond, AreConjs, IsWhere}
 use Rattle.im_syntax.specs.Spelling.{word, spell_term, spell_conj, spell_and, spell_cond, spell_or, spell_where}
-use Rattle.im_parse.specs.Marks.{is_key}
-use Rattle.im_parse.specs.declared.kinds.TermKind.{TermKind}
-use Rattle.im_parse.specs.declared.kinds.TermKind.TheVariants as term_kind
-use Rattle.im_parse.specs.Conditions.{from_to, among, Tail, compared, is_null, ranged, test_of, kind_of_term, test_at, negation_with, nested_with, term_by, term_at, cond_at, conj_with, cond_with}
-use Rattle.im_parse.specs.Queries.{where_at}
-use Rattle.im_parse.proofs.MarkLaws.{Ends-never, key_mark, left_mark, right_mark, after_word_law, name_law, no_key, some_name}
+use Rattle.im_parse.specs.inner.Marks.{is_key, Lead, keyword, name, parenthesis, lead}
+use Rattle.im_parse.specs.inner.Conditions.{from_to, among, Tail, compared, is_null, ranged, test_of, test_at, negation_with, nested_with, term_by, term_at, cond_at, conj_with, cond_with}
+use Rattle.im_parse.specs.inner.Queries.{where_at}
+use Rattle.im_parse.proofs.MarkLaws.{Ends-never, key_mark, left_mark, right_mark, after_word_law, name_law, some_name, unknown}
 use Rattle.im_parse.proofs.TestLaws.{GoodTail, spell_tail, tail_law}
 
 abbrev Written : Type 0
@@ -27,32 +26,29 @@ Written = TermOf (List ℕ) Lit
 
 -- ---- the kind of a term
 
-abbrev first_term : Written → TermKind
-first_term (negation t) = term_kind.Not
-first_term (nested c) = term_kind.Nest
-first_term (comparison c m v) = term_kind.Plain
-first_term (null_test c n) = term_kind.Plain
-first_term (between c n l h) = term_kind.Plain
-first_term (within c n vs) = term_kind.Plain
+abbrev first_term : Written → Lead
+first_term (negation t) = keyword key.Not
+first_term (nested c) = parenthesis
+first_term (comparison c m v) = name
+first_term (null_test c n) = name
+first_term (between c n l h) = name
+first_term (within c n vs) = name
 
-plain_kind : (w : List ℕ) → IsName w → kind_of_term (token.Word w) ≡ term_kind.Plain
-plain_kind w n = ap (λ (b : Bool). cond b term_kind.Not term_kind.Plain) (no_key w n key.Not)
-
-term_firsts : (d : ℕ) (t : Written) → IsTerm d t → FirstKind kind_of_term (first_term t) (spell_term t)
+term_firsts : (d : ℕ) (t : Written) → IsTerm d t → FirstKind lead (first_term t) (spell_term t)
 term_firsts d (negation t) g = first_kind (word key.Not) (spell_term t) refl
 term_firsts d (nested c) g = first_kind (token.Sign sign.LeftParen) _ refl
-term_firsts zero (comparison c m v) g = first_kind (token.Word c) _ (plain_kind c g)
-term_firsts (suc d) (comparison c m v) g = first_kind (token.Word c) _ (plain_kind c g)
-term_firsts zero (null_test c n) g = first_kind (token.Word c) _ (plain_kind c g)
-term_firsts (suc d) (null_test c n) g = first_kind (token.Word c) _ (plain_kind c g)
-term_firsts zero (between c n l h) g = first_kind (token.Word c) _ (plain_kind c g)
-term_firsts (suc d) (between c n l h) g = first_kind (token.Word c) _ (plain_kind c g)
-term_firsts zero (within c n vs) g = first_kind (token.Word c) _ (plain_kind c g.0)
-term_firsts (suc d) (within c n vs) g = first_kind (token.Word c) _ (plain_kind c g.0)
+term_firsts zero (comparison c m v) g = first_kind (token.Word c) _ refl
+term_firsts (suc d) (comparison c m v) g = first_kind (token.Word c) _ refl
+term_firsts zero (null_test c n) g = first_kind (token.Word c) _ refl
+term_firsts (suc d) (null_test c n) g = first_kind (token.Word c) _ refl
+term_firsts zero (between c n l h) g = first_kind (token.Word c) _ refl
+term_firsts (suc d) (between c n l h) g = first_kind (token.Word c) _ refl
+term_firsts zero (within c n vs) g = first_kind (token.Word c) _ refl
+term_firsts (suc d) (within c n vs) g = first_kind (token.Word c) _ refl
 
 -- ---- tests of columns
 
-test_forth : (d : ℕ) (c : List ℕ) (t : Tail) → IsName c → GoodTail t → GoodFirst (IsTerm d) first_term term_kind.Plain (test_of (c, t))
+test_forth : (d : ℕ) (c : List ℕ) (t : Tail) → IsName c → GoodTail t → GoodFirst (IsTerm d) first_term name (test_of (c, t))
 test_forth zero c (compared m v) n g = record { is_good = n; is_first = refl }
 test_forth (suc d) c (compared m v) n g = record { is_good = n; is_first = refl }
 test_forth zero c (is_null b) n g = record { is_good = n; is_first = refl }
@@ -62,7 +58,7 @@ test_forth (suc d) c (ranged b (from_to l h)) n g = record { is_good = n; is_fir
 test_forth zero c (ranged b (among vs)) n g = record { is_good = (n, g); is_first = refl }
 test_forth (suc d) c (ranged b (among vs)) n g = record { is_good = (n, g); is_first = refl }
 
-test_back : (d : ℕ) (t : Written) → IsTerm d t → first_term t ≡ term_kind.Plain → Makes test_of (GoodBoth IsName GoodTail) t
+test_back : (d : ℕ) (t : Written) → IsTerm d t → first_term t ≡ name → Makes test_of (GoodBoth IsName GoodTail) t
 test_back d (negation t) g e = absurd cc
 test_back d (nested c) g e = absurd cc
 test_back zero (comparison c m v) g e = record { of = (c, compared m v); is = refl; is_good = (g, tt) }
@@ -87,10 +83,10 @@ test_goes c (ranged true r) u = refl
 test_goes c (ranged false (from_to l h)) u = refl
 test_goes c (ranged false (among vs)) u = refl
 
-test_law : (d : ℕ) → Reads spell_term (GoodFirst (IsTerm d) first_term term_kind.Plain) never test_at
+test_law : (d : ℕ) → Reads spell_term (GoodFirst (IsTerm d) first_term name) never test_at
 unfolding test_at
 test_law d =
-    made_law spell_term (GoodFirst (IsTerm d) first_term term_kind.Plain) never test_of
+    made_law spell_term (GoodFirst (IsTerm d) first_term name) never test_of
     (both_law name_law tail_law (λ a b _ _. Ends-never a (spell_tail b)))
     (λ x g. test_forth d x.0 x.1 g.0 g.1)
     (λ t g. test_back d t g.is_good g.is_first)
@@ -196,28 +192,44 @@ cond_with_law d p lp =
 
 pub goes_cond-false : (d : ℕ) (t : Token) → is_key key.Or t ≡ false → is_key key.And t ≡ false → (c : CondOf (List ℕ) Lit) → IsCond d c → goes_cond c t ≡ false
 goes_cond-false d t no_or no_and c g =
-    goes_joined-false (word key.Or) (is_key key.Or) spell_conj (IsConj d) goes_conj t no_or (λ a h. goes_conj-false d t no_and a h) (conjs_of c) (cond_good d c g)
+    goes_joined-false (word key.Or) (is_key key.Or) spell_conj (IsConj d) goes_conj t no_or (λ a h. goes_conj-false d t no_and a h) (conjs_of c)
+    (cond_good d c g)
 
 -- ---- terms
 
-no_term_zero : (k : TermKind) → k ≡ term_kind.Not ⊎ k ≡ term_kind.Nest → (t : Written) → IsTerm 0 t → first_term t ≡ k → ⊥
-no_term_zero k e (negation t) g f = g
-no_term_zero k e (nested c) g f = g
-no_term_zero k (inl e) (comparison c m v) g f = cc
-no_term_zero k (inr e) (comparison c m v) g f = cc
-no_term_zero k (inl e) (null_test c n) g f = cc
-no_term_zero k (inr e) (null_test c n) g f = cc
-no_term_zero k (inl e) (between c n l h) g f = cc
-no_term_zero k (inr e) (between c n l h) g f = cc
-no_term_zero k (inl e) (within c n vs) g f = cc
-no_term_zero k (inr e) (within c n vs) g f = cc
+abbrev is_plain : Lead → Bool
+is_plain name = true
+is_plain l = false
 
-flat_choices : (k : TermKind) → Choice spell_term (IsTerm 0) never first_term k (term_by nothing nothing k)
-flat_choices term_kind.Not = none_chosen (λ ts. refl) (no_term_zero term_kind.Not (inl refl))
-flat_choices term_kind.Nest = none_chosen (λ ts. refl) (no_term_zero term_kind.Nest (inr refl))
-flat_choices term_kind.Plain = chosen (test_law 0)
+all_plain : (t : Written) → IsTerm 0 t → is_plain (first_term t) ≡ true
+all_plain (negation t) g = absurd g
+all_plain (nested c) g = absurd g
+all_plain (comparison c m v) g = refl
+all_plain (null_test c n) g = refl
+all_plain (between c n l h) g = refl
+all_plain (within c n vs) g = refl
 
-negation_back : (d : ℕ) (t : Written) → IsTerm (suc d) t → first_term t ≡ term_kind.Not → Makes negation (IsTerm d) t
+flat_choices : (l : Lead) → Choice spell_term (IsTerm 0) never first_term l (term_by nothing nothing l)
+flat_choices name = chosen (test_law 0)
+flat_choices (keyword key.Not) = none_chosen (λ ts. refl) (unknown is_plain (IsTerm 0) first_term all_plain (keyword key.Not) refl)
+flat_choices parenthesis = none_chosen (λ ts. refl) (unknown is_plain (IsTerm 0) first_term all_plain parenthesis refl)
+flat_choices l = none_chosen (λ ts. refl) (unknown is_plain (IsTerm 0) first_term all_plain l refl)
+
+abbrev is_term : Lead → Bool
+is_term (keyword key.Not) = true
+is_term parenthesis = true
+is_term name = true
+is_term l = false
+
+all_terms : (d : ℕ) (t : Written) → IsTerm d t → is_term (first_term t) ≡ true
+all_terms d (negation t) g = refl
+all_terms d (nested c) g = refl
+all_terms d (comparison c m v) g = refl
+all_terms d (null_test c n) g = refl
+all_terms d (between c n l h) g = refl
+all_terms d (within c n vs) g = refl
+
+negation_back : (d : ℕ) (t : Written) → IsTerm (suc d) t → first_term t ≡ (keyword key.Not) → Makes negation (IsTerm d) t
 negation_back d (negation t) g e = record { of = t; is = refl; is_good = g }
 negation_back d (nested c) g e = absurd cc
 negation_back d (comparison c m v) g e = absurd cc
@@ -225,7 +237,7 @@ negation_back d (null_test c n) g e = absurd cc
 negation_back d (between c n l h) g e = absurd cc
 negation_back d (within c n vs) g e = absurd cc
 
-nested_back : (d : ℕ) (t : Written) → IsTerm (suc d) t → first_term t ≡ term_kind.Nest → Makes nested (IsCond d) t
+nested_back : (d : ℕ) (t : Written) → IsTerm (suc d) t → first_term t ≡ parenthesis → Makes nested (IsCond d) t
 nested_back d (negation t) g e = absurd cc
 nested_back d (nested c) g e = record { of = c; is = refl; is_good = g }
 nested_back d (comparison c m v) g e = absurd cc
@@ -234,15 +246,16 @@ nested_back d (between c n l h) g e = absurd cc
 nested_back d (within c n vs) g e = absurd cc
 
 deep_choices : (d : ℕ) (p : List Token → Read Token Written) → Reads spell_term (IsTerm d) never p
-    → (k : TermKind) → Choice spell_term (IsTerm (suc d)) never first_term k (term_by (negation_with p) (nested_with p) k)
-deep_choices d p lp term_kind.Not =
-    chosen (made_law spell_term (GoodFirst (IsTerm (suc d)) first_term term_kind.Not) never negation (after_word_law key.Not lp)
+    → (l : Lead) → Choice spell_term (IsTerm (suc d)) never first_term l (term_by (negation_with p) (nested_with p) l)
+deep_choices d p lp (keyword key.Not) =
+    chosen (made_law spell_term (GoodFirst (IsTerm (suc d)) first_term (keyword key.Not)) never negation (after_word_law key.Not lp)
     (λ t g. record { is_good = g; is_first = refl }) (λ t g. negation_back d t g.is_good g.is_first) (λ t. refl) (λ t u. refl))
-deep_choices d p lp term_kind.Nest =
-    chosen (made_law spell_term (GoodFirst (IsTerm (suc d)) first_term term_kind.Nest) never nested
+deep_choices d p lp parenthesis =
+    chosen (made_law spell_term (GoodFirst (IsTerm (suc d)) first_term parenthesis) never nested
     (after_law left_mark (before_law right_mark (cond_with_law d p lp) (λ c g. goes_cond-false d (token.Sign sign.RightParen) refl refl c g)))
     (λ c g. record { is_good = g; is_first = refl }) (λ t g. nested_back d t g.is_good g.is_first) (λ c. refl) (λ c u. refl))
-deep_choices d p lp term_kind.Plain = chosen (test_law (suc d))
+deep_choices d p lp name = chosen (test_law (suc d))
+deep_choices d p lp l = none_chosen (λ ts. refl) (unknown is_term (IsTerm (suc d)) first_term (all_terms (suc d)) l refl)
 
 some_term : (d : ℕ) → IsTerm d (null_test (65 ∷ []) false)
 some_term zero = some_name
@@ -250,9 +263,11 @@ some_term (suc d) = some_name
 
 pub term_law : (d : ℕ) → Reads spell_term (IsTerm d) never (term_at d)
 unfolding term_at
-term_law zero = picked_law spell_term (IsTerm 0) never kind_of_term (term_by nothing nothing) first_term (null_test (65 ∷ []) false) (some_term 0) (term_firsts 0) flat_choices
+term_law zero = picked_law spell_term (IsTerm 0) never lead (term_by nothing nothing) first_term (null_test (65 ∷ []) false) (some_term 0)
+    (term_firsts 0) flat_choices
 term_law (suc d) =
-    picked_law spell_term (IsTerm (suc d)) never kind_of_term (term_by (negation_with (term_at d)) (nested_with (term_at d))) first_term (null_test (65 ∷ []) false) (some_term (suc d))
+    picked_law spell_term (IsTerm (suc d)) never lead (term_by (negation_with (term_at d)) (nested_with (term_at d))) first_term (null_test (65 ∷ []) false)
+    (some_term (suc d))
     (term_firsts (suc d)) (deep_choices d (term_at d) (term_law d))
 
 pub cond_law : (d : ℕ) → Reads spell_cond (IsCond d) goes_cond (cond_at d)
@@ -267,9 +282,9 @@ goes_where = goes_optional (is_key key.Where) goes_cond
 
 pub where_law : Reads spell_where IsWhere goes_where where_at
 unfolding where_at
-where_law = optional_law (is_key key.Where) (after_word_law key.Where (cond_law deepest)) (λ c g. begins_with (word key.Where) (spell_cond c) refl)
+where_law = optional_law (is_key key.Where) (after_word_law key.Where (cond_law MOST_LEVELS)) (λ c g. begins_with (word key.Where) (spell_cond c) refl)
 
 pub goes_where-false : (t : Token) → is_key key.Where t ≡ false → is_key key.Or t ≡ false → is_key key.And t ≡ false
     → (c : Option (CondOf (List ℕ) Lit)) → IsWhere c → goes_where c t ≡ false
 goes_where-false t no_where no_or no_and None g = no_where
-goes_where-false t no_where no_or no_and (Some c) g = goes_cond-false deepest t no_or no_and c g
+goes_where-false t no_where no_or no_and (Some c) g = goes_cond-false MOST_LEVELS t no_or no_and c g

@@ -1,4 +1,3 @@
-pub mod Keywords
 pub mod Nesting
 pub mod MarkLaws
 pub mod TestLaws

@@ -2,7 +2,7 @@
 use Rattle.std.proofs.Common.{◌≡◌, ℕ, ◌≤◌, Bool, true, false, cond, List, [], ◌∷◌, ◌++◌, pos, negsuc, Option, Some, None, refl, sym, ap, subst, ◌∙◌, arith}
 use Rattle.std.specs.Prelude.{◌&&◌, nat_le}
 use Rattle.std.proofs.lemmas.Bool.Decides.{nat_tests}
-use Rattle.std.specs.Str.{bytes_eq}
+use denote.Enum.Bare.{sameb, same_true, true_same}
 use Rattle.im_readers.specs.Reading.{Read}
 use Rattle.im_readers.specs.Grammar.{Ends, at_end, at_other, Reads, never, Any}
 use Rattle.im_readers.proofs.Parts.{IsMark, IsTable, one_law, mark_law, after_law, before_law}
@@ -10,6 +10,7 @@ use Rattle.im_values.specs.declared.comparison.Cmp.{Cmp}
 use Rattle.im_values.specs.declared.comparison.Cmp.TheVariants as cmp
 use Rattle.im_syntax.specs.declared.keyword.Keyword.{Keyword}
 use Rattle.im_syntax.specs.declared.keyword.Keyword.TheVariants as key
+use Rattle.im_syntax.specs.contracts.keyword.Keyword.{the_type}
 use Rattle.im_syntax.specs.declared.token.Token.{Token}
 use Rattle.im_syntax.specs.declared.token.Token.TheVariants as token
 use Rattle.im_syntax.specs.declared.token.Sign.TheVariants as sign
@@ -17,12 +18,11 @@ use Rattle.im_syntax.specs.declared.literal.Lit.{Lit}
 use Rattle.im_syntax.specs.declared.literal.Lit.TheVariants as lit
 use Rattle.im_values.specs.declared.priority.Priority.{Priority}
 use Rattle.im_values.specs.declared.priority.Priority.TheVariants as level
-use Rattle.im_syntax.specs.Keywords.{text_of}
-use Rattle.im_syntax.specs.Words.{IsName}
+use Rattle.im_syntax.specs.Keywords.{keyword_of}
+use Rattle.im_syntax.specs.Words.{is_name, IsName}
 use Rattle.im_syntax.specs.Rules.{IsWithin}
 use Rattle.im_syntax.specs.Spelling.{word, comma, number, lit_token, cmp_sign, level_word}
-use Rattle.im_parse.specs.Marks.{keyword_among, keyword_of, is_key, is_left, is_right, is_comma, is_star, is_equals, cmp_of, is_name, name_of, number_of, lit_of, level_of, word_at, after_word, before_word, name_at, number_at, lit_at, cmp_at, level_at}
-use Rattle.im_parse.proofs.Keywords.{bytes_eq-true, bytes_eq-refl, is_name-true, is_name-whole}
+use Rattle.im_parse.specs.inner.Marks.{is_key, Lead, is_left, is_right, is_comma, is_star, is_equals, cmp_of, name_of, number_of, lit_of, level_of, word_at, after_word, before_word, name_at, number_at, lit_at, cmp_at, level_at}
 
 pub Ends-never : {A : Type 0} (a : A) (ts : List Token) → Ends (never a) ts
 Ends-never a [] = at_end
@@ -31,13 +31,14 @@ Ends-never a (t ∷ ts) = at_other t ts refl
 -- ---- keywords and signs
 
 key_only : (k : Keyword) (t : Token) → is_key k t ≡ true → t ≡ word k
-key_only k (token.Word w) e = ap token.Word (bytes_eq-true w (text_of k) e)
+key_only k (token.Keyword j) e = ap token.Keyword (same_true the_type tt j k e)
+key_only k (token.Word w) e = absurd cc
 key_only k (token.Int n) e = absurd cc
 key_only k (token.Text x) e = absurd cc
 key_only k (token.Sign s) e = absurd cc
 
 pub key_mark : (k : Keyword) → IsMark (word k) (is_key k)
-key_mark k = record { only = key_only k; itself = bytes_eq-refl (text_of k) }
+key_mark k = record { only = key_only k; itself = true_same the_type k k refl }
 
 left_only : (t : Token) → is_left t ≡ true → t ≡ token.Sign sign.LeftParen
 left_only (token.Sign sign.LeftParen) e = refl
@@ -88,6 +89,13 @@ pub before_word_law : {A : Type 0} {s : A → List Token} {g : A → Type 0} {e 
 unfolding word_at
 before_word_law k lp apart = before_law (key_mark k) lp apart
 
+-- ---- the choice by the next token
+
+-- where a test passes for the first token of each good value, none begins otherwise
+pub unknown : {A : Type 0} (known : Lead → Bool) (good : A → Type 0) (first : A → Lead)
+    → ((a : A) → good a → known (first a) ≡ true) → (l : Lead) → known l ≡ false → (a : A) → good a → first a ≡ l → ⊥
+unknown known good first firsts l fails a g e = let twice : true ≡ false = sym (firsts a g) ∙ ap known e ∙ fails in cc
+
 -- ---- tests of tables
 
 -- what a test that was passed tells
@@ -97,22 +105,16 @@ chosen false x a e = absurd cc
 
 -- ---- names
 
-pub no_key : (w : List ℕ) → IsName w → (k : Keyword) → is_key k (token.Word w) ≡ false
-no_key w n k = go (bytes_eq w (text_of k)) refl
-  where
-    go : (b : Bool) → bytes_eq w (text_of k) ≡ b → b ≡ false
-    go true e = absurd (n.free k (bytes_eq-true w (text_of k) e))
-    go false e = refl
-
 -- the letter A is a name
 pub some_name : IsName (65 ∷ [])
-unfolding keyword_of keyword_among
-some_name = is_name-true (65 ∷ []) refl
+unfolding keyword_of
+some_name = record { holds = refl }
 
 name_sound : (t : Token) (a : List ℕ) → name_of t ≡ Some a → (t ≡ token.Word a) × IsName a
 name_sound (token.Word w) a e =
     let c = chosen (is_name w) w a e in
-    (ap token.Word c.1, subst IsName c.1 (is_name-true w c.0))
+    (ap token.Word c.1, subst IsName c.1 (record { holds = c.0 }))
+name_sound (token.Keyword k) a e = absurd cc
 name_sound (token.Int n) a e = absurd cc
 name_sound (token.Text x) a e = absurd cc
 name_sound (token.Sign s) a e = absurd cc
@@ -122,7 +124,7 @@ name_table = record {
   some = 65 ∷ [];
   some_good = some_name;
   sound = name_sound;
-  whole = λ a n. ap (λ (b : Bool). cond b (Some a) None) (is_name-whole a n);
+  whole = λ a n. ap (λ (b : Bool). cond b (Some a) None) n.holds;
 }
 
 pub name_law : Reads (λ n. token.Word n ∷ []) IsName never name_at
@@ -141,6 +143,7 @@ within_sound low high n a e =
 number_sound : (low high : ℕ) (t : Token) (a : ℕ) → number_of low high t ≡ Some a → (t ≡ number a) × IsWithin low high a
 number_sound low high (token.Int (pos n)) a e = let w = within_sound low high n a e in (ap number w.0, w.1)
 number_sound low high (token.Int (negsuc n)) a e = absurd cc
+number_sound low high (token.Keyword k) a e = absurd cc
 number_sound low high (token.Word w) a e = absurd cc
 number_sound low high (token.Text x) a e = absurd cc
 number_sound low high (token.Sign s) a e = absurd cc
@@ -166,9 +169,10 @@ number_law low high le = one_law (number_table low high le)
 -- ---- literals
 
 lit_sound : (t : Token) (a : Lit) → lit_of t ≡ Some a → (t ≡ lit_token a) × Unit {0}
-lit_sound (token.Word w) a e =
-    let c = chosen (bytes_eq w (text_of key.Null)) lit.Null a e in
-    (ap token.Word (bytes_eq-true w (text_of key.Null) c.0) ∙ ap lit_token c.1, tt)
+lit_sound (token.Keyword k) a e =
+    let c = chosen (sameb the_type k key.Null) lit.Null a e in
+    (ap token.Keyword (same_true the_type tt k key.Null c.0) ∙ ap lit_token c.1, tt)
+lit_sound (token.Word w) a e = absurd cc
 lit_sound (token.Int n) a e = let same : lit.Int n ≡ a = cc in (ap lit_token same, tt)
 lit_sound (token.Text x) a e = let same : lit.Text x ≡ a = cc in (ap lit_token same, tt)
 lit_sound (token.Sign s) a e = absurd cc

@@ -1,7 +1,7 @@
 -- What may stand inside a term.
 use Rattle.std.proofs.Common.{◌≡◌, ℕ, suc, ◌-◌, ◌<◌, List, refl, ap, ◌∙◌, arith}
 use Rattle.im_syntax.specs.declared.token.Token.{Token}
-use Rattle.im_parse.specs.Conditions.{term_at, cond_at, flat_term_at, deep_term_at, negation_at, nested_at}
+use Rattle.im_parse.specs.inner.Conditions.{term_at, cond_at, flat_term_at, deep_term_at, negation_at, nested_at}
 
 pub term_at-zero : (ts : List Token) → term_at 0 ts ≡ flat_term_at ts
 unfolding term_at flat_term_at

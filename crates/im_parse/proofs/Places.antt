@@ -6,7 +6,7 @@ use Rattle.im_syntax.specs.declared.token.Token.{Token}
 use Rattle.im_syntax.specs.declared.statement.Stmt.{Stmt}
 use Rattle.im_syntax.specs.Spelling.{spelling}
 use Rattle.im_syntax.specs.Rules.{IsStmt}
-use Rattle.im_parse.specs.Statements.{statement_at, whole_at}
+use Rattle.im_parse.specs.inner.Statements.{statement_at, whole_at}
 use Rattle.im_parse.specs.Parsing.{IsPlaceAmong}
 use Rattle.im_parse.proofs.StatementLaws.{statement_law}
 

@@ -3,7 +3,7 @@ use Rattle.std.proofs.Common.{◌≡◌, ℕ, Bool, true, false, cond, List, [],
 use Rattle.std.specs.List.{AllByRecursion}
 use Rattle.im_readers.specs.Reading.{Read, made, joined, optional}
 use Rattle.im_readers.specs.Grammar.{Ends, at_end, at_other, BeginsWith, begins_with, Reads, never, Any, GoodJoined, GoodBoth, GoodOptional, spell_both, goes_both, goes_joined, spell_optional, goes_optional, goes_behind}
-use Rattle.im_readers.proofs.Parts.{IsTable, Makes, one_law, both_law, made_law, made_good_law, agreed_law, after_law, before_law, mark_law, optional_law, GoodFirst, Choice, chosen, FirstKind, first_kind, picked_law}
+use Rattle.im_readers.proofs.Parts.{IsTable, Makes, one_law, both_law, made_law, made_good_law, agreed_law, after_law, before_law, mark_law, optional_law, GoodFirst, Choice, chosen, none_chosen, FirstKind, first_kind, picked_law}
 use Rattle.im_readers.proofs.Joined.{joined_law, goes_joined-false}
 use Rattle.im_syntax.specs.declared.keyword.Keyword.{Keyword}
 use Rattle.im_syntax.specs.declared.keyword.Keyword.TheVariants as key
@@ -23,13 +23,9 @@ use Rattle.im_syntax.specs.Condition.{CondOf}
 use Rattle.im_syntax.specs.Words.{IsName}
 use Rattle.im_syntax.specs.Rules.{IsItem, IsKey, IsList, IsQuery, IsWhere}
 use Rattle.im_syntax.specs.Spelling.{word, comma, in_parens, spell_names, spell_item, spell_way, spell_key, spell_list, spell_where, spell_groups, spell_keys, spell_query}
-use Rattle.im_parse.specs.Marks.{is_key, is_comma, name_at}
-use Rattle.im_parse.specs.declared.kinds.ItemKind.{ItemKind}
-use Rattle.im_parse.specs.declared.kinds.ItemKind.TheVariants as item_kind
-use Rattle.im_parse.specs.declared.kinds.StarKind.{StarKind}
-use Rattle.im_parse.specs.declared.kinds.StarKind.TheVariants as star_kind
-use Rattle.im_parse.specs.Queries.{listed, kind_of_item, kind_of_star, aggregate_at, counted_by, counted_at, count_at, item_by, item_at, direction_of, is_direction, way_of, way_at, key_of, key_at, list_by, list_at, groups_at, keys_at, query_of, query_at}
-use Rattle.im_parse.proofs.MarkLaws.{Ends-never, left_mark, right_mark, comma_mark, star_mark, after_word_law, before_word_law, name_law, no_key, chosen_word}
+use Rattle.im_parse.specs.inner.Marks.{is_key, is_comma, is_star, Lead, keyword, name, lead, name_at}
+use Rattle.im_parse.specs.inner.Queries.{listed, aggregate_at, counted_by, counted_at, count_at, item_by, item_at, direction_of, is_direction, way_of, way_at, key_of, key_at, list_by, list_at, groups_at, keys_at, query_of, query_at}
+use Rattle.im_parse.proofs.MarkLaws.{Ends-never, left_mark, right_mark, comma_mark, star_mark, after_word_law, before_word_law, name_law, chosen_word, unknown}
 use Rattle.im_parse.proofs.ConditionLaws.{goes_where, where_law, goes_where-false}
 
 -- ---- a list that may be left out
@@ -61,27 +57,21 @@ module _ {A : Type 0} (begins : Token → Bool) {s : List A → List Token} {g :
   listed_goes (Some (a ∷ xs)) h t = refl
 
   pub listed_law : Reads spell_all (AllByRecursion g) (goes_listed begins e) (made listed (optional begins p))
-  listed_law = made_good_law spell_all (AllByRecursion g) (goes_listed begins e) listed (optional_law begins lp starts) listed_forth listed_back listed_spells listed_goes
+  listed_law = made_good_law spell_all (AllByRecursion g) (goes_listed begins e) listed
+      (optional_law begins lp starts) listed_forth listed_back listed_spells listed_goes
 
 -- ---- items
 
-abbrev first_item : ItemPart → ItemKind
-first_item (item.Column n) = item_kind.Column
-first_item item.CountAll = item_kind.Count
-first_item (item.Count n) = item_kind.Count
-first_item (item.Sum n) = item_kind.Sum
-first_item (item.Min n) = item_kind.Min
-first_item (item.Max n) = item_kind.Max
+abbrev first_item : ItemPart → Lead
+first_item (item.Column n) = name
+first_item item.CountAll = keyword key.Count
+first_item (item.Count n) = keyword key.Count
+first_item (item.Sum n) = keyword key.Sum
+first_item (item.Min n) = keyword key.Min
+first_item (item.Max n) = keyword key.Max
 
-four_false : {A : Type 0} (v w x y z : A) (a b c d : Bool) → a ≡ false → b ≡ false → c ≡ false → d ≡ false → cond a v (cond b w (cond c x (cond d y z))) ≡ z
-four_false v w x y z false false false false p q r s = refl
-four_false v w x y z true b c d p q r s = absurd cc
-four_false v w x y z false true c d p q r s = absurd cc
-four_false v w x y z false false true d p q r s = absurd cc
-four_false v w x y z false false false true p q r s = absurd cc
-
-item_firsts : (i : ItemPart) → IsItem i → FirstKind kind_of_item (first_item i) (spell_item i)
-item_firsts (item.Column n) g = first_kind (token.Word n) [] (four_false _ _ _ _ _ _ _ _ _ (no_key n g key.Count) (no_key n g key.Sum) (no_key n g key.Min) (no_key n g key.Max))
+item_firsts : (i : ItemPart) → IsItem i → FirstKind lead (first_item i) (spell_item i)
+item_firsts (item.Column n) g = first_kind (token.Word n) [] refl
 item_firsts item.CountAll g = first_kind (word key.Count) _ refl
 item_firsts (item.Count n) g = first_kind (word key.Count) _ refl
 item_firsts (item.Sum n) g = first_kind (word key.Sum) _ refl
@@ -103,11 +93,11 @@ IsCounted item.CountAll = Unit {0}
 IsCounted (item.Count n) = IsName n
 IsCounted i = ⊥
 
-abbrev first_counted : ItemPart → StarKind
-first_counted item.CountAll = star_kind.Star
-first_counted i = star_kind.Other
+abbrev first_counted : ItemPart → Bool
+first_counted item.CountAll = true
+first_counted i = false
 
-counted_firsts : (i : ItemPart) → IsCounted i → FirstKind kind_of_star (first_counted i) (spell_counted i)
+counted_firsts : (i : ItemPart) → IsCounted i → FirstKind is_star (first_counted i) (spell_counted i)
 counted_firsts item.CountAll g = first_kind (token.Sign sign.Star) [] refl
 counted_firsts (item.Count n) g = first_kind (token.Word n) [] refl
 counted_firsts (item.Column n) g = absurd g
@@ -115,28 +105,28 @@ counted_firsts (item.Sum n) g = absurd g
 counted_firsts (item.Min n) g = absurd g
 counted_firsts (item.Max n) g = absurd g
 
-count_all_back : (i : ItemPart) → IsCounted i → first_counted i ≡ star_kind.Star → Makes (λ (u : Unit {0}). item.CountAll) Any i
+count_all_back : (i : ItemPart) → IsCounted i → first_counted i ≡ true → Makes (λ (u : Unit {0}). item.CountAll) Any i
 count_all_back item.CountAll g e = record { of = tt; is = refl; is_good = tt }
 count_all_back i g e = absurd cc
 
-count_back : (i : ItemPart) → IsCounted i → first_counted i ≡ star_kind.Other → Makes item.Count IsName i
+count_back : (i : ItemPart) → IsCounted i → first_counted i ≡ false → Makes item.Count IsName i
 count_back (item.Count n) g e = record { of = n; is = refl; is_good = g }
 count_back item.CountAll g e = absurd cc
 count_back i g e = absurd g
 
-counted_choices : (k : StarKind) → Choice spell_counted IsCounted never first_counted k (counted_by k)
-counted_choices star_kind.Star =
-    chosen (made_law spell_counted (GoodFirst IsCounted first_counted star_kind.Star) never (λ u. item.CountAll) (mark_law star_mark)
+counted_choices : (k : Bool) → Choice spell_counted IsCounted never first_counted k (counted_by k)
+counted_choices true =
+    chosen (made_law spell_counted (GoodFirst IsCounted first_counted true) never (λ u. item.CountAll) (mark_law star_mark)
     (λ u g. record { is_good = tt; is_first = refl }) (λ i g. count_all_back i g.is_good g.is_first) (λ u. refl) (λ u t. refl))
-counted_choices star_kind.Other =
-    chosen (made_law spell_counted (GoodFirst IsCounted first_counted star_kind.Other) never item.Count name_law
+counted_choices false =
+    chosen (made_law spell_counted (GoodFirst IsCounted first_counted false) never item.Count name_law
     (λ n g. record { is_good = g; is_first = refl }) (λ i g. count_back i g.is_good g.is_first) (λ n. refl) (λ n t. refl))
 
 counted_law : Reads spell_counted IsCounted never counted_at
 unfolding counted_at
-counted_law = picked_law spell_counted IsCounted never kind_of_star counted_by first_counted item.CountAll tt counted_firsts counted_choices
+counted_law = picked_law spell_counted IsCounted never is_star counted_by first_counted item.CountAll tt counted_firsts counted_choices
 
-counted_item : (i : ItemPart) → IsCounted i → GoodFirst IsItem first_item item_kind.Count i
+counted_item : (i : ItemPart) → IsCounted i → GoodFirst IsItem first_item (keyword key.Count) i
 counted_item item.CountAll g = record { is_good = tt; is_first = refl }
 counted_item (item.Count n) g = record { is_good = g; is_first = refl }
 counted_item (item.Column n) g = absurd g
@@ -144,7 +134,7 @@ counted_item (item.Sum n) g = absurd g
 counted_item (item.Min n) g = absurd g
 counted_item (item.Max n) g = absurd g
 
-item_counted : (i : ItemPart) → IsItem i → first_item i ≡ item_kind.Count → IsCounted i
+item_counted : (i : ItemPart) → IsItem i → first_item i ≡ (keyword key.Count) → IsCounted i
 item_counted item.CountAll g e = tt
 item_counted (item.Count n) g e = g
 item_counted (item.Column n) g e = absurd cc
@@ -160,47 +150,64 @@ counted_spells (item.Sum n) g = absurd g
 counted_spells (item.Min n) g = absurd g
 counted_spells (item.Max n) g = absurd g
 
-count_law : Reads spell_item (GoodFirst IsItem first_item item_kind.Count) never count_at
+count_law : Reads spell_item (GoodFirst IsItem first_item (keyword key.Count)) never count_at
 unfolding count_at
 count_law =
-    agreed_law spell_item (GoodFirst IsItem first_item item_kind.Count) never
+    agreed_law spell_item (GoodFirst IsItem first_item (keyword key.Count)) never
     (after_word_law key.Count (after_law left_mark (before_law right_mark counted_law (λ a g. refl))))
     counted_item (λ i g. item_counted i g.is_good g.is_first) counted_spells (λ i g t. refl)
 
-column_back : (i : ItemPart) → IsItem i → first_item i ≡ item_kind.Column → Makes item.Column IsName i
+column_back : (i : ItemPart) → IsItem i → first_item i ≡ name → Makes item.Column IsName i
 column_back (item.Column n) g e = record { of = n; is = refl; is_good = g }
 column_back i g e = absurd cc
 
-sum_back : (i : ItemPart) → IsItem i → first_item i ≡ item_kind.Sum → Makes item.Sum IsName i
+sum_back : (i : ItemPart) → IsItem i → first_item i ≡ (keyword key.Sum) → Makes item.Sum IsName i
 sum_back (item.Sum n) g e = record { of = n; is = refl; is_good = g }
 sum_back i g e = absurd cc
 
-min_back : (i : ItemPart) → IsItem i → first_item i ≡ item_kind.Min → Makes item.Min IsName i
+min_back : (i : ItemPart) → IsItem i → first_item i ≡ (keyword key.Min) → Makes item.Min IsName i
 min_back (item.Min n) g e = record { of = n; is = refl; is_good = g }
 min_back i g e = absurd cc
 
-max_back : (i : ItemPart) → IsItem i → first_item i ≡ item_kind.Max → Makes item.Max IsName i
+max_back : (i : ItemPart) → IsItem i → first_item i ≡ (keyword key.Max) → Makes item.Max IsName i
 max_back (item.Max n) g e = record { of = n; is = refl; is_good = g }
 max_back i g e = absurd cc
 
-item_choices : (k : ItemKind) → Choice spell_item IsItem never first_item k (item_by k)
-item_choices item_kind.Column =
-    chosen (made_law spell_item (GoodFirst IsItem first_item item_kind.Column) never item.Column name_law
+abbrev is_item : Lead → Bool
+is_item (keyword key.Count) = true
+is_item (keyword key.Sum) = true
+is_item (keyword key.Min) = true
+is_item (keyword key.Max) = true
+is_item name = true
+is_item l = false
+
+all_items : (i : ItemPart) → IsItem i → is_item (first_item i) ≡ true
+all_items (item.Column n) g = refl
+all_items item.CountAll g = refl
+all_items (item.Count n) g = refl
+all_items (item.Sum n) g = refl
+all_items (item.Min n) g = refl
+all_items (item.Max n) g = refl
+
+item_choices : (l : Lead) → Choice spell_item IsItem never first_item l (item_by l)
+item_choices name =
+    chosen (made_law spell_item (GoodFirst IsItem first_item name) never item.Column name_law
     (λ n g. record { is_good = g; is_first = refl }) (λ i g. column_back i g.is_good g.is_first) (λ n. refl) (λ n t. refl))
-item_choices item_kind.Count = chosen count_law
-item_choices item_kind.Sum =
-    chosen (made_law spell_item (GoodFirst IsItem first_item item_kind.Sum) never item.Sum (aggregate_law key.Sum)
+item_choices (keyword key.Count) = chosen count_law
+item_choices (keyword key.Sum) =
+    chosen (made_law spell_item (GoodFirst IsItem first_item (keyword key.Sum)) never item.Sum (aggregate_law key.Sum)
     (λ n g. record { is_good = g; is_first = refl }) (λ i g. sum_back i g.is_good g.is_first) (λ n. refl) (λ n t. refl))
-item_choices item_kind.Min =
-    chosen (made_law spell_item (GoodFirst IsItem first_item item_kind.Min) never item.Min (aggregate_law key.Min)
+item_choices (keyword key.Min) =
+    chosen (made_law spell_item (GoodFirst IsItem first_item (keyword key.Min)) never item.Min (aggregate_law key.Min)
     (λ n g. record { is_good = g; is_first = refl }) (λ i g. min_back i g.is_good g.is_first) (λ n. refl) (λ n t. refl))
-item_choices item_kind.Max =
-    chosen (made_law spell_item (GoodFirst IsItem first_item item_kind.Max) never item.Max (aggregate_law key.Max)
+item_choices (keyword key.Max) =
+    chosen (made_law spell_item (GoodFirst IsItem first_item (keyword key.Max)) never item.Max (aggregate_law key.Max)
     (λ n g. record { is_good = g; is_first = refl }) (λ i g. max_back i g.is_good g.is_first) (λ n. refl) (λ n t. refl))
+item_choices l = none_chosen (λ ts. refl) (unknown is_item IsItem first_item all_items l refl)
 
 item_law : Reads spell_item IsItem never item_at
 unfolding item_at
-item_law = picked_law spell_item IsItem never kind_of_item item_by first_item item.CountAll tt item_firsts item_choices
+item_law = picked_law spell_item IsItem never lead item_by first_item item.CountAll tt item_firsts item_choices
 
 -- ---- keys
 
@@ -270,11 +277,11 @@ abbrev pub goes_list : ListPart → Token → Bool
 goes_list list.Star t = false
 goes_list (list.Items items) t = goes_joined comma is_comma spell_item never items t
 
-abbrev first_list : ListPart → StarKind
-first_list list.Star = star_kind.Star
-first_list (list.Items items) = star_kind.Other
+abbrev first_list : ListPart → Bool
+first_list list.Star = true
+first_list (list.Items items) = false
 
-item_no_star : (i : ItemPart) (more : List Token) → FirstKind kind_of_star star_kind.Other (spell_item i ++ more)
+item_no_star : (i : ItemPart) (more : List Token) → FirstKind is_star false (spell_item i ++ more)
 item_no_star (item.Column n) more = first_kind (token.Word n) _ refl
 item_no_star item.CountAll more = first_kind (word key.Count) _ refl
 item_no_star (item.Count n) more = first_kind (word key.Count) _ refl
@@ -282,30 +289,30 @@ item_no_star (item.Sum n) more = first_kind (word key.Sum) _ refl
 item_no_star (item.Min n) more = first_kind (word key.Min) _ refl
 item_no_star (item.Max n) more = first_kind (word key.Max) _ refl
 
-list_firsts : (l : ListPart) → IsList l → FirstKind kind_of_star (first_list l) (spell_list l)
+list_firsts : (l : ListPart) → IsList l → FirstKind is_star (first_list l) (spell_list l)
 list_firsts list.Star g = first_kind (token.Sign sign.Star) [] refl
 list_firsts (list.Items []) g = absurd g.0
 list_firsts (list.Items (i ∷ items)) g = item_no_star i _
 
-star_back : (l : ListPart) → IsList l → first_list l ≡ star_kind.Star → Makes (λ (u : Unit {0}). list.Star) Any l
+star_back : (l : ListPart) → IsList l → first_list l ≡ true → Makes (λ (u : Unit {0}). list.Star) Any l
 star_back list.Star g e = record { of = tt; is = refl; is_good = tt }
 star_back (list.Items items) g e = absurd cc
 
-items_back : (l : ListPart) → IsList l → first_list l ≡ star_kind.Other → Makes list.Items (GoodJoined IsItem) l
+items_back : (l : ListPart) → IsList l → first_list l ≡ false → Makes list.Items (GoodJoined IsItem) l
 items_back list.Star g e = absurd cc
 items_back (list.Items items) g e = record { of = items; is = refl; is_good = g }
 
-list_choices : (k : StarKind) → Choice spell_list IsList goes_list first_list k (list_by k)
-list_choices star_kind.Star =
-    chosen (made_law spell_list (GoodFirst IsList first_list star_kind.Star) goes_list (λ u. list.Star) (mark_law star_mark)
+list_choices : (k : Bool) → Choice spell_list IsList goes_list first_list k (list_by k)
+list_choices true =
+    chosen (made_law spell_list (GoodFirst IsList first_list true) goes_list (λ u. list.Star) (mark_law star_mark)
     (λ u g. record { is_good = tt; is_first = refl }) (λ l g. star_back l g.is_good g.is_first) (λ u. refl) (λ u t. refl))
-list_choices star_kind.Other =
-    chosen (made_law spell_list (GoodFirst IsList first_list star_kind.Other) goes_list list.Items (joined_law comma_mark item_law (λ a g. refl))
+list_choices false =
+    chosen (made_law spell_list (GoodFirst IsList first_list false) goes_list list.Items (joined_law comma_mark item_law (λ a g. refl))
     (λ xs g. record { is_good = g; is_first = refl }) (λ l g. items_back l g.is_good g.is_first) (λ xs. refl) (λ xs t. refl))
 
 list_law : Reads spell_list IsList goes_list list_at
 unfolding list_at
-list_law = picked_law spell_list IsList goes_list kind_of_star list_by first_list list.Star tt list_firsts list_choices
+list_law = picked_law spell_list IsList goes_list is_star list_by first_list list.Star tt list_firsts list_choices
 
 list_before_from : (l : ListPart) → IsList l → goes_list l (word key.From) ≡ false
 list_before_from list.Star g = refl
@@ -341,7 +348,8 @@ keys_law =
 groups_apart : (gs : List (List ℕ)) (ks : List KeyPart) → AllByRecursion IsName gs → AllByRecursion IsKey ks → Ends (goes_groups gs) (spell_keys ks)
 groups_apart gs [] g h = at_end
 groups_apart [] (k ∷ ks) g h = at_other (word key.Order) _ refl
-groups_apart (n ∷ ns) (k ∷ ks) g h = at_other (word key.Order) _ (goes_joined-false comma is_comma name_tokens IsName never (word key.Order) refl (λ a i. refl) (n ∷ ns) (tt, g))
+groups_apart (n ∷ ns) (k ∷ ks) g h = at_other (word key.Order) _
+    (goes_joined-false comma is_comma name_tokens IsName never (word key.Order) refl (λ a i. refl) (n ∷ ns) (tt, g))
 
 where_apart : (c : Option (CondOf (List ℕ) Lit)) (gs : List (List ℕ)) (ks : List KeyPart) → IsWhere c → Ends (goes_where c) (spell_groups gs ++ spell_keys ks)
 where_apart c (n ∷ ns) ks g = at_other (word key.Group) _ (goes_where-false (word key.Group) refl refl refl c g)
@@ -361,7 +369,8 @@ abbrev pub goes_query : Query → Token → Bool
 goes_query q =
     goes_both (spell_both name_tokens spell_behind) never (goes_both spell_behind never goes_behind_table) (q.list, (q.table, (q.cond, (q.groups, q.keys))))
 
-query_forth : (x : ListPart × (List ℕ × Behind)) → GoodBoth IsList (GoodBoth IsName (GoodBoth IsWhere (GoodBoth (AllByRecursion IsName) (AllByRecursion IsKey)))) x → IsQuery (query_of x)
+query_forth : (x : ListPart × (List ℕ × Behind))
+    → GoodBoth IsList (GoodBoth IsName (GoodBoth IsWhere (GoodBoth (AllByRecursion IsName) (AllByRecursion IsKey)))) x → IsQuery (query_of x)
 query_forth x g = record { list = g.0; table = g.1.0; cond = g.1.1.0; groups = g.1.1.1.0; keys = g.1.1.1.1 }
 
 pub query_law : Reads spell_query IsQuery goes_query query_at

@@ -9,27 +9,27 @@ use Rattle.im_syntax.specs.declared.statement.Stmt.{Stmt}
 use Rattle.im_syntax.specs.declared.statement.Stmt.TheVariants as stmt
 use Rattle.im_syntax.specs.Spelling.{spelling}
 use Rattle.im_syntax.specs.Rules.{IsStmt, side_of, IsStmtOf}
-use Rattle.im_parse.specs.declared.kinds.StmtKind.{StmtKind}
-use Rattle.im_parse.specs.Statements.{kind_of_statement, side_of_kind, is_side, begins_side, begins_of}
+use Rattle.im_parse.specs.inner.Marks.{Lead, lead}
+use Rattle.im_parse.specs.inner.Statements.{side_by, is_side, begins_side, begins_of}
 use Rattle.im_parse.specs.declared.parsing.ParseFault.{ParseFault}
 use Rattle.im_parse.specs.declared.parsing.ParseFault.TheVariants as fault
 use Rattle.im_parse.specs.Parsing.{IsPlaceAmong, IsFaultAmong}
 use Rattle.im_parse.proofs.StatementLaws.{first_stmt, stmt_firsts}
 
-side-first : (s : Stmt) → side_of_kind (first_stmt s) ≡ Some (side_of s)
+side-first : (s : Stmt) → side_by (first_stmt s) ≡ Some (side_of s)
 side-first stmt.Run = refl
 side-first s = refl
 
-kind_is : (k : StmtKind) (t : Token) (ts : List Token) → FirstKind kind_of_statement k (t ∷ ts) → kind_of_statement t ≡ k
+kind_is : (k : Lead) (t : Token) (ts : List Token) → FirstKind lead k (t ∷ ts) → lead t ≡ k
 kind_is k t ts (first_kind u us e) = e
 
-nothing_first : (k : StmtKind) → FirstKind kind_of_statement k [] → ⊥
+nothing_first : (k : Lead) → FirstKind lead k [] → ⊥
 nothing_first k f = elim f [ ]
 
 -- a statement's first token tells its side
-side_is : (s : Stmt) (t : Token) (ts : List Token) → IsStmt s → spelling s ≡ t ∷ ts → side_of_kind (kind_of_statement t) ≡ Some (side_of s)
+side_is : (s : Stmt) (t : Token) (ts : List Token) → IsStmt s → spelling s ≡ t ∷ ts → side_by (lead t) ≡ Some (side_of s)
 side_is s t ts g e =
-    ap side_of_kind (kind_is (first_stmt s) t ts (subst (λ (x : List Token). FirstKind kind_of_statement (first_stmt s) x) e (stmt_firsts s g))) ∙ side-first s
+    ap side_by (kind_is (first_stmt s) t ts (subst (λ (x : List Token). FirstKind lead (first_stmt s) x) e (stmt_firsts s g))) ∙ side-first s
 
 is_side-refl : (w : Side) → is_side w (Some w) ≡ true
 is_side-refl side.Session = refl
@@ -50,7 +50,7 @@ not_side w s t ts b g e =
     cc
 
 not_empty : (s : Stmt) → IsStmt s → spelling s ≡ [] → ⊥
-not_empty s g e = nothing_first (first_stmt s) (subst (λ (x : List Token). FirstKind kind_of_statement (first_stmt s) x) e (stmt_firsts s g))
+not_empty s g e = nothing_first (first_stmt s) (subst (λ (x : List Token). FirstKind lead (first_stmt s) x) e (stmt_firsts s g))
 
 -- each side has a statement
 some_of : (w : Side) → BeginsGood spelling (IsStmtOf w) []
@@ -64,9 +64,16 @@ side_found w (t ∷ ts) s b g e = of_side w s t ts b g (sym e)
 wider : (w : Side) (ts : List Token) → BeginsGood spelling (IsStmtOf w) ts → BeginsGood spelling IsStmt ts
 wider w ts b = record { of = b.of; is_good = b.is_good.is_stmt; more = b.more; spells = b.spells }
 
-narrower : (w : Side) (t : Token) (ts : List Token) (n : ℕ) → begins_side w t ≡ true → BeginsGood spelling IsStmt (take n (t ∷ ts)) → BeginsGood spelling (IsStmtOf w) (take n (t ∷ ts))
+narrower : (w : Side) (t : Token) (ts : List Token) (n : ℕ) → begins_side w t ≡ true → BeginsGood spelling IsStmt (take n (t ∷ ts))
+    → BeginsGood spelling (IsStmtOf w) (take n (t ∷ ts))
 narrower w t ts zero b begun = some_of w
-narrower w t ts (suc n) b begun = record { of = begun.of; is_good = of_side w begun.of t (take n ts ++ begun.more) b begun.is_good begun.spells; more = begun.more; spells = begun.spells }
+narrower w t ts (suc n) b begun = record {
+  of = begun.of;
+  is_good = of_side w begun.of t (take n ts ++ begun.more) b begun.is_good begun.spells;
+  more =
+      begun.more;
+  spells = begun.spells;
+}
 
 -- where tokens that begin as the side's do leave the language, they leave the side's part of it
 pub side_place : (w : Side) (ts : List Token) (n : ℕ) → begins_of w ts ≡ true → IsPlaceAmong IsStmt ts n → IsPlaceAmong (IsStmtOf w) ts n

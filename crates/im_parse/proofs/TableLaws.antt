@@ -1,5 +1,5 @@
 -- The parts of CREATE TABLE and ALTER TABLE are read as they are spelled.
-use Rattle.std.proofs.Common.{◌≡◌, ℕ, Bool, true, false, List, [], ◌∷◌, Option, Some, None, refl, arith}
+use Rattle.std.proofs.Common.{◌≡◌, ℕ, ◌-◌, Bool, true, false, List, [], ◌∷◌, Option, Some, None, refl, arith}
 use Rattle.std.specs.Prelude.{is_some}
 use Rattle.im_readers.specs.Grammar.{Ends, at_end, at_other, BeginsWith, begins_with, Reads, never, Any, GoodJoinedUpTo, GoodOptional, spell_joined, goes_both, spell_optional, goes_optional, goes_behind}
 use Rattle.im_readers.proofs.Parts.{Makes, both_law, made_law, after_law, before_law, optional_law, GoodFirst, Choice, chosen, none_chosen, FirstKind, first_kind, picked_law}
@@ -12,69 +12,73 @@ use Rattle.im_syntax.specs.declared.token.Sign.TheVariants as sign
 use Rattle.im_syntax.specs.declared.table.KindWord.{KindWord}
 use Rattle.im_syntax.specs.declared.table.KindWord.TheVariants as kind
 use Rattle.im_syntax.specs.declared.table.ColumnPart.{ColumnPart}
+use Rattle.im_values.specs.declared.limits.TheConstants.{MOST_COLUMNS, MOST_IN_SHAPE}
 use Rattle.im_values.specs.declared.priority.Priority.{Priority}
+use Rattle.im_syntax.specs.declared.limits.TheConstants.{MOST_TEXT_BYTES}
 use Rattle.im_syntax.specs.declared.table.MemoryPart.{MemoryPart}
 use Rattle.im_syntax.specs.Rules.{IsWithin, IsKind, IsColumn}
 use Rattle.im_syntax.specs.Spelling.{word, comma, number, in_parens, spell_kind, spell_column, level_word, spell_compress, spell_memory, spell_option}
-use Rattle.im_parse.specs.Marks.{is_key, is_comma}
-use Rattle.im_parse.specs.declared.kinds.ColumnKind.{ColumnKind}
-use Rattle.im_parse.specs.declared.kinds.ColumnKind.TheVariants as column_kind
-use Rattle.im_parse.specs.declared.kinds.AlterKind.{AlterKind}
-use Rattle.im_parse.specs.declared.kinds.AlterKind.TheVariants as alter_kind
-use Rattle.im_parse.specs.Tables.{kind_of_column, varchar2_at, kind_by, kind_at, column_of, column_at, columns_at, compress_at, priority_at, memory_of, memory_at, option_at, memory_option_at, kind_of_alter, altered_by, altered_at}
-use Rattle.im_parse.proofs.MarkLaws.{Ends-never, left_mark, right_mark, comma_mark, word_law, after_word_law, name_law, number_law, level_law}
+use Rattle.im_parse.specs.inner.Marks.{is_key, is_comma, Lead, keyword, lead}
+use Rattle.im_parse.specs.inner.Tables.{varchar2_at, kind_by, kind_at, column_of, column_at, columns_at, compress_at, priority_at, memory_of, memory_at, option_at, memory_option_at, altered_by, altered_at}
+use Rattle.im_parse.proofs.MarkLaws.{Ends-never, left_mark, right_mark, comma_mark, word_law, after_word_law, name_law, number_law, level_law, unknown}
 
 -- ---- columns
 
-abbrev first_column : KindWord → ColumnKind
-first_column kind.Number = column_kind.Number
-first_column kind.Integer = column_kind.Integer
-first_column (kind.Varchar2 n) = column_kind.Varchar2
+abbrev first_column : KindWord → Lead
+first_column kind.Number = keyword key.Number
+first_column kind.Integer = keyword key.Integer
+first_column (kind.Varchar2 n) = keyword key.Varchar2
 
-kind_firsts : (k : KindWord) → IsKind k → FirstKind kind_of_column (first_column k) (spell_kind k)
+kind_firsts : (k : KindWord) → IsKind k → FirstKind lead (first_column k) (spell_kind k)
 kind_firsts kind.Number g = first_kind (word key.Number) [] refl
 kind_firsts kind.Integer g = first_kind (word key.Integer) [] refl
 kind_firsts (kind.Varchar2 n) g = first_kind (word key.Varchar2) _ refl
 
-number_back : (k : KindWord) → IsKind k → first_column k ≡ column_kind.Number → Makes (λ (u : Unit {0}). kind.Number) Any k
+number_back : (k : KindWord) → IsKind k → first_column k ≡ (keyword key.Number) → Makes (λ (u : Unit {0}). kind.Number) Any k
 number_back kind.Number g e = record { of = tt; is = refl; is_good = tt }
 number_back kind.Integer g e = absurd cc
 number_back (kind.Varchar2 n) g e = absurd cc
 
-integer_back : (k : KindWord) → IsKind k → first_column k ≡ column_kind.Integer → Makes (λ (u : Unit {0}). kind.Integer) Any k
+integer_back : (k : KindWord) → IsKind k → first_column k ≡ (keyword key.Integer) → Makes (λ (u : Unit {0}). kind.Integer) Any k
 integer_back kind.Number g e = absurd cc
 integer_back kind.Integer g e = record { of = tt; is = refl; is_good = tt }
 integer_back (kind.Varchar2 n) g e = absurd cc
 
-varchar2_back : (k : KindWord) → IsKind k → first_column k ≡ column_kind.Varchar2 → Makes kind.Varchar2 (IsWithin 1 255) k
+varchar2_back : (k : KindWord) → IsKind k → first_column k ≡ (keyword key.Varchar2) → Makes kind.Varchar2 (IsWithin 1 MOST_TEXT_BYTES) k
 varchar2_back kind.Number g e = absurd cc
 varchar2_back kind.Integer g e = absurd cc
 varchar2_back (kind.Varchar2 n) g e = record { of = n; is = refl; is_good = g }
 
-varchar2_law : Reads (λ n. word key.Varchar2 ∷ in_parens (number n ∷ [])) (IsWithin 1 255) never varchar2_at
+varchar2_law : Reads (λ n. word key.Varchar2 ∷ in_parens (number n ∷ [])) (IsWithin 1 MOST_TEXT_BYTES) never varchar2_at
 unfolding varchar2_at
-varchar2_law = after_word_law key.Varchar2 (after_law left_mark (before_law right_mark (number_law 1 255 (omega arith)) (λ a g. refl)))
+varchar2_law = after_word_law key.Varchar2 (after_law left_mark (before_law right_mark (number_law 1 MOST_TEXT_BYTES (omega arith)) (λ a g. refl)))
 
-no_other_kind : (k : KindWord) → IsKind k → first_column k ≡ column_kind.Other → ⊥
-no_other_kind kind.Number g e = cc
-no_other_kind kind.Integer g e = cc
-no_other_kind (kind.Varchar2 n) g e = cc
+abbrev is_kind : Lead → Bool
+is_kind (keyword key.Number) = true
+is_kind (keyword key.Integer) = true
+is_kind (keyword key.Varchar2) = true
+is_kind l = false
 
-kind_choices : (k : ColumnKind) → Choice spell_kind IsKind never first_column k (kind_by k)
-kind_choices column_kind.Number =
-    chosen (made_law spell_kind (GoodFirst IsKind first_column column_kind.Number) never (λ u. kind.Number) (word_law key.Number)
+all_kinds : (k : KindWord) → IsKind k → is_kind (first_column k) ≡ true
+all_kinds kind.Number g = refl
+all_kinds kind.Integer g = refl
+all_kinds (kind.Varchar2 n) g = refl
+
+kind_choices : (l : Lead) → Choice spell_kind IsKind never first_column l (kind_by l)
+kind_choices (keyword key.Number) =
+    chosen (made_law spell_kind (GoodFirst IsKind first_column (keyword key.Number)) never (λ u. kind.Number) (word_law key.Number)
     (λ u g. record { is_good = tt; is_first = refl }) (λ k g. number_back k g.is_good g.is_first) (λ u. refl) (λ u t. refl))
-kind_choices column_kind.Integer =
-    chosen (made_law spell_kind (GoodFirst IsKind first_column column_kind.Integer) never (λ u. kind.Integer) (word_law key.Integer)
+kind_choices (keyword key.Integer) =
+    chosen (made_law spell_kind (GoodFirst IsKind first_column (keyword key.Integer)) never (λ u. kind.Integer) (word_law key.Integer)
     (λ u g. record { is_good = tt; is_first = refl }) (λ k g. integer_back k g.is_good g.is_first) (λ u. refl) (λ u t. refl))
-kind_choices column_kind.Varchar2 =
-    chosen (made_law spell_kind (GoodFirst IsKind first_column column_kind.Varchar2) never kind.Varchar2 varchar2_law
+kind_choices (keyword key.Varchar2) =
+    chosen (made_law spell_kind (GoodFirst IsKind first_column (keyword key.Varchar2)) never kind.Varchar2 varchar2_law
     (λ n g. record { is_good = g; is_first = refl }) (λ k g. varchar2_back k g.is_good g.is_first) (λ n. refl) (λ n t. refl))
-kind_choices column_kind.Other = none_chosen (λ ts. refl) no_other_kind
+kind_choices l = none_chosen (λ ts. refl) (unknown is_kind IsKind first_column all_kinds l refl)
 
 kind_law : Reads spell_kind IsKind never kind_at
 unfolding kind_at
-kind_law = picked_law spell_kind IsKind never kind_of_column kind_by first_column kind.Number tt kind_firsts kind_choices
+kind_law = picked_law spell_kind IsKind never lead kind_by first_column kind.Number tt kind_firsts kind_choices
 
 column_goes : (k : KindWord) (t : Token) → false ≡ goes_behind (spell_kind k) (λ (u : Token). false) (λ (u : Token). false) t
 column_goes kind.Number t = refl
@@ -90,21 +94,22 @@ column_law =
 abbrev pub spell_table_columns : List ColumnPart → List Token
 spell_table_columns cs = in_parens (spell_joined comma spell_column cs)
 
-pub columns_law : Reads spell_table_columns (GoodJoinedUpTo 15 IsColumn) never columns_at
+pub columns_law : Reads spell_table_columns (GoodJoinedUpTo (MOST_COLUMNS - 1) IsColumn) never columns_at
 unfolding columns_at
 columns_law =
     after_law left_mark
-    (before_law right_mark (joined_up_to_law comma_mark column_law (λ a g. refl) 15)
-    (λ cs g. goes_joined_up_to-false comma is_comma spell_column IsColumn never (token.Sign sign.RightParen) refl (λ a h. refl) 15 cs g))
+    (before_law right_mark (joined_up_to_law comma_mark column_law (λ a g. refl) (MOST_COLUMNS - 1))
+    (λ cs g. goes_joined_up_to-false comma is_comma spell_column IsColumn never (token.Sign sign.RightParen) refl (λ a h. refl) (MOST_COLUMNS - 1) cs g))
 
 -- ---- options
 
 abbrev pub goes_option : Keyword → Option ℕ → Token → Bool
 goes_option k = goes_optional (is_key k) never
 
-pub option_law : (k : Keyword) → ((n : ℕ) → BeginsWith (is_key k) (word k ∷ number n ∷ [])) → Reads (spell_option k) (GoodOptional (IsWithin 1 64)) (goes_option k) (option_at k)
+pub option_law : (k : Keyword) → ((n : ℕ) → BeginsWith (is_key k) (word k ∷ number n ∷ []))
+    → Reads (spell_option k) (GoodOptional (IsWithin 1 MOST_IN_SHAPE)) (goes_option k) (option_at k)
 unfolding option_at
-option_law k starts = optional_law (is_key k) (after_word_law k (number_law 1 64 (omega arith))) (λ n g. starts n)
+option_law k starts = optional_law (is_key k) (after_word_law k (number_law 1 MOST_IN_SHAPE (omega arith))) (λ n g. starts n)
 
 abbrev goes_compress : Bool → Token → Bool
 goes_compress true t = false
@@ -141,7 +146,8 @@ goes_priority = goes_optional (is_key key.Priority) never
 
 priority_law : Reads spell_priority (GoodOptional Any) goes_priority priority_at
 unfolding priority_at
-priority_law = optional_law (is_key key.Priority) (after_word_law key.Priority level_law) (λ l g. begins_with (word key.Priority) (word (level_word l) ∷ []) refl)
+priority_law = optional_law (is_key key.Priority) (after_word_law key.Priority level_law)
+    (λ l g. begins_with (word key.Priority) (word (level_word l) ∷ []) refl)
 
 compress_apart : (b : Bool) (o : Option Priority) → Ends (goes_compress b) (spell_priority o)
 compress_apart b None = at_end
@@ -182,35 +188,40 @@ abbrev pub goes_altered : Option MemoryPart → Token → Bool
 goes_altered None t = false
 goes_altered (Some m) t = goes_memory m t
 
-abbrev first_altered : Option MemoryPart → AlterKind
-first_altered None = alter_kind.NoMemory
-first_altered (Some m) = alter_kind.Memory
+abbrev first_altered : Option MemoryPart → Lead
+first_altered None = keyword key.No
+first_altered (Some m) = keyword key.InMemory
 
-altered_firsts : (o : Option MemoryPart) → Unit {0} → FirstKind kind_of_alter (first_altered o) (spell_altered o)
+altered_firsts : (o : Option MemoryPart) → Unit {0} → FirstKind lead (first_altered o) (spell_altered o)
 altered_firsts None g = first_kind (word key.No) _ refl
 altered_firsts (Some m) g = first_kind (word key.InMemory) _ refl
 
-memory_back : (o : Option MemoryPart) → first_altered o ≡ alter_kind.Memory → Makes Some Any o
+memory_back : (o : Option MemoryPart) → first_altered o ≡ (keyword key.InMemory) → Makes Some Any o
 memory_back None e = absurd cc
 memory_back (Some m) e = record { of = m; is = refl; is_good = tt }
 
-no_memory_back : (o : Option MemoryPart) → first_altered o ≡ alter_kind.NoMemory → Makes (λ (u : Unit {0}). None) Any o
+no_memory_back : (o : Option MemoryPart) → first_altered o ≡ (keyword key.No) → Makes (λ (u : Unit {0}). None) Any o
 no_memory_back None e = record { of = tt; is = refl; is_good = tt }
 no_memory_back (Some m) e = absurd cc
 
-no_other_altered : (o : Option MemoryPart) → Unit {0} → first_altered o ≡ alter_kind.Other → ⊥
-no_other_altered None g e = cc
-no_other_altered (Some m) g e = cc
+abbrev is_altered : Lead → Bool
+is_altered (keyword key.InMemory) = true
+is_altered (keyword key.No) = true
+is_altered l = false
 
-altered_choices : (k : AlterKind) → Choice spell_altered Any goes_altered first_altered k (altered_by k)
-altered_choices alter_kind.Memory =
-    chosen (made_law spell_altered (GoodFirst Any first_altered alter_kind.Memory) goes_altered Some memory_law
+all_altered : (o : Option MemoryPart) → Any o → is_altered (first_altered o) ≡ true
+all_altered None g = refl
+all_altered (Some m) g = refl
+
+altered_choices : (l : Lead) → Choice spell_altered Any goes_altered first_altered l (altered_by l)
+altered_choices (keyword key.InMemory) =
+    chosen (made_law spell_altered (GoodFirst Any first_altered (keyword key.InMemory)) goes_altered Some memory_law
     (λ m g. record { is_good = tt; is_first = refl }) (λ o g. memory_back o g.is_first) (λ m. refl) (λ m t. refl))
-altered_choices alter_kind.NoMemory =
-    chosen (made_law spell_altered (GoodFirst Any first_altered alter_kind.NoMemory) goes_altered (λ u. None) (after_word_law key.No (word_law key.InMemory))
+altered_choices (keyword key.No) =
+    chosen (made_law spell_altered (GoodFirst Any first_altered (keyword key.No)) goes_altered (λ u. None) (after_word_law key.No (word_law key.InMemory))
     (λ u g. record { is_good = tt; is_first = refl }) (λ o g. no_memory_back o g.is_first) (λ u. refl) (λ u t. refl))
-altered_choices alter_kind.Other = none_chosen (λ ts. refl) no_other_altered
+altered_choices l = none_chosen (λ ts. refl) (unknown is_altered Any first_altered all_altered l refl)
 
 pub altered_law : Reads spell_altered Any goes_altered altered_at
 unfolding altered_at
-altered_law = picked_law spell_altered Any goes_altered kind_of_alter altered_by first_altered None tt altered_firsts altered_choices
+altered_law = picked_law spell_altered Any goes_altered lead altered_by first_altered None tt altered_firsts altered_choices

@@ -1,6 +1,2 @@
-pub mod Marks
-pub mod Conditions
-pub mod Queries
-pub mod Tables
-pub mod Statements
 pub mod Parsing
+pub mod inner

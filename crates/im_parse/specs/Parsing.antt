@@ -13,7 +13,7 @@ IsReadAs s (Ok found) = found ≡ s
 IsReadAs s (Err fault.NoMemory) = Unit {0}
 IsReadAs s (Err (fault.At n)) = ⊥
 
--- The tokens are those of no good statement, and their first n are the longest front that begins one.
+-- The tokens are those of no good statement, and their first n are the longest prefix that begins one.
 pub record IsPlaceAmong (good : Stmt → Type 0) (ts : List Token) (n : ℕ) : Type 0 where
   pub none : (s : Stmt) → good s → ts ≢ spelling s
   pub longest : IsLongest spelling good ts n

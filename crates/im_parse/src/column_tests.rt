@@ -1,20 +1,18 @@
 ghost use Rattle.std.specs.Prelude.{◌≡◌};
-ghost use Rattle.im_readers.specs.Reading.{Read, Found, and_then};
+ghost use Rattle.im_readers.specs.Reading.{Found, and_then};
 ghost use Rattle.im_readers.specs.Answers.{Gives};
 ghost use Rattle.im_syntax.specs.Written.{term_of_form};
-ghost use Rattle.im_parse.specs.Conditions as conditions;
+ghost use Rattle.im_parse.specs.inner.Conditions as conditions;
 
-use crate::condition_kinds::{kind_of_range, kind_of_tail};
-use crate::kinds::{RangeKind, TailKind};
 use crate::marks::{cmp, is_key, lit, name, peek, word};
 use crate::values::tuple;
 use im_readers::Halt;
-use im_syntax::{Keyword, TermForm, Token};
+use im_syntax::{Keyword, Sign, TermForm, Token};
 use im_values::Name;
 use std::alloc::Global;
 
 /// NOT, where it stands.
-#[tactic(auto, unfolding(crate::specs::Conditions::not_at, crate::specs::Marks::word_at))]
+#[tactic(auto, unfolding(crate::specs::inner::Conditions::not_at, crate::specs::inner::Marks::word_at))]
 fn negated(tokens: &[Token]) -> (bool, &[Token])
     ensures { conditions.not_at tokens.now ≡ Found result.0 result.1.now }
 {
@@ -24,7 +22,7 @@ fn negated(tokens: &[Token]) -> (bool, &[Token])
     }
 }
 
-#[tactic(auto, unfolding(crate::specs::Conditions::comparison_at))]
+#[tactic(auto, unfolding(crate::specs::inner::Conditions::comparison_at))]
 fn comparison(alloc: Global, column: Name, tokens: &[Token]) -> Result<(TermForm, &[Token]), Halt>
     ensures { Gives (λ x. Found (term_of_form x.0) x.1.now) result
         (and_then (conditions.comparison_at tokens.now) (λ tail rest. Found (conditions.test_of (column, tail)) rest)) }
@@ -34,7 +32,7 @@ fn comparison(alloc: Global, column: Name, tokens: &[Token]) -> Result<(TermForm
     Ok((TermForm::Compare { column, cmp, value }, rest))
 }
 
-#[tactic(auto, unfolding(crate::specs::Conditions::null_at))]
+#[tactic(auto, unfolding(crate::specs::inner::Conditions::null_at))]
 fn null_test(column: Name, tokens: &[Token]) -> Result<(TermForm, &[Token]), Halt>
     ensures { Gives (λ x. Found (term_of_form x.0) x.1.now) result
         (and_then (conditions.null_at tokens.now) (λ tail rest. Found (conditions.test_of (column, tail)) rest)) }
@@ -45,7 +43,7 @@ fn null_test(column: Name, tokens: &[Token]) -> Result<(TermForm, &[Token]), Hal
     Ok((TermForm::IsNull { column, negated }, rest))
 }
 
-#[tactic(auto, unfolding(crate::specs::Conditions::between_at))]
+#[tactic(auto, unfolding(crate::specs::inner::Conditions::between_at))]
 fn between(
     alloc: Global,
     column: Name,
@@ -70,7 +68,7 @@ fn between(
     ))
 }
 
-#[tactic(auto, unfolding(crate::specs::Conditions::in_at))]
+#[tactic(auto, unfolding(crate::specs::inner::Conditions::in_at))]
 fn within(
     alloc: Global,
     column: Name,
@@ -92,28 +90,34 @@ fn within(
     ))
 }
 
-#[tactic(auto, unfolding(crate::specs::Conditions::ranged_at, crate::specs::Conditions::range_at))]
-fn range(alloc: Global, column: Name, tokens: &[Token]) -> Result<(TermForm, &[Token]), Halt>
+/// BETWEEN or IN behind a NOT.
+#[tactic(auto, unfolding(crate::specs::inner::Conditions::not_ranged_at, crate::specs::inner::Conditions::range_at))]
+fn not_ranged(alloc: Global, column: Name, tokens: &[Token]) -> Result<(TermForm, &[Token]), Halt>
     ensures { Gives (λ x. Found (term_of_form x.0) x.1.now) result
-        (and_then (conditions.ranged_at tokens.now) (λ tail rest. Found (conditions.test_of (column, tail)) rest)) }
+        (and_then (conditions.not_ranged_at tokens.now) (λ tail rest. Found (conditions.test_of (column, tail)) rest)) }
 {
-    let (negated, rest) = negated(tokens);
-    match kind_of_range(peek(rest)?) {
-        RangeKind::Between => between(alloc, column, negated, rest),
-        RangeKind::In => within(alloc, column, negated, rest),
-        RangeKind::Other => Err(Halt::Left(rest.len())),
+    let rest = word(tokens, Keyword::Not)?;
+    match peek(rest)? {
+        Token::Keyword(Keyword::Between) => between(alloc, column, true, rest),
+        Token::Keyword(Keyword::In) => within(alloc, column, true, rest),
+        _ => Err(Halt::Left(rest.len())),
     }
 }
 
 /// A test of a column.
-#[tactic(auto, unfolding(crate::specs::Conditions::test_at, crate::specs::Conditions::tail_at))]
+#[tactic(auto, unfolding(crate::specs::inner::Conditions::test_at, crate::specs::inner::Conditions::tail_at))]
 pub fn test(alloc: Global, tokens: &[Token]) -> Result<(TermForm, &[Token]), Halt>
     ensures { Gives (λ x. Found (term_of_form x.0) x.1.now) result (conditions.test_at tokens.now) }
 {
     let (column, rest) = name(alloc, tokens)?;
-    match kind_of_tail(peek(rest)?) {
-        TailKind::Comparison => comparison(alloc, column, rest),
-        TailKind::Null => null_test(column, rest),
-        TailKind::Range => range(alloc, column, rest),
+    match peek(rest)? {
+        Token::Keyword(Keyword::Is) => null_test(column, rest),
+        Token::Keyword(Keyword::Not) => not_ranged(alloc, column, rest),
+        Token::Keyword(Keyword::Between) => between(alloc, column, false, rest),
+        Token::Keyword(Keyword::In) => within(alloc, column, false, rest),
+        Token::Sign(Sign::Eq | Sign::Ne | Sign::Lt | Sign::Le | Sign::Gt | Sign::Ge) => {
+            comparison(alloc, column, rest)
+        }
+        _ => Err(Halt::Left(rest.len())),
     }
 }

@@ -2,15 +2,13 @@ ghost use Rattle.std.specs.Prelude.{◌≡◌, ◌∷◌, length, Some, None, Ma
 ghost use Rattle.im_readers.specs.Reading.{Found, and_then, further, behind_mark};
 ghost use Rattle.im_readers.specs.Answers.{Gives};
 ghost use Rattle.im_syntax.specs.declared.keyword.Keyword.TheVariants as key;
-ghost use Rattle.im_parse.specs.Marks as marks;
-ghost use Rattle.im_parse.specs.Conditions as conditions;
+ghost use Rattle.im_parse.specs.inner.Marks as marks;
+ghost use Rattle.im_parse.specs.inner.Conditions as conditions;
 
 use crate::column_tests::test;
-use crate::condition_kinds::kind_of_term;
-use crate::kinds::TermKind;
 use crate::marks::{is_key, left_paren, peek, right_paren, word};
 use im_readers::Halt;
-use im_syntax::{Cond, Conj, Keyword, Term, TermForm, Token};
+use im_syntax::{Cond, Conj, Keyword, Sign, Term, TermForm, Token};
 use std::alloc::Global;
 
 /// The tokens behind a keyword, where it stands.
@@ -26,13 +24,13 @@ fn behind(tokens: &[Token], keyword: Keyword) -> Option<&[Token]>
 }
 
 /// A term in which no NOT and no parenthesis may stand.
-#[tactic(auto, unfolding(crate::specs::Conditions::flat_term_at))]
+#[tactic(auto, unfolding(crate::specs::inner::Conditions::flat_term_at))]
 fn flat_term(alloc: Global, tokens: &[Token]) -> Result<(Term, &[Token]), Halt>
     ensures { Gives (λ x. Found x.0 x.1.now) result (conditions.flat_term_at tokens.now) }
 {
-    match kind_of_term(peek(tokens)?) {
-        TermKind::Plain => plain(alloc, tokens),
-        TermKind::Not | TermKind::Nest => Err(Halt::Left(tokens.len())),
+    match peek(tokens)? {
+        Token::Word(_) => plain(alloc, tokens),
+        _ => Err(Halt::Left(tokens.len())),
     }
 }
 
@@ -58,20 +56,21 @@ fn term(alloc: Global, depth: u32, tokens: &[Token]) -> Result<(Term, &[Token]),
 
 /// A term in which NOT and parentheses may stand, and inside them nest at most so deep.
 #[cycle(condition)]
-#[tactic(auto, unfolding(crate::specs::Conditions::deep_term_at))]
+#[tactic(auto, unfolding(crate::specs::inner::Conditions::deep_term_at))]
 fn deep_term(alloc: Global, inside: u32, tokens: &[Token]) -> Result<(Term, &[Token]), Halt>
     ensures { Gives (λ x. Found x.0 x.1.now) result (conditions.deep_term_at inside tokens.now) }
 {
-    match kind_of_term(peek(tokens)?) {
-        TermKind::Plain => plain(alloc, tokens),
-        TermKind::Not => negation(alloc, inside, tokens),
-        TermKind::Nest => nested(alloc, inside, tokens),
+    match peek(tokens)? {
+        Token::Keyword(Keyword::Not) => negation(alloc, inside, tokens),
+        Token::Sign(Sign::LeftParen) => nested(alloc, inside, tokens),
+        Token::Word(_) => plain(alloc, tokens),
+        _ => Err(Halt::Left(tokens.len())),
     }
 }
 
 /// A term behind NOT.
 #[cycle(condition)]
-#[tactic(auto, unfolding(crate::specs::Conditions::negation_at))]
+#[tactic(auto, unfolding(crate::specs::inner::Conditions::negation_at))]
 fn negation(alloc: Global, inside: u32, tokens: &[Token]) -> Result<(Term, &[Token]), Halt>
     ensures { Gives (λ x. Found x.0 x.1.now) result (conditions.negation_at inside tokens.now) }
 {
@@ -82,7 +81,7 @@ fn negation(alloc: Global, inside: u32, tokens: &[Token]) -> Result<(Term, &[Tok
 
 /// A condition in parentheses.
 #[cycle(condition)]
-#[tactic(auto, unfolding(crate::specs::Conditions::nested_at))]
+#[tactic(auto, unfolding(crate::specs::inner::Conditions::nested_at))]
 fn nested(alloc: Global, inside: u32, tokens: &[Token]) -> Result<(Term, &[Token]), Halt>
     ensures { Gives (λ x. Found x.0 x.1.now) result (conditions.nested_at inside tokens.now) }
 {
@@ -94,7 +93,7 @@ fn nested(alloc: Global, inside: u32, tokens: &[Token]) -> Result<(Term, &[Token
 
 /// Terms with AND between them.
 #[cycle(condition)]
-#[tactic(auto, unfolding(crate::specs::Conditions::conj_at, im_readers::specs::Reading::others))]
+#[tactic(auto, unfolding(crate::specs::inner::Conditions::conj_at, im_readers::specs::Reading::others))]
 fn conj(alloc: Global, depth: u32, tokens: &[Token]) -> Result<(Conj, &[Token]), Halt>
     ensures { Gives (λ x. Found x.0 x.1.now) result (conditions.conj_at depth tokens.now) }
 {
@@ -130,7 +129,7 @@ fn terms_from(
 
 /// A condition in which NOT and parentheses nest at most so deep.
 #[cycle(condition)]
-#[tactic(auto, unfolding(crate::specs::Conditions::cond_at, crate::specs::Conditions::conj_at, im_readers::specs::Reading::others))]
+#[tactic(auto, unfolding(crate::specs::inner::Conditions::cond_at, crate::specs::inner::Conditions::conj_at, im_readers::specs::Reading::others))]
 pub fn cond(alloc: Global, depth: u32, tokens: &[Token]) -> Result<(Cond, &[Token]), Halt>
     ensures { Gives (λ x. Found x.0 x.1.now) result (conditions.cond_at depth tokens.now) }
 {

@@ -1,11 +1,11 @@
 ghost use Rattle.std.specs.Prelude.{◌≡◌, ◌≤◌, Some, None, IfSome, IfOk};
 ghost use Rattle.im_readers.specs.Reading.{Found, mark, peek as peeked};
 ghost use Rattle.im_readers.specs.Answers.{Gives};
-ghost use Rattle.im_parse.specs.Marks as marks;
+ghost use Rattle.im_parse.specs.inner.Marks as marks;
 
 use im_readers::Halt;
-use im_syntax::{Keyword, Level, Lit, Sign, Token, is_name};
-use im_values::{Cmp, Name};
+use im_syntax::{Keyword, Lit, Sign, Token, is_name};
+use im_values::{Cmp, Name, Priority};
 use std::alloc::Global;
 
 /// The next token, which stays where it is.
@@ -23,7 +23,7 @@ pub fn is_key(token: &Token, keyword: Keyword) -> bool
     ensures { result ≡ marks.is_key keyword token.now }
 {
     match token {
-        Token::Word(word) => word.bytes() == keyword.text(),
+        Token::Keyword(found) => *found == keyword,
         _ => false,
     }
 }
@@ -38,18 +38,8 @@ pub fn begins(tokens: &[Token], keyword: Keyword) -> bool
     }
 }
 
-/// The keyword that a token is.
-pub fn keyword(token: &Token) -> Option<Keyword>
-    ensures { result ≡ marks.keyword_at token.now }
-{
-    match token {
-        Token::Word(word) => Keyword::of(word.bytes()),
-        _ => None,
-    }
-}
-
 /// A keyword, and the tokens behind it.
-#[tactic(auto, unfolding(crate::specs::Marks::word_at))]
+#[tactic(auto, unfolding(crate::specs::inner::Marks::word_at))]
 pub fn word(tokens: &[Token], keyword: Keyword) -> Result<&[Token], Halt>
     ensures { Gives (λ rest. Found tt rest.now) result (marks.word_at keyword tokens.now) }
 {
@@ -113,15 +103,8 @@ pub fn is_left_paren(token: &Token) -> bool
     matches!(token, Token::Sign(Sign::LeftParen))
 }
 
-/// Whether a token is a star.
-pub fn is_star(token: &Token) -> bool
-    ensures { result ≡ marks.is_star token.now }
-{
-    matches!(token, Token::Sign(Sign::Star))
-}
-
 /// The comparison of a sign.
-pub fn cmp_of(token: &Token) -> Option<Cmp>
+fn cmp_of(token: &Token) -> Option<Cmp>
     ensures { result ≡ marks.cmp_of token.now }
 {
     match token {
@@ -136,7 +119,7 @@ pub fn cmp_of(token: &Token) -> Option<Cmp>
 }
 
 /// A comparison, and the tokens behind its sign.
-#[tactic(auto, unfolding(crate::specs::Marks::cmp_at))]
+#[tactic(auto, unfolding(crate::specs::inner::Marks::cmp_at))]
 pub fn cmp(tokens: &[Token]) -> Result<(Cmp, &[Token]), Halt>
     ensures { Gives (λ x. Found x.0 x.1.now) result (marks.cmp_at tokens.now) }
 {
@@ -150,24 +133,17 @@ pub fn cmp(tokens: &[Token]) -> Result<(Cmp, &[Token]), Halt>
 }
 
 /// The name of a table or of a column.
-#[tactic(auto, unfolding(crate::specs::Marks::name_at))]
+#[tactic(auto, unfolding(crate::specs::inner::Marks::name_at))]
 pub fn name(alloc: Global, tokens: &[Token]) -> Result<(Name, &[Token]), Halt>
     ensures { Gives (λ x. Found x.0 x.1.now) result (marks.name_at tokens.now) }
 {
     match tokens {
-        [Token::Word(word), rest @ ..] if is_free(word.bytes()) => match word.copy(alloc) {
+        [Token::Word(word), rest @ ..] if is_name(word.bytes()) => match word.copy(alloc) {
             Ok(name) => Ok((name, rest)),
             Err(_) => Err(Halt::NoMemory),
         },
         _ => Err(Halt::Left(tokens.len())),
     }
-}
-
-/// Whether a word may name something.
-fn is_free(word: &[u8]) -> bool
-    ensures { result ≡ marks.is_name word.now }
-{
-    is_name(word)
 }
 
 /// The number that a token is, where it lies from low to high.
@@ -187,7 +163,7 @@ fn number_of(token: &Token, low: u64, high: u64) -> Option<u64>
 }
 
 /// A number from low to high.
-#[tactic(auto, unfolding(crate::specs::Marks::number_at))]
+#[tactic(auto, unfolding(crate::specs::inner::Marks::number_at))]
 pub fn wide_number(tokens: &[Token], low: u64, high: u64) -> Result<(u64, &[Token]), Halt>
     ensures within { IfOk result (λ x. x.0 ≤ high) }
     ensures exact { Gives (λ x. Found x.0 x.1.now) result (marks.number_at low high tokens.now) }
@@ -213,7 +189,7 @@ pub fn number(tokens: &[Token], low: u32, high: u32) -> Result<(u32, &[Token]), 
 }
 
 /// A value as it is written.
-#[tactic(auto, unfolding(crate::specs::Marks::lit_at))]
+#[tactic(auto, unfolding(crate::specs::inner::Marks::lit_at))]
 pub fn lit(alloc: Global, tokens: &[Token]) -> Result<(Lit, &[Token]), Halt>
     ensures { Gives (λ x. Found x.0 x.1.now) result (marks.lit_at tokens.now) }
 {
@@ -223,38 +199,36 @@ pub fn lit(alloc: Global, tokens: &[Token]) -> Result<(Lit, &[Token]), Halt>
             Ok(text) => Ok((Lit::Text(text), rest)),
             Err(_) => Err(Halt::NoMemory),
         },
-        [Token::Word(word), rest @ ..] if word.bytes() == Keyword::Null.text() => {
-            Ok((Lit::Null, rest))
-        }
+        [Token::Keyword(keyword), rest @ ..] if *keyword == Keyword::Null => Ok((Lit::Null, rest)),
         _ => Err(Halt::Left(tokens.len())),
     }
 }
 
 /// The level that a token names.
-fn level_of(token: &Token) -> Option<Level>
+fn level_of(token: &Token) -> Option<Priority>
     ensures { result ≡ marks.level_of token.now }
 {
     if is_key(token, Keyword::Critical) {
-        return Some(Level::Critical);
+        return Some(Priority::Critical);
     }
     if is_key(token, Keyword::High) {
-        return Some(Level::High);
+        return Some(Priority::High);
     }
     if is_key(token, Keyword::Medium) {
-        return Some(Level::Medium);
+        return Some(Priority::Medium);
     }
     if is_key(token, Keyword::Low) {
-        return Some(Level::Low);
+        return Some(Priority::Low);
     }
     if is_key(token, Keyword::None) {
-        return Some(Level::None);
+        return Some(Priority::None);
     }
     None
 }
 
 /// A level of PRIORITY.
-#[tactic(auto, unfolding(crate::specs::Marks::level_at))]
-pub fn level(tokens: &[Token]) -> Result<(Level, &[Token]), Halt>
+#[tactic(auto, unfolding(crate::specs::inner::Marks::level_at))]
+pub fn level(tokens: &[Token]) -> Result<(Priority, &[Token]), Halt>
     ensures { Gives (λ x. Found x.0 x.1.now) result (marks.level_at tokens.now) }
 {
     let [token, rest @ ..] = tokens else {

@@ -1,14 +1,13 @@
-ghost use Rattle.std.specs.Prelude.{◌≡◌, ◌≤◌, [], length, IfOk, IfErr};
+ghost use Rattle.std.specs.Prelude.{◌≡◌, [], IfOk, IfErr};
 ghost use Rattle.im_readers.specs.Reading.{Found};
 ghost use Rattle.im_readers.specs.Answers.{Gives};
 ghost use Rattle.im_syntax.specs.declared.statement.Stmt.{Stmt as AnyStmt};
 ghost use Rattle.im_syntax.specs.Spelling.{spelling};
 ghost use Rattle.im_syntax.specs.Rules.{IsStmt, IsStmtOf};
-ghost use Rattle.im_parse.specs.Statements.{whole_at};
-ghost use Rattle.im_parse.specs.Statements as statements;
+ghost use Rattle.im_parse.specs.inner.Statements.{whole_at};
 ghost use Rattle.im_parse.specs.Parsing.{IsReadAs, IsFaultAmong};
 
-use crate::statement_kinds::begins_side;
+use crate::beginnings::begins;
 use crate::statements::statement;
 use im_readers::Halt;
 use im_syntax::{Side, Stmt, Token};
@@ -24,7 +23,7 @@ pub enum ParseFault {
 }
 
 /// A statement of all the tokens.
-#[tactic(auto, unfolding(crate::specs::Statements::whole_at))]
+#[tactic(auto, unfolding(crate::specs::inner::Statements::whole_at))]
 fn whole(alloc: Global, tokens: &[Token]) -> Result<Stmt, Halt>
     ensures { Gives (λ s. Found s []) result (whole_at tokens.now) }
 {
@@ -37,8 +36,8 @@ fn whole(alloc: Global, tokens: &[Token]) -> Result<Stmt, Halt>
 
 /// The statement that the tokens spell.
 ///
-/// An error is the number of tokens in the longest front that begins a statement, or want of memory. A NOT or a
-/// parenthesis past the 64th level is refused at its token, so the stack stays small.
+/// An error is the number of tokens in the longest prefix that begins a statement, or out of memory. A NOT or a
+/// parenthesis nested too deep is refused at its token, so the stack stays small.
 pub fn parse(alloc: Global, tokens: &[Token]) -> Result<Stmt, ParseFault>
     // What is read is a statement, and the tokens are its spelling.
     ensures found { IfOk result (λ s. IsStmt s × (tokens.now ≡ spelling s)) }
@@ -54,19 +53,9 @@ pub fn parse(alloc: Global, tokens: &[Token]) -> Result<Stmt, ParseFault>
     }
 }
 
-/// Whether the tokens begin as statements of a side do.
-fn begins(tokens: &[Token], side: Side) -> bool
-    ensures { result ≡ statements.begins_of side tokens.now }
-{
-    match tokens {
-        [first, ..] => begins_side(first, side),
-        [] => false,
-    }
-}
-
 /// The statement of one side that the tokens spell.
 ///
-/// An error is the number of tokens in the longest front that begins a statement of the side, or want of memory.
+/// An error is the number of tokens in the longest prefix that begins a statement of the side, or out of memory.
 pub fn parse_for(alloc: Global, side: Side, tokens: &[Token]) -> Result<Stmt, ParseFault>
     // What is read is a statement of the side, and the tokens are its spelling.
     ensures found { IfOk result (λ s. IsStmtOf side s × (tokens.now ≡ spelling s)) }

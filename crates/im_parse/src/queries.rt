@@ -1,24 +1,20 @@
 ghost use Rattle.std.specs.Prelude.{◌≡◌};
 ghost use Rattle.im_readers.specs.Reading.{Found};
 ghost use Rattle.im_readers.specs.Answers.{Gives};
-ghost use Rattle.im_parse.specs.Marks as marks;
-ghost use Rattle.im_parse.specs.Queries as queries;
+ghost use Rattle.im_parse.specs.inner.Marks as marks;
+ghost use Rattle.im_parse.specs.inner.Queries as queries;
 
 use crate::conditions::cond;
-use crate::kinds::{ItemKind, StarKind};
 use crate::marks::{begins, is_comma, is_key, left_paren, name, peek, right_paren, star, word};
-use crate::query_kinds::{kind_of_item, kind_of_star};
 use crate::values::Names;
 use im_readers::{Halt, Part, list};
-use im_syntax::{Cond, ItemPart, KeyPart, Keyword, ListPart, Query, Token, Way};
+use im_syntax::{Cond, ItemPart, KeyPart, Keyword, ListPart, Query, Sign, Token, Way};
+use im_values::limits::MOST_LEVELS;
 use im_values::{List, Name};
 use std::alloc::Global;
 
-/// How deep NOT and parentheses may nest in a condition.
-const DEEPEST: u32 = 64;
-
 /// The column of an aggregate, in parentheses behind its keyword.
-#[tactic(auto, unfolding(crate::specs::Queries::aggregate_at))]
+#[tactic(auto, unfolding(crate::specs::inner::Queries::aggregate_at))]
 fn aggregate(alloc: Global, keyword: Keyword, tokens: &[Token]) -> Result<(Name, &[Token]), Halt>
     ensures { Gives (λ x. Found x.0 x.1.now) result (queries.aggregate_at keyword tokens.now) }
 {
@@ -30,16 +26,16 @@ fn aggregate(alloc: Global, keyword: Keyword, tokens: &[Token]) -> Result<(Name,
 }
 
 /// What stands in the parentheses of COUNT.
-#[tactic(auto, unfolding(crate::specs::Queries::counted_at))]
+#[tactic(auto, unfolding(crate::specs::inner::Queries::counted_at))]
 fn counted(alloc: Global, tokens: &[Token]) -> Result<(ItemPart, &[Token]), Halt>
     ensures { Gives (λ x. Found x.0 x.1.now) result (queries.counted_at tokens.now) }
 {
-    match kind_of_star(peek(tokens)?) {
-        StarKind::Star => {
+    match peek(tokens)? {
+        Token::Sign(Sign::Star) => {
             let rest = star(tokens)?;
             Ok((ItemPart::CountAll, rest))
         }
-        StarKind::Other => {
+        _ => {
             let (column, rest) = name(alloc, tokens)?;
             Ok((ItemPart::Count(column), rest))
         }
@@ -47,7 +43,7 @@ fn counted(alloc: Global, tokens: &[Token]) -> Result<(ItemPart, &[Token]), Halt
 }
 
 /// COUNT of rows or of a column.
-#[tactic(auto, unfolding(crate::specs::Queries::count_at))]
+#[tactic(auto, unfolding(crate::specs::inner::Queries::count_at))]
 fn count(alloc: Global, tokens: &[Token]) -> Result<(ItemPart, &[Token]), Halt>
     ensures { Gives (λ x. Found x.0 x.1.now) result (queries.count_at tokens.now) }
 {
@@ -59,33 +55,34 @@ fn count(alloc: Global, tokens: &[Token]) -> Result<(ItemPart, &[Token]), Halt>
 }
 
 /// One column of an answer.
-#[tactic(auto, unfolding(crate::specs::Queries::item_at))]
+#[tactic(auto, unfolding(crate::specs::inner::Queries::item_at))]
 fn item(alloc: Global, tokens: &[Token]) -> Result<(ItemPart, &[Token]), Halt>
     ensures { Gives (λ x. Found x.0 x.1.now) result (queries.item_at tokens.now) }
 {
-    match kind_of_item(peek(tokens)?) {
-        ItemKind::Column => {
-            let (column, rest) = name(alloc, tokens)?;
-            Ok((ItemPart::Column(column), rest))
-        }
-        ItemKind::Count => count(alloc, tokens),
-        ItemKind::Sum => {
+    match peek(tokens)? {
+        Token::Keyword(Keyword::Count) => count(alloc, tokens),
+        Token::Keyword(Keyword::Sum) => {
             let (column, rest) = aggregate(alloc, Keyword::Sum, tokens)?;
             Ok((ItemPart::Sum(column), rest))
         }
-        ItemKind::Min => {
+        Token::Keyword(Keyword::Min) => {
             let (column, rest) = aggregate(alloc, Keyword::Min, tokens)?;
             Ok((ItemPart::Min(column), rest))
         }
-        ItemKind::Max => {
+        Token::Keyword(Keyword::Max) => {
             let (column, rest) = aggregate(alloc, Keyword::Max, tokens)?;
             Ok((ItemPart::Max(column), rest))
         }
+        Token::Word(_) => {
+            let (column, rest) = name(alloc, tokens)?;
+            Ok((ItemPart::Column(column), rest))
+        }
+        _ => Err(Halt::Left(tokens.len())),
     }
 }
 
 /// ASC or DESC, where it is written.
-#[tactic(auto, unfolding(crate::specs::Queries::way_at))]
+#[tactic(auto, unfolding(crate::specs::inner::Queries::way_at))]
 fn way(tokens: &[Token]) -> (Way, &[Token])
     ensures { queries.way_at tokens.now ≡ Found result.0 result.1.now }
 {
@@ -97,7 +94,7 @@ fn way(tokens: &[Token]) -> (Way, &[Token])
 }
 
 /// One key of ORDER BY.
-#[tactic(auto, unfolding(crate::specs::Queries::key_at))]
+#[tactic(auto, unfolding(crate::specs::inner::Queries::key_at))]
 fn key(alloc: Global, tokens: &[Token]) -> Result<(KeyPart, &[Token]), Halt>
     ensures { Gives (λ x. Found x.0 x.1.now) result (queries.key_at tokens.now) }
 {
@@ -149,16 +146,16 @@ impl Part<Token> for Keys {
 }
 
 /// What a query answers: a star, or items.
-#[tactic(auto, unfolding(crate::specs::Queries::list_at))]
+#[tactic(auto, unfolding(crate::specs::inner::Queries::list_at))]
 fn select_list(alloc: Global, tokens: &[Token]) -> Result<(ListPart, &[Token]), Halt>
     ensures { Gives (λ x. Found x.0 x.1.now) result (queries.list_at tokens.now) }
 {
-    match kind_of_star(peek(tokens)?) {
-        StarKind::Star => {
+    match peek(tokens)? {
+        Token::Sign(Sign::Star) => {
             let rest = star(tokens)?;
             Ok((ListPart::Star, rest))
         }
-        StarKind::Other => {
+        _ => {
             let (items, rest) = list(alloc, &Items, tokens)?;
             Ok((ListPart::Items(List::of(items)), rest))
         }
@@ -166,7 +163,7 @@ fn select_list(alloc: Global, tokens: &[Token]) -> Result<(ListPart, &[Token]), 
 }
 
 /// WHERE and its condition, where it is written.
-#[tactic(auto, unfolding(crate::specs::Queries::where_at))]
+#[tactic(auto, unfolding(crate::specs::inner::Queries::where_at))]
 pub fn where_part(alloc: Global, tokens: &[Token]) -> Result<(Option<Cond>, &[Token]), Halt>
     ensures { Gives (λ x. Found x.0 x.1.now) result (queries.where_at tokens.now) }
 {
@@ -174,12 +171,12 @@ pub fn where_part(alloc: Global, tokens: &[Token]) -> Result<(Option<Cond>, &[To
         return Ok((None, tokens));
     }
     let rest = word(tokens, Keyword::Where)?;
-    let (cond, rest) = cond(alloc, DEEPEST, rest)?;
+    let (cond, rest) = cond(alloc, MOST_LEVELS, rest)?;
     Ok((Some(cond), rest))
 }
 
 /// GROUP BY and its columns, where it is written.
-#[tactic(auto, unfolding(crate::specs::Queries::groups_at))]
+#[tactic(auto, unfolding(crate::specs::inner::Queries::groups_at))]
 fn group_by(alloc: Global, tokens: &[Token]) -> Result<(List<Name>, &[Token]), Halt>
     ensures { Gives (λ x. Found x.0 x.1.now) result (queries.groups_at tokens.now) }
 {
@@ -193,7 +190,7 @@ fn group_by(alloc: Global, tokens: &[Token]) -> Result<(List<Name>, &[Token]), H
 }
 
 /// ORDER BY and its keys, where it is written.
-#[tactic(auto, unfolding(crate::specs::Queries::keys_at))]
+#[tactic(auto, unfolding(crate::specs::inner::Queries::keys_at))]
 fn order_by(alloc: Global, tokens: &[Token]) -> Result<(List<KeyPart>, &[Token]), Halt>
     ensures { Gives (λ x. Found x.0 x.1.now) result (queries.keys_at tokens.now) }
 {
@@ -207,7 +204,7 @@ fn order_by(alloc: Global, tokens: &[Token]) -> Result<(List<KeyPart>, &[Token])
 }
 
 /// A query, with each clause in its place.
-#[tactic(auto, unfolding(crate::specs::Queries::query_at))]
+#[tactic(auto, unfolding(crate::specs::inner::Queries::query_at))]
 pub fn query(alloc: Global, tokens: &[Token]) -> Result<(Query, &[Token]), Halt>
     ensures { Gives (λ x. Found x.0 x.1.now) result (queries.query_at tokens.now) }
 {

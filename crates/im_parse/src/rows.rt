@@ -1,9 +1,9 @@
 ghost use Rattle.std.specs.Prelude.{◌≡◌};
 ghost use Rattle.im_readers.specs.Reading.{Found};
 ghost use Rattle.im_readers.specs.Answers.{Gives};
-ghost use Rattle.im_parse.specs.Marks as marks;
-ghost use Rattle.im_parse.specs.Conditions.{tuple_at};
-ghost use Rattle.im_parse.specs.Statements as statements;
+ghost use Rattle.im_parse.specs.inner.Marks as marks;
+ghost use Rattle.im_parse.specs.inner.Conditions.{tuple_at};
+ghost use Rattle.im_parse.specs.inner.Statements as statements;
 
 use crate::marks::{equals, is_comma, is_left_paren, left_paren, lit, name, right_paren, word};
 use crate::queries::where_part;
@@ -60,7 +60,7 @@ impl Part<Token> for Sets {
 }
 
 /// A column and its new value.
-#[tactic(auto, unfolding(crate::specs::Statements::set_at))]
+#[tactic(auto, unfolding(crate::specs::inner::Statements::set_at))]
 fn set(alloc: Global, tokens: &[Token]) -> Result<((Name, Lit), &[Token]), Halt>
     ensures { Gives (λ x. Found x.0 x.1.now) result (statements.set_at tokens.now) }
 {
@@ -81,7 +81,7 @@ fn begins_list(tokens: &[Token]) -> bool
 }
 
 /// The columns of an INSERT in parentheses, where they are written.
-#[tactic(auto, unfolding(crate::specs::Statements::insert_columns_at))]
+#[tactic(auto, unfolding(crate::specs::inner::Statements::insert_columns_at))]
 fn insert_columns(alloc: Global, tokens: &[Token]) -> Result<(List<Name>, &[Token]), Halt>
     ensures { Gives (λ x. Found x.0 x.1.now) result (statements.insert_columns_at tokens.now) }
 {
@@ -95,7 +95,7 @@ fn insert_columns(alloc: Global, tokens: &[Token]) -> Result<(List<Name>, &[Toke
 }
 
 /// INSERT.
-#[tactic(auto, unfolding(crate::specs::Statements::insert_at))]
+#[tactic(auto, unfolding(crate::specs::inner::Statements::insert_at))]
 pub fn insert(alloc: Global, tokens: &[Token]) -> Result<(Stmt, &[Token]), Halt>
     ensures { Gives (λ x. Found x.0 x.1.now) result (statements.insert_at tokens.now) }
 {
@@ -116,7 +116,7 @@ pub fn insert(alloc: Global, tokens: &[Token]) -> Result<(Stmt, &[Token]), Halt>
 }
 
 /// UPDATE.
-#[tactic(auto, unfolding(crate::specs::Statements::update_at))]
+#[tactic(auto, unfolding(crate::specs::inner::Statements::update_at))]
 pub fn update(alloc: Global, tokens: &[Token]) -> Result<(Stmt, &[Token]), Halt>
     ensures { Gives (λ x. Found x.0 x.1.now) result (statements.update_at tokens.now) }
 {
@@ -136,7 +136,7 @@ pub fn update(alloc: Global, tokens: &[Token]) -> Result<(Stmt, &[Token]), Halt>
 }
 
 /// DELETE.
-#[tactic(auto, unfolding(crate::specs::Statements::delete_at))]
+#[tactic(auto, unfolding(crate::specs::inner::Statements::delete_at))]
 pub fn delete(alloc: Global, tokens: &[Token]) -> Result<(Stmt, &[Token]), Halt>
     ensures { Gives (λ x. Found x.0 x.1.now) result (statements.delete_at tokens.now) }
 {

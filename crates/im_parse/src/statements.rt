@@ -1,31 +1,30 @@
-ghost use Rattle.std.specs.Prelude.{◌≡◌};
 ghost use Rattle.im_readers.specs.Reading.{Found};
 ghost use Rattle.im_readers.specs.Answers.{Gives};
-ghost use Rattle.im_parse.specs.Statements as statements;
-ghost use Rattle.im_parse.specs.declared.kinds.StmtKind.TheVariants as stmt_kind;
+ghost use Rattle.im_parse.specs.inner.Statements as statements;
+ghost use Rattle.im_parse.specs.inner.Marks.{keyword as of_keyword};
+ghost use Rattle.im_syntax.specs.declared.keyword.Keyword.TheVariants as key;
 
-use crate::kinds::StmtKind;
 use crate::marks::{name, number, peek, wide_number, word};
 use crate::queries::query;
 use crate::rows::{delete, insert, update};
-use crate::statement_kinds::kind_of_statement;
 use crate::tables::{alter, create};
 use crate::transactions::transaction;
 use im_readers::Halt;
+use im_syntax::limits::{LAST_CURSOR, LAST_EXTENT, MOST_CREDITS};
 use im_syntax::{Keyword, Stmt, Token};
 use std::alloc::Global;
 
 /// The cursor behind a keyword.
-#[tactic(auto, unfolding(crate::specs::Statements::cursor_at))]
+#[tactic(auto, unfolding(crate::specs::inner::Statements::cursor_at))]
 fn cursor(tokens: &[Token], keyword: Keyword) -> Result<(u32, &[Token]), Halt>
     ensures { Gives (λ x. Found x.0 x.1.now) result (statements.cursor_at keyword tokens.now) }
 {
     let rest = word(tokens, keyword)?;
-    let (cursor, rest) = number(rest, 1, 999)?;
+    let (cursor, rest) = number(rest, 1, LAST_CURSOR)?;
     Ok((cursor, rest))
 }
 
-#[tactic(auto, unfolding(crate::specs::Statements::explain_at))]
+#[tactic(auto, unfolding(crate::specs::inner::Statements::explain_at))]
 fn explain(alloc: Global, tokens: &[Token]) -> Result<(Stmt, &[Token]), Halt>
     ensures { Gives (λ x. Found x.0 x.1.now) result (statements.explain_at tokens.now) }
 {
@@ -34,7 +33,7 @@ fn explain(alloc: Global, tokens: &[Token]) -> Result<(Stmt, &[Token]), Halt>
     Ok((Stmt::Explain(query), rest))
 }
 
-#[tactic(auto, unfolding(crate::specs::Statements::open_at))]
+#[tactic(auto, unfolding(crate::specs::inner::Statements::open_at))]
 fn open_for(alloc: Global, tokens: &[Token]) -> Result<(Stmt, &[Token]), Halt>
     ensures { Gives (λ x. Found x.0 x.1.now) result (statements.open_at tokens.now) }
 {
@@ -44,27 +43,27 @@ fn open_for(alloc: Global, tokens: &[Token]) -> Result<(Stmt, &[Token]), Halt>
     Ok((Stmt::OpenFor { cursor, query }, rest))
 }
 
-#[tactic(auto, unfolding(crate::specs::Statements::trickle_at))]
+#[tactic(auto, unfolding(crate::specs::inner::Statements::trickle_at))]
 fn trickle(tokens: &[Token]) -> Result<(Stmt, &[Token]), Halt>
     ensures { Gives (λ x. Found x.0 x.1.now) result (statements.trickle_at tokens.now) }
 {
     let rest = word(tokens, Keyword::Trickle)?;
-    let (credits, rest) = number(rest, 1, 1_000_000)?;
+    let (credits, rest) = number(rest, 1, MOST_CREDITS)?;
     Ok((Stmt::Trickle(credits), rest))
 }
 
-#[tactic(auto, unfolding(crate::specs::Statements::evict_at))]
+#[tactic(auto, unfolding(crate::specs::inner::Statements::evict_at))]
 fn evict(alloc: Global, tokens: &[Token]) -> Result<(Stmt, &[Token]), Halt>
     ensures { Gives (λ x. Found x.0 x.1.now) result (statements.evict_at tokens.now) }
 {
     let rest = word(tokens, Keyword::Evict)?;
     let (name, rest) = name(alloc, rest)?;
-    let (extent, rest) = wide_number(rest, 0, 4_294_967_295)?;
+    let (extent, rest) = wide_number(rest, 0, LAST_EXTENT)?;
     Ok((Stmt::Evict { name, extent }, rest))
 }
 
 fn select(alloc: Global, tokens: &[Token]) -> Result<(Stmt, &[Token]), Halt>
-    ensures { Gives (λ x. Found x.0 x.1.now) result (statements.statement_by stmt_kind.Select tokens.now) }
+    ensures { Gives (λ x. Found x.0 x.1.now) result (statements.statement_by (of_keyword key.Select) tokens.now) }
 {
     let (query, rest) = query(alloc, tokens)?;
     Ok((Stmt::Select(query), rest))
@@ -81,52 +80,62 @@ fn single(tokens: &[Token], keyword: Keyword, stmt: Stmt) -> Result<(Stmt, &[Tok
 }
 
 fn step(tokens: &[Token]) -> Result<(Stmt, &[Token]), Halt>
-    ensures { Gives (λ x. Found x.0 x.1.now) result (statements.statement_by stmt_kind.Step tokens.now) }
+    ensures { Gives (λ x. Found x.0 x.1.now) result (statements.statement_by (of_keyword key.Step) tokens.now) }
 {
     let (cursor, rest) = cursor(tokens, Keyword::Step)?;
     Ok((Stmt::Step(cursor), rest))
 }
 
 fn fetch(tokens: &[Token]) -> Result<(Stmt, &[Token]), Halt>
-    ensures { Gives (λ x. Found x.0 x.1.now) result (statements.statement_by stmt_kind.Fetch tokens.now) }
+    ensures { Gives (λ x. Found x.0 x.1.now) result (statements.statement_by (of_keyword key.Fetch) tokens.now) }
 {
     let (cursor, rest) = cursor(tokens, Keyword::Fetch)?;
     Ok((Stmt::Fetch(cursor), rest))
 }
 
 fn close(tokens: &[Token]) -> Result<(Stmt, &[Token]), Halt>
-    ensures { Gives (λ x. Found x.0 x.1.now) result (statements.statement_by stmt_kind.Close tokens.now) }
+    ensures { Gives (λ x. Found x.0 x.1.now) result (statements.statement_by (of_keyword key.Close) tokens.now) }
 {
     let (cursor, rest) = cursor(tokens, Keyword::Close)?;
     Ok((Stmt::Close(cursor), rest))
 }
 
+/// A statement by its first keyword.
+fn statement_by(alloc: Global, keyword: Keyword, tokens: &[Token]) -> Result<(Stmt, &[Token]), Halt>
+    ensures { Gives (λ x. Found x.0 x.1.now) result (statements.statement_by (of_keyword keyword) tokens.now) }
+{
+    match keyword {
+        Keyword::Select => select(alloc, tokens),
+        Keyword::Explain => explain(alloc, tokens),
+        Keyword::Create => create(alloc, tokens),
+        Keyword::Alter => alter(alloc, tokens),
+        Keyword::Insert => insert(alloc, tokens),
+        Keyword::Update => update(alloc, tokens),
+        Keyword::Delete => delete(alloc, tokens),
+        Keyword::Set => transaction(tokens),
+        Keyword::Commit => single(tokens, Keyword::Commit, Stmt::Commit),
+        Keyword::Rollback => single(tokens, Keyword::Rollback, Stmt::Rollback),
+        Keyword::Open => open_for(alloc, tokens),
+        Keyword::Step => step(tokens),
+        Keyword::Fetch => fetch(tokens),
+        Keyword::Close => close(tokens),
+        Keyword::Run => single(tokens, Keyword::Run, Stmt::Run),
+        Keyword::Begin => single(tokens, Keyword::Begin, Stmt::Begin),
+        Keyword::Switch => single(tokens, Keyword::Switch, Stmt::Switch),
+        Keyword::Cancel => single(tokens, Keyword::Cancel, Stmt::Cancel),
+        Keyword::Trickle => trickle(tokens),
+        Keyword::Evict => evict(alloc, tokens),
+        _ => Err(Halt::Left(tokens.len())),
+    }
+}
+
 /// A statement, and the tokens behind it.
-#[tactic(auto, unfolding(crate::specs::Statements::statement_at))]
+#[tactic(auto, unfolding(crate::specs::inner::Statements::statement_at))]
 pub fn statement(alloc: Global, tokens: &[Token]) -> Result<(Stmt, &[Token]), Halt>
     ensures { Gives (λ x. Found x.0 x.1.now) result (statements.statement_at tokens.now) }
 {
-    match kind_of_statement(peek(tokens)?) {
-        StmtKind::Select => select(alloc, tokens),
-        StmtKind::Explain => explain(alloc, tokens),
-        StmtKind::Create => create(alloc, tokens),
-        StmtKind::Alter => alter(alloc, tokens),
-        StmtKind::Insert => insert(alloc, tokens),
-        StmtKind::Update => update(alloc, tokens),
-        StmtKind::Delete => delete(alloc, tokens),
-        StmtKind::Set => transaction(tokens),
-        StmtKind::Commit => single(tokens, Keyword::Commit, Stmt::Commit),
-        StmtKind::Rollback => single(tokens, Keyword::Rollback, Stmt::Rollback),
-        StmtKind::Open => open_for(alloc, tokens),
-        StmtKind::Step => step(tokens),
-        StmtKind::Fetch => fetch(tokens),
-        StmtKind::Close => close(tokens),
-        StmtKind::Run => single(tokens, Keyword::Run, Stmt::Run),
-        StmtKind::Begin => single(tokens, Keyword::Begin, Stmt::Begin),
-        StmtKind::Switch => single(tokens, Keyword::Switch, Stmt::Switch),
-        StmtKind::Cancel => single(tokens, Keyword::Cancel, Stmt::Cancel),
-        StmtKind::Trickle => trickle(tokens),
-        StmtKind::Evict => evict(alloc, tokens),
-        StmtKind::Other => Err(Halt::Left(tokens.len())),
+    match peek(tokens)? {
+        Token::Keyword(keyword) => statement_by(alloc, *keyword, tokens),
+        _ => Err(Halt::Left(tokens.len())),
     }
 }

@@ -1,48 +1,47 @@
-ghost use Rattle.std.specs.Prelude.{◌≡◌};
-ghost use Rattle.im_readers.specs.Reading.{Found, and_then};
+ghost use Rattle.im_readers.specs.Reading.{Found};
 ghost use Rattle.im_readers.specs.Answers.{Gives};
-ghost use Rattle.im_parse.specs.Marks as marks;
-ghost use Rattle.im_parse.specs.Tables as tables;
+ghost use Rattle.im_parse.specs.inner.Marks as marks;
+ghost use Rattle.im_parse.specs.inner.Tables as tables;
 
-use crate::kinds::{AlterKind, ColumnKind};
 use crate::marks::{begins, is_comma, left_paren, level, name, number, peek, right_paren, word};
-use crate::table_kinds::{kind_of_alter, kind_of_column};
 use im_readers::{Halt, Part, list_up_to};
-use im_syntax::{ColumnPart, Keyword, KindWord, Level, MemoryPart, Stmt, Token};
-use im_values::List;
+use im_syntax::limits::MOST_TEXT_BYTES;
+use im_syntax::{ColumnPart, Keyword, KindWord, MemoryPart, Stmt, Token};
+use im_values::limits::{MOST_COLUMNS, MOST_IN_SHAPE};
+use im_values::{List, Priority};
 use std::alloc::Global;
 
 /// The length of a VARCHAR2, in bytes.
-#[tactic(auto, unfolding(crate::specs::Tables::varchar2_at))]
+#[tactic(auto, unfolding(crate::specs::inner::Tables::varchar2_at))]
 fn varchar2(tokens: &[Token]) -> Result<(u16, &[Token]), Halt>
     ensures { Gives (λ x. Found x.0 x.1.now) result (tables.varchar2_at tokens.now) }
 {
     let rest = word(tokens, Keyword::Varchar2)?;
     let rest = left_paren(rest)?;
-    let (length, rest) = number(rest, 1, 255)?;
+    let (length, rest) = number(rest, 1, MOST_TEXT_BYTES)?;
     let rest = right_paren(rest)?;
     Ok((length as u16, rest))
 }
 
 /// The kind of a column.
-#[tactic(auto, unfolding(crate::specs::Tables::kind_at))]
+#[tactic(auto, unfolding(crate::specs::inner::Tables::kind_at))]
 fn kind(tokens: &[Token]) -> Result<(KindWord, &[Token]), Halt>
     ensures { Gives (λ x. Found x.0 x.1.now) result (tables.kind_at tokens.now) }
 {
-    match kind_of_column(peek(tokens)?) {
-        ColumnKind::Number => {
+    match peek(tokens)? {
+        Token::Keyword(Keyword::Number) => {
             let rest = word(tokens, Keyword::Number)?;
             Ok((KindWord::Number, rest))
         }
-        ColumnKind::Integer => {
+        Token::Keyword(Keyword::Integer) => {
             let rest = word(tokens, Keyword::Integer)?;
             Ok((KindWord::Integer, rest))
         }
-        ColumnKind::Varchar2 => {
+        Token::Keyword(Keyword::Varchar2) => {
             let (length, rest) = varchar2(tokens)?;
             Ok((KindWord::Varchar2(length), rest))
         }
-        ColumnKind::Other => Err(Halt::Left(tokens.len())),
+        _ => Err(Halt::Left(tokens.len())),
     }
 }
 
@@ -70,7 +69,7 @@ impl Part<Token> for Columns {
 }
 
 /// A name and a kind.
-#[tactic(auto, unfolding(crate::specs::Tables::column_at))]
+#[tactic(auto, unfolding(crate::specs::inner::Tables::column_at))]
 fn column(alloc: Global, tokens: &[Token]) -> Result<(ColumnPart, &[Token]), Halt>
     ensures { Gives (λ x. Found x.0 x.1.now) result (tables.column_at tokens.now) }
 {
@@ -79,19 +78,19 @@ fn column(alloc: Global, tokens: &[Token]) -> Result<(ColumnPart, &[Token]), Hal
     Ok((ColumnPart { name, kind }, rest))
 }
 
-/// 1 to 16 columns in parentheses.
-#[tactic(auto, unfolding(crate::specs::Tables::columns_at))]
+/// Columns in parentheses.
+#[tactic(auto, unfolding(crate::specs::inner::Tables::columns_at))]
 fn column_list(alloc: Global, tokens: &[Token]) -> Result<(List<ColumnPart>, &[Token]), Halt>
     ensures { Gives (λ x. Found x.0 x.1.now) result (tables.columns_at tokens.now) }
 {
     let rest = left_paren(tokens)?;
-    let (columns, rest) = list_up_to(alloc, &Columns, 15, rest)?;
+    let (columns, rest) = list_up_to(alloc, &Columns, MOST_COLUMNS - 1, rest)?;
     let rest = right_paren(rest)?;
     Ok((List::of(columns), rest))
 }
 
 /// MEMCOMPRESS FOR QUERY LOW, where it is written.
-#[tactic(auto, unfolding(crate::specs::Tables::compress_at))]
+#[tactic(auto, unfolding(crate::specs::inner::Tables::compress_at))]
 fn compress(tokens: &[Token]) -> Result<(bool, &[Token]), Halt>
     ensures { Gives (λ x. Found x.0 x.1.now) result (tables.compress_at tokens.now) }
 {
@@ -106,8 +105,8 @@ fn compress(tokens: &[Token]) -> Result<(bool, &[Token]), Halt>
 }
 
 /// PRIORITY and its level, where it is written.
-#[tactic(auto, unfolding(crate::specs::Tables::priority_at))]
-fn priority(tokens: &[Token]) -> Result<(Option<Level>, &[Token]), Halt>
+#[tactic(auto, unfolding(crate::specs::inner::Tables::priority_at))]
+fn priority(tokens: &[Token]) -> Result<(Option<Priority>, &[Token]), Halt>
     ensures { Gives (λ x. Found x.0 x.1.now) result (tables.priority_at tokens.now) }
 {
     if !begins(tokens, Keyword::Priority) {
@@ -119,7 +118,7 @@ fn priority(tokens: &[Token]) -> Result<(Option<Level>, &[Token]), Halt>
 }
 
 /// An INMEMORY clause.
-#[tactic(auto, unfolding(crate::specs::Tables::memory_at))]
+#[tactic(auto, unfolding(crate::specs::inner::Tables::memory_at))]
 fn memory(tokens: &[Token]) -> Result<(MemoryPart, &[Token]), Halt>
     ensures { Gives (λ x. Found x.0 x.1.now) result (tables.memory_at tokens.now) }
 {
@@ -130,7 +129,7 @@ fn memory(tokens: &[Token]) -> Result<(MemoryPart, &[Token]), Halt>
 }
 
 /// BLOCK or EXTENT and its number, where it is written.
-#[tactic(auto, unfolding(crate::specs::Tables::option_at))]
+#[tactic(auto, unfolding(crate::specs::inner::Tables::option_at))]
 fn option(tokens: &[Token], keyword: Keyword) -> Result<(Option<u32>, &[Token]), Halt>
     ensures { Gives (λ x. Found x.0 x.1.now) result (tables.option_at keyword tokens.now) }
 {
@@ -138,12 +137,12 @@ fn option(tokens: &[Token], keyword: Keyword) -> Result<(Option<u32>, &[Token]),
         return Ok((None, tokens));
     }
     let rest = word(tokens, keyword)?;
-    let (number, rest) = number(rest, 1, 64)?;
+    let (number, rest) = number(rest, 1, MOST_IN_SHAPE)?;
     Ok((Some(number), rest))
 }
 
 /// An INMEMORY clause, where it is written.
-#[tactic(auto, unfolding(crate::specs::Tables::memory_option_at))]
+#[tactic(auto, unfolding(crate::specs::inner::Tables::memory_option_at))]
 fn memory_option(tokens: &[Token]) -> Result<(Option<MemoryPart>, &[Token]), Halt>
     ensures { Gives (λ x. Found x.0 x.1.now) result (tables.memory_option_at tokens.now) }
 {
@@ -155,7 +154,7 @@ fn memory_option(tokens: &[Token]) -> Result<(Option<MemoryPart>, &[Token]), Hal
 }
 
 /// CREATE TABLE.
-#[tactic(auto, unfolding(crate::specs::Tables::create_at))]
+#[tactic(auto, unfolding(crate::specs::inner::Tables::create_at))]
 pub fn create(alloc: Global, tokens: &[Token]) -> Result<(Stmt, &[Token]), Halt>
     ensures { Gives (λ x. Found x.0 x.1.now) result (tables.create_at tokens.now) }
 {
@@ -179,26 +178,26 @@ pub fn create(alloc: Global, tokens: &[Token]) -> Result<(Stmt, &[Token]), Halt>
 }
 
 /// What stands behind the name in ALTER TABLE: an INMEMORY clause, or NO INMEMORY and so none.
-#[tactic(auto, unfolding(crate::specs::Tables::altered_at))]
+#[tactic(auto, unfolding(crate::specs::inner::Tables::altered_at))]
 fn altered(tokens: &[Token]) -> Result<(Option<MemoryPart>, &[Token]), Halt>
     ensures { Gives (λ x. Found x.0 x.1.now) result (tables.altered_at tokens.now) }
 {
-    match kind_of_alter(peek(tokens)?) {
-        AlterKind::Memory => {
+    match peek(tokens)? {
+        Token::Keyword(Keyword::InMemory) => {
             let (memory, rest) = memory(tokens)?;
             Ok((Some(memory), rest))
         }
-        AlterKind::NoMemory => {
+        Token::Keyword(Keyword::No) => {
             let rest = word(tokens, Keyword::No)?;
             let rest = word(rest, Keyword::InMemory)?;
             Ok((None, rest))
         }
-        AlterKind::Other => Err(Halt::Left(tokens.len())),
+        _ => Err(Halt::Left(tokens.len())),
     }
 }
 
 /// ALTER TABLE.
-#[tactic(auto, unfolding(crate::specs::Tables::alter_at))]
+#[tactic(auto, unfolding(crate::specs::inner::Tables::alter_at))]
 pub fn alter(alloc: Global, tokens: &[Token]) -> Result<(Stmt, &[Token]), Halt>
     ensures { Gives (λ x. Found x.0 x.1.now) result (tables.alter_at tokens.now) }
 {

@@ -1,5 +1,5 @@
 use crate::{ParseFault, parse};
-use im_syntax::{Sign, Token, spell};
+use im_syntax::{Keyword, Sign, Token, spell};
 use im_values::Name;
 use std::alloc::Global;
 use std::test::Fail;
@@ -59,7 +59,7 @@ fn sign_of(text: &[u8]) -> Option<Sign> {
     }
 }
 
-/// The token of a piece: a sign, a text behind its quote, digits, or a word.
+/// The token of a piece: a sign, a text behind its quote, digits, a keyword, or another word.
 fn token_of(alloc: Global, text: &[u8]) -> Result<Token, Fail> {
     if let Some(sign) = sign_of(text) {
         return Ok(Token::Sign(sign));
@@ -75,7 +75,10 @@ fn token_of(alloc: Global, text: &[u8]) -> Result<Token, Fail> {
             }
             Ok(Token::Int(number))
         }
-        _ => Ok(Token::Word(Name::of(alloc, text)?)),
+        _ => match Keyword::of(text) {
+            Some(keyword) => Ok(Token::Keyword(keyword)),
+            None => Ok(Token::Word(Name::of(alloc, text)?)),
+        },
     }
 }
 

@@ -1,9 +1,7 @@
-ghost use Rattle.std.specs.Prelude.{◌≡◌, Bool};
-ghost use Rattle.im_readers.specs.Reading.{Found, joined};
+ghost use Rattle.im_readers.specs.Reading.{Found};
 ghost use Rattle.im_readers.specs.Answers.{Gives};
-ghost use Rattle.im_syntax.specs.declared.token.Token.{Token as AnyToken};
-ghost use Rattle.im_parse.specs.Marks as marks;
-ghost use Rattle.im_parse.specs.Conditions.{tuple_at};
+ghost use Rattle.im_parse.specs.inner.Marks as marks;
+ghost use Rattle.im_parse.specs.inner.Conditions.{tuple_at};
 
 use crate::marks::{is_comma, left_paren, lit, name, right_paren};
 use im_readers::{Halt, Part, list};
@@ -50,7 +48,7 @@ impl Part<Token> for Lits {
 }
 
 /// Literals in parentheses: a tuple, or the list behind IN.
-#[tactic(auto, unfolding(crate::specs::Conditions::tuple_at))]
+#[tactic(auto, unfolding(crate::specs::inner::Conditions::tuple_at))]
 pub fn tuple(alloc: Global, tokens: &[Token]) -> Result<(List<Lit>, &[Token]), Halt>
     ensures { Gives (λ x. Found x.0 x.1.now) result (tuple_at tokens.now) }
 {

@@ -5,7 +5,8 @@ use Rattle.im_readers.specs.Reading.{Read, Found, Stopped, ended, all_of}
 use Rattle.im_readers.specs.Grammar.{Ends, at_end, at_other, SameFirst, one_first, BeginsGood, Takes, Stops, Outcome, Reads, IsLongest}
 
 -- a front that is longer than another has the token behind that one
-take-past : {T : Type 0} (front : List T) (t : T) (rest : List T) (m : ℕ) → length front < m → take m (front ++ t ∷ rest) ≡ front ++ t ∷ take (m - suc (length front)) rest
+take-past : {T : Type 0} (front : List T) (t : T) (rest : List T) (m : ℕ) → length front < m
+    → take m (front ++ t ∷ rest) ≡ front ++ t ∷ take (m - suc (length front)) rest
 take-past [] t rest zero lt = absurd (omega arith)
 take-past {T = T} [] t rest (suc m) lt = let n : m ≡ suc m - suc 0 = omega arith in ap (λ (n : ℕ). t ∷ take n rest) n
 take-past (x ∷ front) t rest zero lt = absurd (omega arith)
@@ -50,13 +51,15 @@ module _ {T A : Type 0} {spell : A → List T} {good : A → Type 0} {goes : A �
   pub all_found : (ts : List T) (a : A) (rest : List T) → all_of p ts ≡ Found a rest → (ts ≡ spell a) × good a
   all_found ts a rest e = found_is ts (p ts) (lp.answers ts) a rest e
 
-  more_behind : (ts : List T) (a : A) (t : T) (us : List T) → Takes spell good goes ts a (t ∷ us) → goes a t ≡ false → IsLongest spell good ts (length (spell a))
+  more_behind : (ts : List T) (a : A) (t : T) (us : List T) → Takes spell good goes ts a (t ∷ us) → goes a t ≡ false
+      → IsLongest spell good ts (length (spell a))
   more_behind ts a t us o e =
       subst (λ (x : List T). IsLongest spell good x (length (spell a))) (sym o.parts)
       (longest (spell a) (t ∷ us) (record { of = a; is_good = o.is_good; more = []; spells = sym (append-nil (spell a)) })
       (λ t2 us2 vs same b.
       let first : t ≡ t2 = cc in
-      let found : p (spell a ++ t2 ∷ (vs ++ b.more)) ≡ Found a (t2 ∷ (vs ++ b.more)) = lp.whole a (t2 ∷ (vs ++ b.more)) o.is_good (at_other t2 (vs ++ b.more) (ap (λ (x : T). goes a x) (sym first) ∙ e)) in
+      let found : p (spell a ++ t2 ∷ (vs ++ b.more)) ≡ Found a (t2 ∷ (vs ++ b.more)) =
+      lp.whole a (t2 ∷ (vs ++ b.more)) o.is_good (at_other t2 (vs ++ b.more) (ap (λ (x : T). goes a x) (sym first) ∙ e)) in
       let twice : Found a (t2 ∷ (vs ++ b.more)) ≡ Found b.of [] = sym found ∙ begun_more (spell a) t2 vs b in
       (cc)))
 
@@ -65,7 +68,8 @@ module _ {T A : Type 0} {spell : A → List T} {good : A → Type 0} {goes : A �
       subst (λ (x : List T). IsLongest spell good x (length o.front)) (sym o.parts)
       (longest o.front o.rest o.begun
       (λ t us vs same b.
-      let stops : p (o.front ++ t ∷ (vs ++ b.more)) ≡ Stopped (length (t ∷ (vs ++ b.more))) = o.again (t ∷ (vs ++ b.more)) (subst (λ (x : List T). SameFirst x (t ∷ (vs ++ b.more))) (sym same) (one_first t us (vs ++ b.more))) in
+      let stops : p (o.front ++ t ∷ (vs ++ b.more)) ≡ Stopped (length (t ∷ (vs ++ b.more))) =
+      o.again (t ∷ (vs ++ b.more)) (subst (λ (x : List T). SameFirst x (t ∷ (vs ++ b.more))) (sym same) (one_first t us (vs ++ b.more))) in
       let twice : Stopped (length (t ∷ (vs ++ b.more))) ≡ Found b.of [] = sym stops ∙ begun_more o.front t vs b in
       (cc)))
 

@@ -23,7 +23,8 @@ module _ {T A : Type 0} {w : T} {is : T → Bool} {s : A → List T} {g : A → 
       Ends-none [] = at_end
       Ends-none (t ∷ us) = at_other t us refl
 
-  none_whole : (xs : List A) (rest : List T) → UpTo 0 g xs → Ends (goes_further w is s e 0 xs) rest → further is p 0 (spell_others w s xs ++ rest) ≡ Found xs rest
+  none_whole : (xs : List A) (rest : List T) → UpTo 0 g xs → Ends (goes_further w is s e 0 xs) rest
+      → further is p 0 (spell_others w s xs ++ rest) ≡ Found xs rest
   unfolding further
   none_whole [] rest good ends = refl
   none_whole (x ∷ xs) rest good ends = absurd (omega arith)
@@ -43,7 +44,8 @@ module _ {T A : Type 0} {w : T} {is : T → Bool} {s : A → List T} {g : A → 
   others_spells None = refl
   others_spells (Some x) = refl
 
-  further_goes : (k : ℕ) (o : Option (A × List A)) (t : T) → goes_further w is s e (suc k) (all_others o) t ≡ goes_optional is (goes_both (spell_others w s) e (goes_further w is s e k)) o t
+  further_goes : (k : ℕ) (o : Option (A × List A)) (t : T)
+      → goes_further w is s e (suc k) (all_others o) t ≡ goes_optional is (goes_both (spell_others w s) e (goes_further w is s e k)) o t
   further_goes k None t = refl
   further_goes k (Some x) t = refl
 
@@ -51,7 +53,8 @@ module _ {T A : Type 0} {w : T} {is : T → Bool} {s : A → List T} {g : A → 
       → Reads (spell_others w s) (UpTo (suc k) g) (goes_further w is s e (suc k)) (made all_others (optional is (after is (both p (further is p k)))))
   further_more k less =
       made_law (spell_others w s) (UpTo (suc k) g) (goes_further w is s e (suc k)) all_others
-      (optional_law is (after_law m (both_law lp less (λ a xs good _. apart_others a xs good))) (λ x good. begins_with w (spell_both s (spell_others w s) x) m.itself))
+      (optional_law is (after_law m (both_law lp less (λ a xs good _. apart_others a xs good)))
+      (λ x good. begins_with w (spell_both s (spell_others w s) x) m.itself))
       (up_to_forth k) (up_to_back k) others_spells (further_goes k)
 
   pub further_law : (k : ℕ) → Reads (spell_others w s) (UpTo k g) (goes_further w is s e k) (further is p k)
@@ -86,7 +89,8 @@ module _ {T A : Type 0} {w : T} {is : T → Bool} {s : A → List T} {g : A → 
   unfolding flat
   flat_stops j k ts n (Stopped left) o le more h = h
   flat_stops j k ts n (Found a mid) o le more h =
-      ap (λ (r : Read T (List A)). and_then r (λ xs rest. Found (a ∷ xs) rest)) (more mid (omega (arith, length-mid ts a mid o)) (rest_stops (further is p j mid) a n h))
+      ap (λ (r : Read T (List A)). and_then r (λ xs rest. Found (a ∷ xs) rest))
+      (more mid (omega (arith, length-mid ts a mid o)) (rest_stops (further is p j mid) a n h))
 
   stepped_stops : (j k : ℕ) (t : T) (ts : List T) (n : ℕ) (b : Bool) → length ts ≤ k
       → ((mid : List T) → length mid ≤ k → further is p j mid ≡ Stopped n → further is p k mid ≡ Stopped n)
@@ -113,7 +117,8 @@ module _ {T A : Type 0} {w : T} {is : T → Bool} {s : A → List T} {g : A → 
   goes-enough (suc k) [] t lt = refl
   goes-enough (suc k) (x ∷ xs) t lt = ap (λ (b : Bool). cond (is_nil (spell_others w s xs)) (e x t || b) b) (goes-enough k xs t (omega arith))
 
-  Ends-enough : (k : ℕ) (xs : List A) (rest : List T) → length xs + length rest ≤ k → Ends (goes_further w is s e k xs) rest → Ends (goes_others w is s e xs) rest
+  Ends-enough : (k : ℕ) (xs : List A) (rest : List T) → length xs + length rest ≤ k → Ends (goes_further w is s e k xs) rest
+      → Ends (goes_others w is s e xs) rest
   Ends-enough k xs [] le ends = at_end
   Ends-enough k xs (t ∷ rest) le (at_other u us ends) = at_other t rest (goes-enough k xs t (omega arith) ∙ ends)
 
@@ -121,7 +126,8 @@ module _ {T A : Type 0} {w : T} {is : T → Bool} {s : A → List T} {g : A → 
   Ends-room k xs [] le ends = at_end
   Ends-room k xs (t ∷ rest) le (at_other u us ends) = at_other t rest (sym (goes-enough k xs t (omega arith)) ∙ ends)
 
-  others_answers : (ts : List T) (r : Read T (List A)) → further is p (length ts) ts ≡ r → Outcome (spell_others w s) (UpTo (length ts) g) (goes_further w is s e (length ts)) (further is p (length ts)) ts r
+  others_answers : (ts : List T) (r : Read T (List A)) → further is p (length ts) ts ≡ r
+      → Outcome (spell_others w s) (UpTo (length ts) g) (goes_further w is s e (length ts)) (further is p (length ts)) ts r
       → Outcome (spell_others w s) (AllByRecursion g) (goes_others w is s e) (others is p) ts r
   unfolding others
   others_answers ts (Found xs rest) h o = record {
@@ -138,11 +144,13 @@ module _ {T A : Type 0} {w : T} {is : T → Bool} {s : A → List T} {g : A → 
     again = λ other same. further_stops (length ts) (length (o.front ++ other)) (o.front ++ other) (length other) (o.again other same) (omega arith);
   }
 
-  others_whole : (xs : List A) (rest : List T) → AllByRecursion g xs → Ends (goes_others w is s e xs) rest → others is p (spell_others w s xs ++ rest) ≡ Found xs rest
+  others_whole : (xs : List A) (rest : List T) → AllByRecursion g xs → Ends (goes_others w is s e xs) rest
+      → others is p (spell_others w s xs ++ rest) ≡ Found xs rest
   unfolding others
   others_whole xs rest good ends =
       let le : length xs + length rest ≤ length (spell_others w s xs ++ rest) = omega (arith, length-append (spell_others w s xs) rest, length-others xs) in
-      (further_law (length (spell_others w s xs ++ rest))).whole xs rest (record { each = good; count = omega arith }) (Ends-room (length (spell_others w s xs ++ rest)) xs rest le ends)
+      (further_law (length (spell_others w s xs ++ rest))).whole xs rest (record { each = good; count = omega arith })
+      (Ends-room (length (spell_others w s xs ++ rest)) xs rest le ends)
 
   pub others_law : Reads (spell_others w s) (AllByRecursion g) (goes_others w is s e) (others is p)
   unfolding others
@@ -188,4 +196,5 @@ module _ {T A : Type 0} (w : T) (is : T → Bool) (s : A → List T) (g : A → 
 
   pub goes_joined_up_to-false : (k : ℕ) (xs : List A) → GoodJoinedUpTo k g xs → goes_joined_up_to k w is s e xs t ≡ false
   goes_joined_up_to-false k [] good = refl
-  goes_joined_up_to-false k (x ∷ xs) good = stays (spell_others w s xs) (e x t) (goes_further w is s e k xs t) (none x good.1.each.0) (goes_further-false k xs good.1.each.1)
+  goes_joined_up_to-false k (x ∷ xs) good =
+      stays (spell_others w s xs) (e x t) (goes_further w is s e k xs t) (none x good.1.each.0) (goes_further-false k xs good.1.each.1)

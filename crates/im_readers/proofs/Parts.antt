@@ -29,14 +29,17 @@ module _ {T A B : Type 0} {sp : A → List T} {gp : A → Type 0} {ep : A → T 
       spells = ap (λ (x : List T). sp a ++ x) second.begun.spells ∙ sym (append_assoc (sp a) second.front second.begun.more);
     };
     again = λ other same.
-        let e : Ends (ep a) (second.front ++ other) = Ends-same (ep a) (second.front ++ second.rest) (second.front ++ other) (SameFirst-append second.front second.rest other same) (subst (λ (x : List T). Ends (ep a) x) second.parts first.ends) in
+        let e : Ends (ep a) (second.front ++ other) =
+        Ends-same (ep a) (second.front ++ second.rest) (second.front ++ other) (SameFirst-append second.front second.rest other same)
+        (subst (λ (x : List T). Ends (ep a) x) second.parts first.ends) in
         ap (both p q) (append_assoc (sp a) second.front other)
         ∙ ap (λ (r : Read T A). and_then r (λ a rest. and_then (q rest) (λ b behind. Found (a, b) behind))) (lp.whole a (second.front ++ other) first.is_good e)
         ∙ ap (λ (r : Read T B). and_then r (λ b behind. Found (a, b) behind)) (second.again other same);
   }
 
   both_answers : (ts : List T) (r : Read T A) → p ts ≡ r → Outcome sp gp ep p ts r
-      → Outcome (spell_both sp sq) (GoodBoth gp gq) (goes_both sq ep eq) (both p q) ts (and_then r (λ a rest. and_then (q rest) (λ b behind. Found (a, b) behind)))
+      → Outcome (spell_both sp sq) (GoodBoth gp gq) (goes_both sq ep eq) (both p q) ts
+      (and_then r (λ a rest. and_then (q rest) (λ b behind. Found (a, b) behind)))
   both_answers ts (Found a mid) at_first first = both_second ts a mid first at_first (q mid) refl (lq.answers mid)
   both_answers ts (Stopped left) at_first first = record {
     front = first.front;
@@ -59,7 +62,8 @@ module _ {T A B : Type 0} {sp : A → List T} {gp : A → Type 0} {ep : A → T 
     answers = λ ts. both_answers ts (p ts) refl (lp.answers ts);
     whole = λ x rest good ends.
         ap (both p q) (append_assoc (sp x.0) (sq x.1) rest)
-        ∙ ap (λ (r : Read T A). and_then r (λ a rest. and_then (q rest) (λ b behind. Found (a, b) behind))) (lp.whole x.0 (sq x.1 ++ rest) good.0 (Ends-first (sq x.1) (ep x.0) (eq x.1) rest (apart x.0 x.1 good.0 good.1) ends))
+        ∙ ap (λ (r : Read T A). and_then r (λ a rest. and_then (q rest) (λ b behind. Found (a, b) behind)))
+        (lp.whole x.0 (sq x.1 ++ rest) good.0 (Ends-first (sq x.1) (ep x.0) (eq x.1) rest (apart x.0 x.1 good.0 good.1) ends))
         ∙ ap (λ (r : Read T B). and_then r (λ b behind. Found (x.0, b) behind)) (lq.whole x.1 rest good.1 (Ends-second (sq x.1) (ep x.0) (eq x.1) rest ends));
   }
 
@@ -113,7 +117,8 @@ module _ {T A B : Type 0} {sa : A → List T} {ga : A → Type 0} {ea : A → T 
 -- the same, where the equations hold of each value
 pub made_law : {T A B : Type 0} {sa : A → List T} {ga : A → Type 0} {ea : A → T → Bool} {p : List T → Read T A}
     (sb : B → List T) (gb : B → Type 0) (eb : B → T → Bool) (f : A → B) → Reads sa ga ea p
-    → ((a : A) → ga a → gb (f a)) → ((b : B) → gb b → Makes f ga b) → ((a : A) → sb (f a) ≡ sa a) → ((a : A) (t : T) → eb (f a) t ≡ ea a t) → Reads sb gb eb (made f p)
+    → ((a : A) → ga a → gb (f a)) → ((b : B) → gb b → Makes f ga b) → ((a : A) → sb (f a) ≡ sa a) → ((a : A) (t : T) → eb (f a) t ≡ ea a t)
+    → Reads sb gb eb (made f p)
 made_law sb gb eb f lp forth back spells goes = made_good_law sb gb eb f lp forth back (λ a g. spells a) (λ a g t. goes a t)
 
 -- the same reader under another rule and another spelling, which agree
@@ -216,7 +221,8 @@ Ends-never : {T : Type 0} (ts : List T) → Ends (λ t. false) ts
 Ends-never [] = at_end
 Ends-never (t ∷ ts) = at_other t ts refl
 
-mark_sound : {T : Type 0} {w : T} {is : T → Bool} → IsMark w is → (t : T) (a : Unit {0}) (b : Bool) → is t ≡ b → cond b (Some tt) None ≡ Some a → (t ≡ w) × Unit {0}
+mark_sound : {T : Type 0} {w : T} {is : T → Bool} → IsMark w is → (t : T) (a : Unit {0}) (b : Bool) → is t ≡ b → cond b (Some tt) None ≡ Some a
+    → (t ≡ w) × Unit {0}
 mark_sound m t a true e s = (m.only t e, tt)
 mark_sound m t a false e s = absurd cc
 
@@ -270,12 +276,15 @@ module _ {T A : Type 0} {sp : A → List T} {gp : A → Type 0} {ep : A → T �
     count = first.count;
     begun = record { of = Some first.begun.of; is_good = first.begun.is_good; more = first.begun.more; spells = first.begun.spells };
     again = λ other same.
-        let b2 : BeginsWith begins (first.front ++ other) = BeginsWith-same begins (first.front ++ first.rest) (first.front ++ other) (SameFirst-append first.front first.rest other same) (subst (λ (x : List T). BeginsWith begins x) first.parts b) in
+        let b2 : BeginsWith begins (first.front ++ other) =
+        BeginsWith-same begins (first.front ++ first.rest) (first.front ++ other) (SameFirst-append first.front first.rest other same)
+        (subst (λ (x : List T). BeginsWith begins x) first.parts b) in
         optional_at (first.front ++ other) b2 ∙ ap (λ (r : Read T A). and_then r (λ a rest. Found (Some a) rest)) (first.again other same);
   }
 
   optional_answers : (t : T) (ts : List T) (b : Bool) → begins t ≡ b
-      → Outcome (spell_optional sp) (GoodOptional gp) (goes_optional begins ep) (optional begins p) (t ∷ ts) (cond b (made Some p (t ∷ ts)) (Found None (t ∷ ts)))
+      → Outcome (spell_optional sp) (GoodOptional gp) (goes_optional begins ep) (optional begins p) (t ∷ ts)
+      (cond b (made Some p (t ∷ ts)) (Found None (t ∷ ts)))
   optional_answers t ts true e = some_answers (t ∷ ts) (begins_with t ts e) (p (t ∷ ts)) (lp.answers (t ∷ ts))
   optional_answers t ts false e = record { parts = refl; is_good = tt; ends = at_other t ts e }
 
@@ -287,11 +296,13 @@ module _ {T A : Type 0} {sp : A → List T} {gp : A → Type 0} {ep : A → T �
   none_whole rest at_end = refl
   none_whole rest (at_other t ts e) = ap (λ (b : Bool). cond b (made Some p (t ∷ ts)) (Found None (t ∷ ts))) e
 
-  optional_whole : (o : Option A) (rest : List T) → GoodOptional gp o → Ends (goes_optional begins ep o) rest → optional begins p (spell_optional sp o ++ rest) ≡ Found o rest
+  optional_whole : (o : Option A) (rest : List T) → GoodOptional gp o → Ends (goes_optional begins ep o) rest
+      → optional begins p (spell_optional sp o ++ rest) ≡ Found o rest
   optional_whole None rest good ends = none_whole rest (Ends-by (goes_optional begins ep None) begins (λ t. refl) rest ends)
   optional_whole (Some a) rest good ends =
       optional_at (sp a ++ rest) (BeginsWith-append begins (sp a) rest (starts a good))
-      ∙ ap (λ (r : Read T A). and_then r (λ a rest. Found (Some a) rest)) (lp.whole a rest good (Ends-by (goes_optional begins ep (Some a)) (ep a) (λ t. refl) rest ends))
+      ∙ ap (λ (r : Read T A). and_then r (λ a rest. Found (Some a) rest))
+      (lp.whole a rest good (Ends-by (goes_optional begins ep (Some a)) (ep a) (λ t. refl) rest ends))
 
   pub optional_law : Reads (spell_optional sp) (GoodOptional gp) (goes_optional begins ep) (optional begins p)
   optional_law = record {
@@ -309,7 +320,8 @@ pub record GoodFirst {A K : Type 0} (good : A → Type 0) (first : A → K) (k :
   pub is_first : first a ≡ k
 
 -- for one kind of first token: its values are read, or there are none
-pub data Choice {T A K : Type 0} (spell : A → List T) (good : A → Type 0) (goes : A → T → Bool) (first : A → K) (k : K) (read : List T → Read T A) : Type 0 where
+pub data Choice {T A K : Type 0} (spell : A → List T) (good : A → Type 0) (goes : A → T → Bool) (first : A → K) (k : K)
+    (read : List T → Read T A) : Type 0 where
   chosen : Reads spell (GoodFirst good first k) goes read → Choice spell good goes first k read
   none_chosen : ((ts : List T) → read ts ≡ Stopped (length ts)) → ((a : A) → good a → first a ≡ k → ⊥) → Choice spell good goes first k read
 
@@ -341,14 +353,18 @@ module _ {T A K : Type 0} (spell : A → List T) (good : A → Type 0) (goes : A
     count = o.count;
     begun = record { of = o.begun.of; is_good = o.begun.is_good.is_good; more = o.begun.more; spells = o.begun.spells };
     again = λ other same.
-        let f2 : FirstKind kind k (o.front ++ other) = FirstKind-same kind k (o.front ++ o.rest) (o.front ++ other) (SameFirst-append o.front o.rest other same) (subst (λ (x : List T). FirstKind kind k x) o.parts f) in
+        let f2 : FirstKind kind k (o.front ++ other) =
+        FirstKind-same kind k (o.front ++ o.rest) (o.front ++ other) (SameFirst-append o.front o.rest other same)
+        (subst (λ (x : List T). FirstKind kind k x) o.parts f) in
         picked_at k (o.front ++ other) f2 ∙ o.again other same;
   }
 
-  none_again : (t : T) (ts other : List T) → ((us : List T) → choose (kind t) us ≡ Stopped (length us)) → SameFirst (t ∷ ts) other → picked kind choose other ≡ Stopped (length other)
+  none_again : (t : T) (ts other : List T) → ((us : List T) → choose (kind t) us ≡ Stopped (length us)) → SameFirst (t ∷ ts) other
+      → picked kind choose other ≡ Stopped (length other)
   none_again t ts other stops (one_first u us vs) = stops (t ∷ vs)
 
-  first_answers : (t : T) (ts : List T) → Choice spell good goes first (kind t) (choose (kind t)) → Outcome spell good goes (picked kind choose) (t ∷ ts) (choose (kind t) (t ∷ ts))
+  first_answers : (t : T) (ts : List T) → Choice spell good goes first (kind t) (choose (kind t))
+      → Outcome spell good goes (picked kind choose) (t ∷ ts) (choose (kind t) (t ∷ ts))
   first_answers t ts (chosen l) = chosen_answers (kind t) (t ∷ ts) (first_kind t ts refl) (choose (kind t) (t ∷ ts)) (l.answers (t ∷ ts))
   first_answers t ts (none_chosen stops none) =
       let o : Outcome spell good goes (picked kind choose) (t ∷ ts) (Stopped (length (t ∷ ts))) = record {
@@ -375,7 +391,8 @@ module _ {T A K : Type 0} (spell : A → List T) (good : A → Type 0) (goes : A
   }
   picked_answers (t ∷ ts) = first_answers t ts (choices (kind t))
 
-  choice_whole : (a : A) (rest : List T) → good a → Ends (goes a) rest → Choice spell good goes first (first a) (choose (first a)) → choose (first a) (spell a ++ rest) ≡ Found a rest
+  choice_whole : (a : A) (rest : List T) → good a → Ends (goes a) rest → Choice spell good goes first (first a) (choose (first a))
+      → choose (first a) (spell a ++ rest) ≡ Found a rest
   choice_whole a rest g ends (chosen l) = l.whole a rest (record { is_good = g; is_first = refl }) ends
   choice_whole a rest g ends (none_chosen stops none) = absurd (none a g refl)
 

@@ -13,7 +13,8 @@ module _ {T A : Type 0} (is : T → Bool) (p : List T → Read T A) where
 
   -- what a mark before them adds
   unfoldable pub nested : Read T (A × List A) → Read T (List A)
-  nested r = and_then (and_then (and_then (and_then {B = Unit {0} × (A × List A)} r (λ x rest. Found (tt, x) rest)) (λ x rest. Found x.1 rest)) (λ x rest. Found (Some x) rest)) (λ o rest. Found (all_others o) rest)
+  nested r = and_then (and_then (and_then (and_then {B = Unit {0} × (A × List A)} r (λ x rest. Found (tt, x) rest)) (λ x rest. Found x.1 rest))
+      (λ x rest. Found (Some x) rest)) (λ o rest. Found (all_others o) rest)
 
   nested-inner : (a : A) (r : Read T (List A)) → nested (and_then r (λ xs rest. Found (a, xs) rest)) ≡ and_then r (λ xs rest. Found (a ∷ xs) rest)
   unfolding nested
@@ -28,7 +29,10 @@ module _ {T A : Type 0} (is : T → Bool) (p : List T → Read T A) where
   -- what stands behind a token that may be a mark
   unfoldable pub stepped : ℕ → T → List T → Bool → Read T (List A)
   stepped k t ts b =
-      and_then (cond b (and_then (and_then (and_then (taken (cond b (Some tt) None) t ts) (λ u rest. and_then {B = Unit {0} × (A × List A)} (both p (further is p k) rest) (λ x behind. Found (u, x) behind))) (λ x rest. Found x.1 rest)) (λ x rest. Found (Some x) rest)) (Found None (t ∷ ts))) (λ o rest. Found (all_others o) rest)
+      and_then (cond b (and_then (and_then
+      (and_then (taken (cond b (Some tt) None) t ts)
+      (λ u rest. and_then {B = Unit {0} × (A × List A)} (both p (further is p k) rest) (λ x behind. Found (u, x) behind))) (λ x rest. Found x.1 rest))
+      (λ x rest. Found (Some x) rest)) (Found None (t ∷ ts))) (λ o rest. Found (all_others o) rest)
 
   pub further-step : (k : ℕ) (t : T) (ts : List T) (b : Bool) → is t ≡ b → further is p (suc k) (t ∷ ts) ≡ stepped k t ts b
   unfolding further stepped
@@ -88,10 +92,12 @@ module _ {T A : Type 0} (is : T → Bool) (p : List T → Read T A) (total : Rea
   further-no_mark (suc k) [] e = refl
   further-no_mark (suc k) (t ∷ ts) e = further-step is p k t ts false (not_marked_if (is t) ts e)
 
-  over : (front : List A) (k : ℕ) (rest : List T) → further is p k rest ≡ Found [] rest → with_front front (further is p k rest) ≡ total → total ≡ Found front rest
+  over : (front : List A) (k : ℕ) (rest : List T) → further is p k rest ≡ Found [] rest → with_front front (further is p k rest) ≡ total
+      → total ≡ Found front rest
   over front k rest e so_far = sym so_far ∙ ap (λ (r : Read T (List A)). with_front front r) e ∙ ap (λ (xs : List A). Found xs rest) (append-nil front)
 
-  pub is_over : (front : List A) (k : ℕ) (rest : List T) → behind_mark is rest ≡ None → with_front front (further is p k rest) ≡ total → total ≡ Found front rest
+  pub is_over : (front : List A) (k : ℕ) (rest : List T) → behind_mark is rest ≡ None → with_front front (further is p k rest) ≡ total
+      → total ≡ Found front rest
   is_over front k rest e so_far = over front k rest (further-no_mark k rest e) so_far
 
   pub is_full : (front : List A) (most i : ℕ) (rest : List T) → most ≤ i → with_front front (further is p (most - i) rest) ≡ total → total ≡ Found front rest

@@ -137,7 +137,7 @@ goes_joined_up_to k w is spell goes (a ∷ xs) t = goes_behind (spell_others w s
 
 -- ---- the place where tokens leave the grammar
 
--- The first n tokens begin a good value, and no longer front does.
+-- The first n tokens begin a good value, and no longer prefix does.
 pub record IsLongest {T A : Type 0} (spell : A → List T) (good : A → Type 0) (ts : List T) (n : ℕ) : Type 0 where
   pub within : n ≤ length ts
   pub begins : BeginsGood spell good (take n ts)

@@ -5,7 +5,7 @@
 //! before or behind, an optional part, a choice by the next token, a list. `Reads` (`specs/Grammar.antt`) says that a
 //! reader reads a part of a grammar: what it answers is spelled so and good, each good value is read again from its
 //! spelling, and where it stops no good value goes on. From `Reads` follow, for the whole of the tokens, that a value is
-//! given exactly where they are its spelling, and that the place of an error is the longest front that begins one.
+//! given exactly where they are its spelling, and that the place of an error is the longest prefix that begins one.
 //!
 //! The code here is the loop of lists, [`list`] and [`list_up_to`], over any [`Part`]. Start with `specs/Reading.antt`,
 //! then `specs/Grammar.antt`, then `proofs/Parts.antt`.

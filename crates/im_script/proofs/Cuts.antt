@@ -1,34 +1,61 @@
--- A script, line by line.
-use Rattle.std.proofs.Common.{◌≡◌, ℕ, suc, ◌+◌, ◌<◌, ◌≤◌, Bool, true, false, cond, List, [], ◌∷◌, ◌++◌, length, take, drop, length-drop, refl, sym, ap, subst, ◌∙◌, append_assoc, arith}
-use Rattle.std.specs.Prelude.{◌==◌}
-use Rattle.std.proofs.lemmas.List.{append-nil, drop-drop, drop_all}
-use Rattle.im_lex.specs.Bytes.{run}
+-- The lines of a text are its first line and then the lines of what stands behind it.
+use Rattle.std.proofs.Common.{◌≡◌, ◌==◌, ℕ, zero, suc, ◌+◌, ◌≤◌, not, Bool, true, false, if◌then◌else◌, List, [], ◌∷◌, ◌++◌, length, take, drop, refl, sym, ap, subst, ◌∙◌, append_assoc, ◌-◌, ◌<◌, one-add, length-drop, arith}
+use Rattle.std.proofs.lemmas.List.{append-nil, take_all}
+use Rattle.std.specs.List.{prefix_len}
 use Rattle.im_script.specs.declared.line.Line.{Line}
-use Rattle.im_script.specs.Forms.{lines_of, before_first, is_no_end}
+use Rattle.im_script.specs.Forms.{lines_of, before_first}
 use Rattle.im_script.specs.Lines.{IsLine, AreLines}
 
--- the first line and the lines behind it, where its length is known
-abbrev split_at : ℕ → List ℕ → List (List ℕ)
-split_at n bs = take n bs ∷ lines_of (drop (suc n) bs)
+-- the length of the first line
+abbrev pub line_len : List ℕ → ℕ
+line_len text = prefix_len (λ byte. not (byte == 10)) text
 
-lines_of-byte : (b : ℕ) (bs : List ℕ) (is : Bool) → (b == 10) ≡ is → lines_of bs ≡ split_at (length (run is_no_end bs)) bs
-    → cond is ([] ∷ lines_of bs) (before_first b (lines_of bs)) ≡ split_at (length (cond (cond is false true) (b ∷ run is_no_end bs) [])) (b ∷ bs)
-lines_of-byte b bs true e more = refl
-lines_of-byte b bs false e more = ap (before_first b) more
-
-lines_of-last : (b : ℕ) (is : Bool) → (b == 10) ≡ is → cond is ([] ∷ lines_of []) (before_first b (lines_of [])) ≡ split_at (length (cond (cond is false true) (b ∷ []) [])) (b ∷ [])
+first : (byte : ℕ) (rest : List ℕ) (feed : Bool)
+    → (lines_of rest ≡ take (line_len rest) rest ∷ lines_of (drop (suc (line_len rest)) rest))
+    → (if feed then [] ∷ lines_of rest else before_first byte (lines_of rest))
+    ≡ take (if not feed then 1 + line_len rest else 0) (byte ∷ rest) ∷ lines_of (drop (suc (if not feed then 1 + line_len rest else 0)) (byte ∷ rest))
 unfolding lines_of
-lines_of-last b true e = refl
-lines_of-last b false e = refl
+first byte rest true known = refl
+first byte rest false known = rw (known, one-add) refl
 
-lines_of-split : (b : ℕ) (bs : List ℕ) → lines_of (b ∷ bs) ≡ split_at (length (run is_no_end (b ∷ bs))) (b ∷ bs)
+pub lines_of-first : (text : List ℕ) → 1 ≤ length text → lines_of text ≡ take (line_len text) text ∷ lines_of (drop (suc (line_len text)) text)
 unfolding lines_of
-lines_of-split b [] = lines_of-last b (b == 10) refl
-lines_of-split b (c ∷ bs) = lines_of-byte b (c ∷ bs) (b == 10) refl (lines_of-split c bs)
+lines_of-first [] some = absurd (omega arith)
+lines_of-first (byte ∷ []) some = last (byte == 10)
+  where
+    last : (feed : Bool) → (if feed then [] ∷ [] else (byte ∷ []) ∷ [])
+        ≡ take (if not feed then 1 + 0 else 0) (byte ∷ []) ∷ lines_of (drop (suc (if not feed then 1 + 0 else 0)) (byte ∷ []))
+    last true = refl
+    last false = refl
+lines_of-first (byte ∷ next ∷ rest) some = first byte (next ∷ rest) (byte == 10) (lines_of-first (next ∷ rest) (omega arith))
 
-lines_of-some : (bs : List ℕ) → 0 < length bs → lines_of bs ≡ split_at (length (run is_no_end bs)) bs
-lines_of-some [] lt = absurd (omega arith)
-lines_of-some (b ∷ bs) lt = lines_of-split b bs
+-- nothing stands behind the first line
+pub lines_of-last : (text : List ℕ) (end : ℕ) (line behind : List ℕ) → 1 ≤ length text → end ≡ line_len text → line ≡ take end text
+    → behind ≡ drop end text → length behind < 1 → lines_of text ≡ line ∷ lines_of behind
+lines_of-last text end line behind some end_is line_is behind_is none =
+    let nothing : drop (suc end) text ≡ behind =
+    length-zero (drop (suc end) text) (omega (arith, length-drop (suc end) text, length-drop end text, ap length behind_is))
+    ∙ sym (length-zero behind (omega arith)) in
+    rw (line_is, ← nothing, end_is) (lines_of-first text some)
+  where
+    length-zero : (xs : List ℕ) → length xs ≡ 0 → xs ≡ []
+    length-zero [] e = refl
+    length-zero (x ∷ xs) e = absurd (omega arith)
+
+drop-one : (n : ℕ) (xs : List ℕ) → drop 1 (drop n xs) ≡ drop (suc n) xs
+drop-one zero [] = refl
+drop-one zero (x ∷ xs) = refl
+drop-one (suc n) [] = refl
+drop-one (suc n) (x ∷ xs) = drop-one n xs
+
+-- a line feed and perhaps more stands behind the first line
+pub lines_of-next : (text : List ℕ) (end : ℕ) (line behind : List ℕ) → 1 ≤ length text → end ≡ line_len text → line ≡ take end text
+    → behind ≡ drop end text → lines_of text ≡ line ∷ lines_of (take (length behind - 1) (drop 1 behind))
+lines_of-next text end line behind some end_is line_is behind_is =
+    let rest : take (length behind - 1) (drop 1 behind) ≡ drop (suc end) text =
+    take_all (length behind - 1) (drop 1 behind) (omega (arith, length-drop 1 behind))
+    ∙ (ap (drop 1) behind_is ∙ drop-one end text) in
+    rw (line_is, rest, end_is) (lines_of-first text some)
 
 -- the lines that are read, whatever lines are still read
 pub record SoFar (n : ℕ) (script rest : List ℕ) (ls : List Line) : Type 0 where
@@ -37,24 +64,15 @@ pub record SoFar (n : ℕ) (script rest : List ℕ) (ls : List Line) : Type 0 wh
 pub at_start : (script : List ℕ) → SoFar 0 script script []
 at_start script = record { goes_on = λ more are. are }
 
-pub next_line : (n : ℕ) (script : List ℕ) (at : ℕ) (ls : List Line) (l : Line) (end : ℕ) → at < length script
-    → end ≡ length (run is_no_end (drop at script)) → IsLine (n + 1) (take end (drop at script)) l
-    → SoFar n script (drop at script) ls → SoFar (n + 1) script (drop (at + end + 1) script) (ls ++ l ∷ [])
-next_line n script at ls l end lt e line so_far =
-    let some : 0 < length (drop at script) = omega (arith, length-drop at script) in
-    let place : at + end + 1 ≡ at + suc end = omega arith in
-    let split : lines_of (drop at script) ≡ take end (drop at script) ∷ lines_of (drop (at + end + 1) script) =
-    lines_of-some (drop at script) some ∙ ap (λ (k : ℕ). split_at k (drop at script)) (sym e)
-    ∙ ap (λ (x : List ℕ). take end (drop at script) ∷ lines_of x) (drop-drop (suc end) at script ∙ ap (λ (k : ℕ). drop k script) (sym place)) in
-    record {
-      goes_on = λ more are.
-          subst (λ (x : List Line). AreLines 1 (lines_of script) x) (sym (append_assoc ls (l ∷ []) more))
-          (so_far.goes_on (l ∷ more) (subst (λ (x : List (List ℕ)). AreLines (n + 1) x (l ∷ more)) (sym split) (line, are)));
-    }
+pub next_line : (n : ℕ) (script rest behind bytes : List ℕ) (ls : List Line) (l : Line) → lines_of rest ≡ bytes ∷ lines_of behind
+    → IsLine (n + 1) bytes l → SoFar n script rest ls → SoFar (n + 1) script behind (ls ++ l ∷ [])
+next_line n script rest behind bytes ls l cut line so_far = record {
+  goes_on = λ more are.
+      subst (λ (x : List Line). AreLines 1 (lines_of script) x) (sym (append_assoc ls (l ∷ []) more))
+      (so_far.goes_on (l ∷ more) (subst (λ (x : List (List ℕ)). AreLines (n + 1) x (l ∷ more)) (sym cut) (line, are)));
+}
 
-pub at_end : (n : ℕ) (script : List ℕ) (at : ℕ) (ls : List Line) → length script ≤ at → SoFar n script (drop at script) ls → AreLines 1 (lines_of script) ls
+pub at_end : (n : ℕ) (script rest : List ℕ) (ls : List Line) → length rest ≤ 0 → SoFar n script rest ls → AreLines 1 (lines_of script) ls
 unfolding lines_of
-at_end n script at ls le so_far =
-    let none : drop at script ≡ [] = drop_all at script le in
-    subst (λ (x : List Line). AreLines 1 (lines_of script) x) (append-nil ls)
-    (so_far.goes_on [] (subst (λ (x : List ℕ). AreLines (n + 1) (lines_of x) []) (sym none) tt))
+at_end n script [] ls le so_far = subst (λ (x : List Line). AreLines 1 (lines_of script) x) (append-nil ls) (so_far.goes_on [] tt)
+at_end n script (b ∷ bs) ls le so_far = absurd (omega arith)

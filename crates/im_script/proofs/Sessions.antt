@@ -1,6 +1,7 @@
--- A line names a session from 1 to 16, or the background, or nobody.
+-- A line names a session, or the background, or nobody.
 use Rattle.std.proofs.Common.{◌≡◌, ℕ, ◌+◌, ◌-◌, ◌≤◌, ◌==◌, ◌&&◌, Bool, true, false, nat_le, nat_lt, if◌then◌else◌, List, length, drop, Option, Some, refl, sym, subst, arith, leb-true}
 use Rattle.std.specs.Prelude.{IfSome, slice_index}
+use Rattle.im_values.specs.declared.limits.TheConstants.{SESSIONS, MOST_LINE_BYTES}
 use Rattle.im_syntax.specs.declared.statement.Side.{Side}
 use Rattle.im_syntax.specs.declared.statement.Stmt.{Stmt}
 use Rattle.im_lex.specs.Bytes.{begins_comment}
@@ -12,15 +13,15 @@ use Rattle.im_script.specs.declared.line.LineKind.TheVariants as kind
 use Rattle.im_script.specs.Forms.{form_of, form_behind, blanks_of, is_low, is_high, is_race, is_background, who_of}
 use Rattle.im_script.specs.Lines.{HasKind, Says, statement, bad_byte, bad_token, no_memory, SpeaksAs, NamesOneOf16}
 
--- the form names a session from 1 to 16, or none
+-- the form names a session, or none
 abbrev IsKnown : Form → Type 0
-IsKnown (form.Session n before) = (1 ≤ n) × (n ≤ 16)
+IsKnown (form.Session n before) = (1 ≤ n) × (n ≤ SESSIONS)
 IsKnown f = Unit {0}
 
-low_number : (d : ℕ) → nat_le 49 d ≡ true → nat_le d 57 ≡ true → (1 ≤ d - 48) × (d - 48 ≤ 16)
+low_number : (d : ℕ) → nat_le 49 d ≡ true → nat_le d 57 ≡ true → (1 ≤ d - 48) × (d - 48 ≤ SESSIONS)
 low_number d least most = let low = leb-true 49 d least in let high = leb-true d 57 most in (omega (arith, low, high), omega (arith, low, high))
 
-high_number : (d : ℕ) → nat_le 48 d ≡ true → nat_le d 54 ≡ true → (1 ≤ d - 38) × (d - 38 ≤ 16)
+high_number : (d : ℕ) → nat_le 48 d ≡ true → nat_le d 54 ≡ true → (1 ≤ d - 38) × (d - 38 ≤ SESSIONS)
 high_number d least most = let low = leb-true 48 d least in let high = leb-true d 54 most in (omega (arith, low, high), omega (arith, low, high))
 
 low_tests : (a b c : Bool) → (a && b && c) ≡ true → (a ≡ true) × (b ≡ true)
@@ -55,10 +56,10 @@ known_behind blanks bs =
 
 known_form : (bytes : List ℕ) → IsKnown (form_of bytes)
 known_form bytes =
-    known_if (nat_lt 1048576 (length bytes)) form.Long (form_behind (blanks_of bytes) (drop (blanks_of bytes) bytes)) (λ is. tt)
+    known_if (nat_lt MOST_LINE_BYTES (length bytes)) form.Long (form_behind (blanks_of bytes) (drop (blanks_of bytes) bytes)) (λ is. tt)
     (known_behind (blanks_of bytes) (drop (blanks_of bytes) bytes))
 
-who_within : (f : Form) → IsKnown f → IfSome (who_of f) (λ n. n ≤ 16)
+who_within : (f : Form) → IsKnown f → IfSome (who_of f) (λ n. n ≤ SESSIONS)
 who_within form.Long known = tt
 who_within form.Skip known = tt
 who_within form.Race known = tt
@@ -83,6 +84,6 @@ speaks_of (form.Background before) line k known has = speaks_by (Some 0) _ befor
 
 pub line_names : (bytes : List ℕ) (l : Line) → l.who ≡ who_of (form_of bytes) → HasKind (form_of bytes) bytes l.kind → NamesOneOf16 l
 line_names bytes l who has = record {
-  who = subst (λ (w : Option ℕ). IfSome w (λ n. n ≤ 16)) (sym who) (who_within (form_of bytes) (known_form bytes));
+  who = subst (λ (w : Option ℕ). IfSome w (λ n. n ≤ SESSIONS)) (sym who) (who_within (form_of bytes) (known_form bytes));
   speaks = subst (λ (w : Option ℕ). SpeaksAs w l.kind) (sym who) (speaks_of (form_of bytes) bytes l.kind (known_form bytes) has);
 }

@@ -11,7 +11,8 @@ use Rattle.im_lex.proofs.Fits.{token_all_fits}
 use Rattle.im_script.specs.declared.reading.Trouble.{Trouble}
 use Rattle.im_script.specs.declared.reading.Trouble.TheVariants as trouble
 use Rattle.im_script.specs.declared.line.LineKind.TheVariants as kind
-use Rattle.im_script.specs.Lines.{tokens_of, places_of, Says, statement, bad_byte, bad_token, no_memory, trouble_of_byte, FitsByte, FitPlaces, IsParsed, IsTold}
+use Rattle.im_script.specs.Lines.{tokens_of, places_of, Says, statement, bad_byte, bad_token, no_memory}
+use Rattle.im_script.specs.inner.Troubles.{trouble_of_byte, FitsByte, FitPlaces, IsParsed, IsTold}
 
 -- the first bad byte stands in the line
 bad_within : (at : ℕ) (bs : List ℕ) (n : ℕ) → IsBadAt at bs n → n ≤ at + length bs
@@ -44,7 +45,8 @@ places_fit before line ts le short l = record {
       (omega (arith, place_within 0 (drop before line) ts l n, length-drop before line)) (omega arith);
 }
 
-pub told_fault : (whose : Side) (before : ℕ) (line : List ℕ) (f : LexFault) → IsBadByte (drop before line) f → IsTold whose before line (Err (trouble_of_byte before f))
+pub told_fault : (whose : Side) (before : ℕ) (line : List ℕ) (f : LexFault) → IsBadByte (drop before line) f
+    → IsTold whose before line (Err (trouble_of_byte before f))
 told_fault whose before line (lex_fault.At n) b = record { says = λ of. bad_byte n b }
 told_fault whose before line lex_fault.NoMemory b = record { says = λ of. no_memory }
 

@@ -1,7 +1,8 @@
 -- The lines of a script, and the form of a line.
-use Rattle.std.specs.Prelude.{ℕ, ◌+◌, ◌-◌, Bool, true, false, ◌&&◌, ◌==◌, nat_le, nat_lt, List, [], ◌∷◌, length, take, drop, Option, Some, None, if◌then◌else◌, slice_index, codes}
+use Rattle.std.specs.Prelude.{ℕ, ◌+◌, ◌-◌, Bool, ◌&&◌, ◌==◌, nat_le, nat_lt, List, [], ◌∷◌, length, take, drop, Option, Some, None, if◌then◌else◌, slice_index, codes}
 use Rattle.std.specs.List.{list_all}
 use Rattle.std.specs.Str.{bytes_eq}
+use Rattle.im_values.specs.declared.limits.TheConstants.{MOST_LINE_BYTES}
 use Rattle.im_lex.specs.Bytes.{is_blank, run, begins_comment}
 use Rattle.im_script.specs.declared.form.Form.{Form}
 use Rattle.im_script.specs.declared.form.Form.TheVariants as form
@@ -15,10 +16,6 @@ before_first b (l ∷ ls) = (b ∷ l) ∷ ls
 unfoldable pub lines_of : List ℕ → List (List ℕ)
 lines_of [] = []
 lines_of (b ∷ bs) = if b == 10 then [] ∷ lines_of bs else before_first b (lines_of bs)
-
--- no LF
-abbrev pub is_no_end : ℕ → Bool
-is_no_end b = if b == 10 then false else true
 
 -- how many blanks begin a line
 abbrev pub blanks_of : List ℕ → ℕ
@@ -56,12 +53,16 @@ form_behind blanks bs =
     else (if is_background bs then form.Background (blanks + 3)
     else form.Bare)))))
 
--- the form of a line, which has at most 1,048,576 bytes
+-- the form of a line, which may be too long to be read
 abbrev pub form_of : List ℕ → Form
-form_of line = if nat_lt 1048576 (length line) then form.Long else form_behind (blanks_of line) (drop (blanks_of line) line)
+form_of line =
+    if nat_lt MOST_LINE_BYTES (length line) then form.Long else form_behind (blanks_of line) (drop (blanks_of line) line)
 
 -- whom a line names
 abbrev pub who_of : Form → Option ℕ
 who_of (form.Session n before) = Some n
 who_of (form.Background before) = Some 0
-who_of f = None
+who_of form.Long = None
+who_of form.Skip = None
+who_of form.Race = None
+who_of form.Bare = None

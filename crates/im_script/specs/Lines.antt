@@ -1,21 +1,16 @@
 -- What the lines of a script are.
-use Rattle.std.specs.Prelude.{◌≡◌, ℕ, ◌+◌, ◌^◌, ◌<◌, ◌≤◌, nat_lt, List, [], ◌∷◌, length, drop, map, slice_index, if◌then◌else◌, Option, Some, IfSome, Result, Ok, Err}
+use Rattle.std.specs.Prelude.{◌≡◌, ℕ, ◌+◌, ◌≤◌, nat_lt, List, [], ◌∷◌, length, drop, map, slice_index, if◌then◌else◌, Option, Some, IfSome}
+use Rattle.im_values.specs.declared.limits.TheConstants.{SESSIONS}
 use Rattle.im_syntax.specs.declared.token.Token.{Token}
 use Rattle.im_syntax.specs.declared.statement.Side.{Side}
 use Rattle.im_syntax.specs.declared.statement.Side.TheVariants as side
 use Rattle.im_syntax.specs.declared.statement.Stmt.{Stmt}
 use Rattle.im_syntax.specs.Spelling.{spelling}
 use Rattle.im_syntax.specs.Rules.{IsStmtOf}
-use Rattle.im_lex.specs.declared.lexing.LexFault.{LexFault}
-use Rattle.im_lex.specs.declared.lexing.LexFault.TheVariants as lex_fault
 use Rattle.im_lex.specs.Lexing.{Lexes, IsBadAt}
-use Rattle.im_parse.specs.declared.parsing.ParseFault.{ParseFault}
-use Rattle.im_parse.specs.declared.parsing.ParseFault.TheVariants as parse_fault
 use Rattle.im_parse.specs.Parsing.{IsPlaceAmong}
 use Rattle.im_script.specs.declared.form.Form.{Form}
 use Rattle.im_script.specs.declared.form.Form.TheVariants as form
-use Rattle.im_script.specs.declared.reading.Trouble.{Trouble}
-use Rattle.im_script.specs.declared.reading.Trouble.TheVariants as trouble
 use Rattle.im_script.specs.declared.line.LineKind.{LineKind}
 use Rattle.im_script.specs.declared.line.LineKind.TheVariants as kind
 use Rattle.im_script.specs.declared.line.Line.{Line}
@@ -33,46 +28,12 @@ byte_of before long places n = if nat_lt n (length places) then before + slice_i
 
 -- What the statement part of a line says, on which side, behind so many bytes.
 pub data Says (whose : Side) (before : ℕ) (line : List ℕ) (of : Stmt → LineKind) : LineKind → Type 0 where
-  statement : (ts : List (Token × ℕ)) (s : Stmt) → Lexes 0 (drop before line) ts → IsStmtOf whose s → tokens_of ts ≡ spelling s → Says whose before line of (of s)
+  statement : (ts : List (Token × ℕ)) (s : Stmt) → Lexes 0 (drop before line) ts → IsStmtOf whose s → tokens_of ts ≡ spelling s
+      → Says whose before line of (of s)
   bad_byte : (n : ℕ) → IsBadAt 0 (drop before line) n → Says whose before line of (kind.Bad (before + n + 1))
   bad_token : (ts : List (Token × ℕ)) (n : ℕ) → Lexes 0 (drop before line) ts → IsPlaceAmong (IsStmtOf whose) (tokens_of ts) n
       → Says whose before line of (kind.Bad (byte_of before (length line) (places_of ts) n))
   no_memory : Says whose before line of kind.NoMemory
-
--- ---- why a statement part gives no statement
-
-abbrev pub trouble_of_byte : ℕ → LexFault → Trouble
-trouble_of_byte before (lex_fault.At n) = trouble.Bad (before + n + 1)
-trouble_of_byte before lex_fault.NoMemory = trouble.NoMemory
-
-abbrev pub trouble_of_place : ℕ → ℕ → List ℕ → ParseFault → Trouble
-trouble_of_place before long places (parse_fault.At n) = trouble.Bad (byte_of before long places n)
-trouble_of_place before long places parse_fault.NoMemory = trouble.NoMemory
-
--- the bytes fit 64 bits
-abbrev pub FitsByte : ℕ → LexFault → Type 0
-FitsByte before (lex_fault.At n) = before + n + 1 < 2 ^ 64
-FitsByte before lex_fault.NoMemory = Unit {0}
-
-pub record FitPlaces (before long : ℕ) (places : List ℕ) : Type 0 where
-  pub each : (n : ℕ) → byte_of before long places n < 2 ^ 64
-
-abbrev pub IsParsed : Side → ℕ → ℕ → List Token → List ℕ → Result Stmt Trouble → Type 0
-IsParsed whose before long ts places (Ok s) = IsStmtOf whose s × (ts ≡ spelling s)
-IsParsed whose before long ts places (Err trouble.NoMemory) = Unit {0}
-IsParsed whose before long ts places (Err (trouble.Bad b)) = (n : ℕ) × IsPlaceAmong (IsStmtOf whose) ts n × (b ≡ byte_of before long places n)
-
-abbrev pub kind_of_trouble : Trouble → LineKind
-kind_of_trouble (trouble.Bad b) = kind.Bad b
-kind_of_trouble trouble.NoMemory = kind.NoMemory
-
-abbrev pub kind_of : (Stmt → LineKind) → Result Stmt Trouble → LineKind
-kind_of of (Ok s) = of s
-kind_of of (Err t) = kind_of_trouble t
-
--- what the code is told of a statement part, for each side
-pub record IsTold (whose : Side) (before : ℕ) (line : List ℕ) (r : Result Stmt Trouble) : Type 0 where
-  pub says : (of : Stmt → LineKind) → Says whose before line of (kind_of of r)
 
 -- the kind of a line, by its form
 abbrev pub HasKind : Form → List ℕ → LineKind → Type 0
@@ -90,15 +51,19 @@ pub record IsLine (n : ℕ) (bytes : List ℕ) (l : Line) : Type 0 where
   pub who : l.who ≡ who_of (form_of bytes)
   pub kind : HasKind (form_of bytes) bytes l.kind
 
--- The one that speaks in a line of this kind: the session of its statement, one of 1 to 16, or the background, which has the number 0.
+-- the one that speaks in a line of this kind: the session of its statement, or the background, which has the number 0
 abbrev pub SpeaksAs : Option ℕ → LineKind → Type 0
-SpeaksAs who (kind.Session n s) = (who ≡ Some n) × (1 ≤ n) × (n ≤ 16)
+SpeaksAs who (kind.Session n s) = (who ≡ Some n) × (1 ≤ n) × (n ≤ SESSIONS)
 SpeaksAs who (kind.Background s) = who ≡ Some 0
-SpeaksAs who k = Unit {0}
+SpeaksAs who kind.Skip = Unit {0}
+SpeaksAs who kind.Race = Unit {0}
+SpeaksAs who (kind.Long length) = Unit {0}
+SpeaksAs who (kind.Bad byte) = Unit {0}
+SpeaksAs who kind.NoMemory = Unit {0}
 
--- A line names a session from 1 to 16, or the background by 0, or nobody; and its statement is that one's.
+-- A line names a session, or the background by 0, or nobody; and its statement is that one's.
 pub record NamesOneOf16 (l : Line) : Type 0 where
-  pub who : IfSome l.who (λ n. n ≤ 16)
+  pub who : IfSome l.who (λ n. n ≤ SESSIONS)
   pub speaks : SpeaksAs l.who l.kind
 
 -- each line is that of its bytes, numbered from n

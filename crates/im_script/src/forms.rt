@@ -1,14 +1,12 @@
-ghost use Rattle.std.specs.Prelude.{◌≡◌, ◌≤◌, length, drop, slice_index};
+ghost use Rattle.std.specs.Prelude.{◌≡◌, ◌≤◌, length, slice_index};
 ghost use Rattle.std.specs.List.{list_all};
 ghost use Rattle.im_lex.specs.Bytes as bytes_of;
 ghost use Rattle.im_script.specs.Forms as forms;
-ghost use Rattle.im_script.specs.Lines.{AreLines};
+ghost use Rattle.im_values.specs.declared.limits.TheConstants.{MOST_LINE_BYTES};
 
 use crate::form::Form;
 use im_lex::{begins_comment, is_blank};
-
-/// The most bytes of a line that is read.
-pub const LONGEST_LINE: usize = 1_048_576;
+use im_values::limits::MOST_LINE_BYTES;
 
 /// How many blanks begin a line.
 pub fn blanks(line: &[u8]) -> usize
@@ -78,7 +76,7 @@ fn is_background(bytes: &[u8]) -> bool
 
 /// The form of a line by what stands behind its blanks, of which there are so many.
 fn form_behind(blanks: usize, bytes: &[u8]) -> Form
-    requires { blanks ≤ 1048576 }
+    requires { blanks ≤ MOST_LINE_BYTES }
     ensures { result ≡ forms.form_behind blanks bytes.now }
 {
     if bytes.is_empty() {
@@ -112,7 +110,7 @@ fn form_behind(blanks: usize, bytes: &[u8]) -> Form
 pub fn form(line: &[u8]) -> Form
     ensures { result ≡ forms.form_of line.now }
 {
-    if line.len() > LONGEST_LINE {
+    if line.len() > MOST_LINE_BYTES {
         return Form::Long;
     }
     let blanks = blanks(line);

@@ -3,17 +3,20 @@
 //! A script is cut at each LF; every line counts. A line is too long, nothing (blanks or a comment), the line that ends a
 //! prelude, or a prefix with a statement behind it (`specs/Forms.antt`). What the statement part says is a relation over
 //! the tokens and the statements of its side (`Says`, in `specs/Lines.antt`). [`lines`] gives the line of each piece, in
-//! order. A line that lacks memory says so by its kind, which no line without a statement part does.
+//! order; a caller that goes line by line cuts by [`first_line`] and reads by [`line_of`]. A line for which memory ran out
+//! says so by its kind, which no line without a statement part does.
 //!
 //! Start with `line.rt`, then `specs/Forms.antt` and `specs/Lines.antt`.
 #![tactic(auto)]
 
+mod cut;
 mod form;
 mod forms;
 mod line;
 mod reading;
 mod script;
 
+pub use cut::first_line;
 pub use line::{Line, LineKind};
 pub use reading::line_of;
 pub use script::{lines, one_kind};

@@ -1,8 +1,9 @@
-ghost use Rattle.std.specs.Prelude.{◌≡◌, ◌+◌, ◌≤◌, ◌<◌, ◌^◌, length, drop, IfOk, map};
+ghost use Rattle.std.specs.Prelude.{◌≡◌, ◌+◌, ◌≤◌, ◌<◌, ◌^◌, length, IfOk};
 ghost use Rattle.im_syntax.specs.declared.statement.Side.TheVariants as side;
 ghost use Rattle.im_script.specs.declared.line.LineKind.TheVariants as kind;
 ghost use Rattle.im_script.specs.Forms as forms;
 ghost use Rattle.im_script.specs.Lines as lines_are;
+ghost use Rattle.im_script.specs.inner.Troubles as troubles;
 
 use crate::form::Form;
 use crate::forms::{first, form, who};
@@ -54,8 +55,8 @@ pub enum Trouble {
 }
 
 fn trouble_of_byte(before: usize, fault: LexFault) -> Trouble
-    requires { lines_are.FitsByte before fault }
-    ensures { result ≡ lines_are.trouble_of_byte before fault }
+    requires { troubles.FitsByte before fault }
+    ensures { result ≡ troubles.trouble_of_byte before fault }
 {
     match fault {
         LexFault::At(at) => Trouble::Bad(before as u64 + at + 1),
@@ -64,8 +65,8 @@ fn trouble_of_byte(before: usize, fault: LexFault) -> Trouble
 }
 
 fn trouble_of_place(before: usize, long: usize, places: &[u64], fault: ParseFault) -> Trouble
-    requires { lines_are.FitPlaces before long places.now }
-    ensures { result ≡ lines_are.trouble_of_place before long places.now fault }
+    requires { troubles.FitPlaces before long places.now }
+    ensures { result ≡ troubles.trouble_of_place before long places.now fault }
 {
     match fault {
         ParseFault::At(n) => Trouble::Bad(byte_of(before, long, places, n)),
@@ -81,8 +82,8 @@ fn parsed(
     long: usize,
     parted: Parted,
 ) -> Result<Stmt, Trouble>
-    requires { lines_are.FitPlaces before long parted.places.items }
-    ensures { lines_are.IsParsed side before long parted.tokens.items parted.places.items result }
+    requires { troubles.FitPlaces before long parted.places.items }
+    ensures { troubles.IsParsed side before long parted.tokens.items parted.places.items result }
 {
     match parse_for(alloc, side, parted.tokens.as_slice()) {
         Ok(stmt) => Ok(stmt),
@@ -94,7 +95,7 @@ fn parsed(
 fn statement(alloc: Global, side: Side, before: usize, line: &[u8]) -> Result<Stmt, Trouble>
     requires within { before ≤ length line.now }
     requires short { length line.now < 2 ^ 32 }
-    ensures { lines_are.IsTold side before line.now result }
+    ensures { troubles.IsTold side before line.now result }
 {
     match tokens(alloc, behind(line, before)) {
         Ok(lexed) => match part(alloc, lexed) {
@@ -106,7 +107,7 @@ fn statement(alloc: Global, side: Side, before: usize, line: &[u8]) -> Result<St
 }
 
 fn kind_of_trouble(trouble: Trouble) -> LineKind
-    ensures { result ≡ lines_are.kind_of_trouble trouble }
+    ensures { result ≡ troubles.kind_of_trouble trouble }
 {
     match trouble {
         Trouble::Bad(byte) => LineKind::Bad(byte),
@@ -152,11 +153,11 @@ fn kind_of_form(alloc: Global, form: Form, line: &[u8]) -> LineKind
 
 /// The line of these bytes, with its number.
 ///
-/// A line that lacks memory has the kind NoMemory.
+/// A line for which memory ran out has the kind NoMemory.
 pub fn line_of(alloc: Global, number: u64, line: &[u8]) -> Line
     // It is the line of its bytes.
     ensures is { lines_are.IsLine number line.now result }
-    // It names a session from 1 to 16, the background by 0, or nobody.
+    // It names a session, the background by 0, or nobody.
     ensures names { lines_are.NamesOneOf16 result }
 {
     let form = form(line);

@@ -1,71 +1,14 @@
--- The words that the language keeps for itself.
-use Rattle.std.specs.Prelude.{ℕ, List, codes}
+-- The words that the language keeps for itself, by the table of the code.
+use Rattle.std.specs.Prelude.{ℕ, List, [], ◌∷◌, map, Option, Some, None, cond}
+use Rattle.std.specs.Str.{bytes_eq}
 use Rattle.im_syntax.specs.declared.keyword.Keyword.{Keyword}
-use Rattle.im_syntax.specs.declared.keyword.Keyword.TheVariants as key
+use Rattle.im_syntax.specs.declared.keyword.TheConstants.{KEYWORDS}
 
--- the letters of a keyword
-abbrev pub text_of : Keyword → List ℕ
-text_of key.Alter = codes "ALTER"
-text_of key.And = codes "AND"
-text_of key.Asc = codes "ASC"
-text_of key.Begin = codes "BEGIN"
-text_of key.Between = codes "BETWEEN"
-text_of key.Block = codes "BLOCK"
-text_of key.By = codes "BY"
-text_of key.Cancel = codes "CANCEL"
-text_of key.Close = codes "CLOSE"
-text_of key.Commit = codes "COMMIT"
-text_of key.Committed = codes "COMMITTED"
-text_of key.Count = codes "COUNT"
-text_of key.Create = codes "CREATE"
-text_of key.Critical = codes "CRITICAL"
-text_of key.Delete = codes "DELETE"
-text_of key.Desc = codes "DESC"
-text_of key.Evict = codes "EVICT"
-text_of key.Explain = codes "EXPLAIN"
-text_of key.Extent = codes "EXTENT"
-text_of key.Fetch = codes "FETCH"
-text_of key.For = codes "FOR"
-text_of key.From = codes "FROM"
-text_of key.Group = codes "GROUP"
-text_of key.High = codes "HIGH"
-text_of key.In = codes "IN"
-text_of key.InMemory = codes "INMEMORY"
-text_of key.Insert = codes "INSERT"
-text_of key.Integer = codes "INTEGER"
-text_of key.Into = codes "INTO"
-text_of key.Is = codes "IS"
-text_of key.Isolation = codes "ISOLATION"
-text_of key.Level = codes "LEVEL"
-text_of key.Low = codes "LOW"
-text_of key.Max = codes "MAX"
-text_of key.Medium = codes "MEDIUM"
-text_of key.MemCompress = codes "MEMCOMPRESS"
-text_of key.Min = codes "MIN"
-text_of key.No = codes "NO"
-text_of key.None = codes "NONE"
-text_of key.Not = codes "NOT"
-text_of key.Null = codes "NULL"
-text_of key.Number = codes "NUMBER"
-text_of key.Only = codes "ONLY"
-text_of key.Open = codes "OPEN"
-text_of key.Or = codes "OR"
-text_of key.Order = codes "ORDER"
-text_of key.Priority = codes "PRIORITY"
-text_of key.Query = codes "QUERY"
-text_of key.Read = codes "READ"
-text_of key.Rollback = codes "ROLLBACK"
-text_of key.Run = codes "RUN"
-text_of key.Select = codes "SELECT"
-text_of key.Serializable = codes "SERIALIZABLE"
-text_of key.Set = codes "SET"
-text_of key.Step = codes "STEP"
-text_of key.Sum = codes "SUM"
-text_of key.Switch = codes "SWITCH"
-text_of key.Table = codes "TABLE"
-text_of key.Transaction = codes "TRANSACTION"
-text_of key.Trickle = codes "TRICKLE"
-text_of key.Update = codes "UPDATE"
-text_of key.Values = codes "VALUES"
-text_of key.Varchar2 = codes "VARCHAR2"
-text_of key.Where = codes "WHERE"
+-- the first entry of a table that has these letters
+abbrev pub look_up : List (List ℕ × Keyword) → List ℕ → Option Keyword
+look_up [] word = None
+look_up (entry ∷ entries) word = cond (bytes_eq entry.0 word) (Some entry.1) (look_up entries word)
+
+-- the keyword of these letters, where they are one's
+unfoldable pub keyword_of : List ℕ → Option Keyword
+keyword_of = look_up (map (λ entry. (entry.0.now, entry.1)) KEYWORDS)

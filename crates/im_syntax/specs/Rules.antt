@@ -1,7 +1,9 @@
 -- Which values of the syntax are statements: what names, numbers and lists must be, and how deep a condition nests.
-use Rattle.std.specs.Prelude.{◌≡◌, ℕ, zero, suc, ◌≤◌, List, Option}
+use Rattle.std.specs.Prelude.{◌≡◌, ℕ, zero, suc, ◌-◌, ◌≤◌, List, Option}
 use Rattle.std.specs.List.{AllByRecursion}
 use Rattle.im_readers.specs.Grammar.{Any, GoodOptional, GoodJoined, GoodJoinedUpTo}
+use Rattle.im_values.specs.declared.limits.TheConstants.{MOST_COLUMNS, MOST_IN_SHAPE, MOST_LEVELS}
+use Rattle.im_syntax.specs.declared.limits.TheConstants.{MOST_TEXT_BYTES, LAST_CURSOR, MOST_CREDITS, LAST_EXTENT}
 use Rattle.im_syntax.specs.declared.literal.Lit.{Lit}
 use Rattle.im_syntax.specs.declared.table.KindWord.{KindWord}
 use Rattle.im_syntax.specs.declared.table.KindWord.TheVariants as kind
@@ -29,10 +31,6 @@ abbrev pub IsTuple : List Lit → Type 0
 IsTuple = GoodJoined Any
 
 -- ---- conditions
-
--- NOT and parentheses may nest so deep in a condition
-abbrev pub deepest : ℕ
-deepest = 64
 
 -- a term in which they nest at most d deep, and lists of such terms
 abbrev mutual
@@ -65,7 +63,7 @@ abbrev mutual
   AreConjs d (or_conj c cs) = IsConj d c × AreConjs d cs
 
 abbrev pub IsWhere : Option (CondOf (List ℕ) Lit) → Type 0
-IsWhere = GoodOptional (IsCond deepest)
+IsWhere = GoodOptional (IsCond MOST_LEVELS)
 
 -- ---- queries
 
@@ -96,17 +94,17 @@ pub record IsQuery (q : Query) : Type 0 where
 abbrev pub IsKind : KindWord → Type 0
 IsKind kind.Number = Unit {0}
 IsKind kind.Integer = Unit {0}
-IsKind (kind.Varchar2 n) = IsWithin 1 255 n
+IsKind (kind.Varchar2 n) = IsWithin 1 MOST_TEXT_BYTES n
 
 abbrev pub IsColumn : ColumnPart → Type 0
 IsColumn c = IsName c.name × IsKind c.kind
 
--- a table of 1 to 16 columns
+-- a table has one column or more
 pub record IsCreate (n : List ℕ) (cs : List ColumnPart) (b e : Option ℕ) : Type 0 where
   pub name : IsName n
-  pub columns : GoodJoinedUpTo 15 IsColumn cs
-  pub block : GoodOptional (IsWithin 1 64) b
-  pub extent : GoodOptional (IsWithin 1 64) e
+  pub columns : GoodJoinedUpTo (MOST_COLUMNS - 1) IsColumn cs
+  pub block : GoodOptional (IsWithin 1 MOST_IN_SHAPE) b
+  pub extent : GoodOptional (IsWithin 1 MOST_IN_SHAPE) e
 
 pub record IsInsert (n : List ℕ) (cs : List (List ℕ)) (ts : List (List Lit)) : Type 0 where
   pub name : IsName n
@@ -137,26 +135,42 @@ IsStmt stmt.SetSerializable = Unit {0}
 IsStmt stmt.SetCommitted = Unit {0}
 IsStmt stmt.Commit = Unit {0}
 IsStmt stmt.Rollback = Unit {0}
-IsStmt (stmt.OpenFor cursor q) = IsWithin 1 999 cursor × IsQuery q
-IsStmt (stmt.Step cursor) = IsWithin 1 999 cursor
-IsStmt (stmt.Fetch cursor) = IsWithin 1 999 cursor
-IsStmt (stmt.Close cursor) = IsWithin 1 999 cursor
+IsStmt (stmt.OpenFor cursor q) = IsWithin 1 LAST_CURSOR cursor × IsQuery q
+IsStmt (stmt.Step cursor) = IsWithin 1 LAST_CURSOR cursor
+IsStmt (stmt.Fetch cursor) = IsWithin 1 LAST_CURSOR cursor
+IsStmt (stmt.Close cursor) = IsWithin 1 LAST_CURSOR cursor
 IsStmt stmt.Run = Unit {0}
 IsStmt stmt.Begin = Unit {0}
 IsStmt stmt.Switch = Unit {0}
 IsStmt stmt.Cancel = Unit {0}
-IsStmt (stmt.Trickle n) = IsWithin 1 1000000 n
-IsStmt (stmt.Evict name extent) = IsName name × IsWithin 0 4294967295 extent
+IsStmt (stmt.Trickle n) = IsWithin 1 MOST_CREDITS n
+IsStmt (stmt.Evict name extent) = IsName name × IsWithin 0 LAST_EXTENT extent
 
 -- whose statement it is
 abbrev pub side_of : Stmt → Side
+side_of (stmt.Select q) = side.Session
+side_of (stmt.Explain q) = side.Session
+side_of (stmt.Create name columns block extent memory) = side.Session
+side_of (stmt.AlterMemory name memory) = side.Session
+side_of (stmt.AlterNoMemory name) = side.Session
+side_of (stmt.Insert name columns tuples) = side.Session
+side_of (stmt.Update name sets cond) = side.Session
+side_of (stmt.Delete name cond) = side.Session
+side_of stmt.SetReadOnly = side.Session
+side_of stmt.SetSerializable = side.Session
+side_of stmt.SetCommitted = side.Session
+side_of stmt.Commit = side.Session
+side_of stmt.Rollback = side.Session
+side_of (stmt.OpenFor cursor q) = side.Session
+side_of (stmt.Step cursor) = side.Session
+side_of (stmt.Fetch cursor) = side.Session
+side_of (stmt.Close cursor) = side.Session
 side_of stmt.Run = side.Background
 side_of stmt.Begin = side.Background
 side_of stmt.Switch = side.Background
 side_of stmt.Cancel = side.Background
 side_of (stmt.Trickle n) = side.Background
 side_of (stmt.Evict name extent) = side.Background
-side_of s = side.Session
 
 -- a statement of one side
 pub record IsStmtOf (whose : Side) (s : Stmt) : Type 0 where

@@ -27,12 +27,11 @@ use Rattle.im_syntax.specs.declared.query.ListPart.TheVariants as list
 use Rattle.im_syntax.specs.declared.query.Query.{Query}
 use Rattle.im_syntax.specs.declared.statement.Stmt.{Stmt}
 use Rattle.im_syntax.specs.declared.statement.Stmt.TheVariants as stmt
-use Rattle.im_syntax.specs.Keywords.{text_of}
 use Rattle.im_syntax.specs.Condition.{TermOf, negation, nested, comparison, null_test, between, within, ConjOf, no_term, and_term, CondOf, no_conj, or_conj}
 
 -- the token of a keyword, of a sign and of a number
 abbrev pub word : Keyword → Token
-word k = token.Word (text_of k)
+word = token.Keyword
 
 abbrev pub comma : Token
 comma = token.Sign sign.Comma
@@ -184,7 +183,8 @@ spelling (stmt.Select q) = spell_query q
 spelling (stmt.Explain q) = word key.Explain ∷ spell_query q
 spelling (stmt.Create name columns block extent memory) =
     word key.Create ∷ word key.Table ∷ token.Word name
-    ∷ (in_parens (spell_joined comma spell_column columns) ++ (spell_option key.Block block ++ (spell_option key.Extent extent ++ spell_optional spell_memory memory)))
+    ∷ (in_parens (spell_joined comma spell_column columns) ++
+        (spell_option key.Block block ++ (spell_option key.Extent extent ++ spell_optional spell_memory memory)))
 spelling (stmt.AlterMemory name memory) = word key.Alter ∷ word key.Table ∷ token.Word name ∷ spell_memory memory
 spelling (stmt.AlterNoMemory name) = word key.Alter ∷ word key.Table ∷ token.Word name ∷ word key.No ∷ word key.InMemory ∷ []
 spelling (stmt.Insert name columns tuples) =

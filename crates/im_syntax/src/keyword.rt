@@ -1,5 +1,5 @@
-ghost use Rattle.std.specs.Prelude.{◌≡◌, ◌≢◌, MatchOption};
-ghost use Rattle.im_syntax.specs.Keywords.{text_of};
+ghost use Rattle.std.specs.Prelude.{◌≡◌, map};
+ghost use Rattle.im_syntax.specs.Keywords as keywords;
 
 /// A word that the language keeps for itself: it names no table and no column.
 #[derive(Clone, Copy, Debug, PartialEq, Eq)]
@@ -70,157 +70,92 @@ pub enum Keyword {
     Where,
 }
 
-impl Keyword {
-    const ALL: [Keyword; 64] = [
-        Keyword::Alter,
-        Keyword::And,
-        Keyword::Asc,
-        Keyword::Begin,
-        Keyword::Between,
-        Keyword::Block,
-        Keyword::By,
-        Keyword::Cancel,
-        Keyword::Close,
-        Keyword::Commit,
-        Keyword::Committed,
-        Keyword::Count,
-        Keyword::Create,
-        Keyword::Critical,
-        Keyword::Delete,
-        Keyword::Desc,
-        Keyword::Evict,
-        Keyword::Explain,
-        Keyword::Extent,
-        Keyword::Fetch,
-        Keyword::For,
-        Keyword::From,
-        Keyword::Group,
-        Keyword::High,
-        Keyword::In,
-        Keyword::InMemory,
-        Keyword::Insert,
-        Keyword::Integer,
-        Keyword::Into,
-        Keyword::Is,
-        Keyword::Isolation,
-        Keyword::Level,
-        Keyword::Low,
-        Keyword::Max,
-        Keyword::Medium,
-        Keyword::MemCompress,
-        Keyword::Min,
-        Keyword::No,
-        Keyword::None,
-        Keyword::Not,
-        Keyword::Null,
-        Keyword::Number,
-        Keyword::Only,
-        Keyword::Open,
-        Keyword::Or,
-        Keyword::Order,
-        Keyword::Priority,
-        Keyword::Query,
-        Keyword::Read,
-        Keyword::Rollback,
-        Keyword::Run,
-        Keyword::Select,
-        Keyword::Serializable,
-        Keyword::Set,
-        Keyword::Step,
-        Keyword::Sum,
-        Keyword::Switch,
-        Keyword::Table,
-        Keyword::Transaction,
-        Keyword::Trickle,
-        Keyword::Update,
-        Keyword::Values,
-        Keyword::Varchar2,
-        Keyword::Where,
-    ];
+/// The keywords by their letters, which are capitals.
+pub const KEYWORDS: [(&[u8], Keyword); 64] = [
+    (b"ALTER", Keyword::Alter),
+    (b"AND", Keyword::And),
+    (b"ASC", Keyword::Asc),
+    (b"BEGIN", Keyword::Begin),
+    (b"BETWEEN", Keyword::Between),
+    (b"BLOCK", Keyword::Block),
+    (b"BY", Keyword::By),
+    (b"CANCEL", Keyword::Cancel),
+    (b"CLOSE", Keyword::Close),
+    (b"COMMIT", Keyword::Commit),
+    (b"COMMITTED", Keyword::Committed),
+    (b"COUNT", Keyword::Count),
+    (b"CREATE", Keyword::Create),
+    (b"CRITICAL", Keyword::Critical),
+    (b"DELETE", Keyword::Delete),
+    (b"DESC", Keyword::Desc),
+    (b"EVICT", Keyword::Evict),
+    (b"EXPLAIN", Keyword::Explain),
+    (b"EXTENT", Keyword::Extent),
+    (b"FETCH", Keyword::Fetch),
+    (b"FOR", Keyword::For),
+    (b"FROM", Keyword::From),
+    (b"GROUP", Keyword::Group),
+    (b"HIGH", Keyword::High),
+    (b"IN", Keyword::In),
+    (b"INMEMORY", Keyword::InMemory),
+    (b"INSERT", Keyword::Insert),
+    (b"INTEGER", Keyword::Integer),
+    (b"INTO", Keyword::Into),
+    (b"IS", Keyword::Is),
+    (b"ISOLATION", Keyword::Isolation),
+    (b"LEVEL", Keyword::Level),
+    (b"LOW", Keyword::Low),
+    (b"MAX", Keyword::Max),
+    (b"MEDIUM", Keyword::Medium),
+    (b"MEMCOMPRESS", Keyword::MemCompress),
+    (b"MIN", Keyword::Min),
+    (b"NO", Keyword::No),
+    (b"NONE", Keyword::None),
+    (b"NOT", Keyword::Not),
+    (b"NULL", Keyword::Null),
+    (b"NUMBER", Keyword::Number),
+    (b"ONLY", Keyword::Only),
+    (b"OPEN", Keyword::Open),
+    (b"OR", Keyword::Or),
+    (b"ORDER", Keyword::Order),
+    (b"PRIORITY", Keyword::Priority),
+    (b"QUERY", Keyword::Query),
+    (b"READ", Keyword::Read),
+    (b"ROLLBACK", Keyword::Rollback),
+    (b"RUN", Keyword::Run),
+    (b"SELECT", Keyword::Select),
+    (b"SERIALIZABLE", Keyword::Serializable),
+    (b"SET", Keyword::Set),
+    (b"STEP", Keyword::Step),
+    (b"SUM", Keyword::Sum),
+    (b"SWITCH", Keyword::Switch),
+    (b"TABLE", Keyword::Table),
+    (b"TRANSACTION", Keyword::Transaction),
+    (b"TRICKLE", Keyword::Trickle),
+    (b"UPDATE", Keyword::Update),
+    (b"VALUES", Keyword::Values),
+    (b"VARCHAR2", Keyword::Varchar2),
+    (b"WHERE", Keyword::Where),
+];
 
-    /// The keyword's letters, in capitals.
-    pub fn text(self) -> &'static [u8]
-        ensures { result.now ≡ text_of self }
-    {
-        match self {
-            Keyword::Alter => b"ALTER",
-            Keyword::And => b"AND",
-            Keyword::Asc => b"ASC",
-            Keyword::Begin => b"BEGIN",
-            Keyword::Between => b"BETWEEN",
-            Keyword::Block => b"BLOCK",
-            Keyword::By => b"BY",
-            Keyword::Cancel => b"CANCEL",
-            Keyword::Close => b"CLOSE",
-            Keyword::Commit => b"COMMIT",
-            Keyword::Committed => b"COMMITTED",
-            Keyword::Count => b"COUNT",
-            Keyword::Create => b"CREATE",
-            Keyword::Critical => b"CRITICAL",
-            Keyword::Delete => b"DELETE",
-            Keyword::Desc => b"DESC",
-            Keyword::Evict => b"EVICT",
-            Keyword::Explain => b"EXPLAIN",
-            Keyword::Extent => b"EXTENT",
-            Keyword::Fetch => b"FETCH",
-            Keyword::For => b"FOR",
-            Keyword::From => b"FROM",
-            Keyword::Group => b"GROUP",
-            Keyword::High => b"HIGH",
-            Keyword::In => b"IN",
-            Keyword::InMemory => b"INMEMORY",
-            Keyword::Insert => b"INSERT",
-            Keyword::Integer => b"INTEGER",
-            Keyword::Into => b"INTO",
-            Keyword::Is => b"IS",
-            Keyword::Isolation => b"ISOLATION",
-            Keyword::Level => b"LEVEL",
-            Keyword::Low => b"LOW",
-            Keyword::Max => b"MAX",
-            Keyword::Medium => b"MEDIUM",
-            Keyword::MemCompress => b"MEMCOMPRESS",
-            Keyword::Min => b"MIN",
-            Keyword::No => b"NO",
-            Keyword::None => b"NONE",
-            Keyword::Not => b"NOT",
-            Keyword::Null => b"NULL",
-            Keyword::Number => b"NUMBER",
-            Keyword::Only => b"ONLY",
-            Keyword::Open => b"OPEN",
-            Keyword::Or => b"OR",
-            Keyword::Order => b"ORDER",
-            Keyword::Priority => b"PRIORITY",
-            Keyword::Query => b"QUERY",
-            Keyword::Read => b"READ",
-            Keyword::Rollback => b"ROLLBACK",
-            Keyword::Run => b"RUN",
-            Keyword::Select => b"SELECT",
-            Keyword::Serializable => b"SERIALIZABLE",
-            Keyword::Set => b"SET",
-            Keyword::Step => b"STEP",
-            Keyword::Sum => b"SUM",
-            Keyword::Switch => b"SWITCH",
-            Keyword::Table => b"TABLE",
-            Keyword::Transaction => b"TRANSACTION",
-            Keyword::Trickle => b"TRICKLE",
-            Keyword::Update => b"UPDATE",
-            Keyword::Values => b"VALUES",
-            Keyword::Varchar2 => b"VARCHAR2",
-            Keyword::Where => b"WHERE",
+fn look_up(mut table: &[(&[u8], Keyword)], word: &[u8]) -> Option<Keyword>
+    ensures { result ≡ keywords.look_up (map (λ entry. (entry.0.now, entry.1)) table.entry.now) word.now }
+{
+    while let [entry, rest @ ..] = table {
+        if entry.0 == word {
+            return Some(entry.1);
         }
+        table = rest;
     }
+    None
+}
 
-    /// The keyword of these letters, which are capitals.
+impl Keyword {
+    /// The keyword of these letters.
+    #[tactic(auto, unfolding(crate::specs::Keywords::keyword_of))]
     pub fn of(word: &[u8]) -> Option<Keyword>
-        ensures { MatchOption result
-            ((k : Keyword) → word.now ≢ text_of k)
-            (λ k. word.now ≡ text_of k) }
+        ensures { result ≡ keywords.keyword_of word.now }
     {
-        for keyword in Self::ALL.iter() {
-            if word == keyword.text() {
-                return Some(*keyword);
-            }
-        }
-        None
+        look_up(&KEYWORDS, word)
     }
 }

@@ -13,6 +13,7 @@ mod bound;
 mod bound_filter;
 mod condition;
 mod keyword;
+pub mod limits;
 mod literal;
 mod query;
 mod spell_condition;
@@ -37,7 +38,7 @@ pub use spell_statement::spell;
 pub use statement::{Side, Stmt};
 pub use table::{ColumnPart, KindWord, MemoryPart};
 pub use token::{Sign, Token};
-pub use word::{LONGEST_WORD, is_name, is_word, is_word_byte};
+pub use word::{is_name, is_word, is_word_byte};
 
 #[cfg(test)]
 mod tests;

@@ -21,30 +21,25 @@ fn sign_of(cmp: Cmp) -> Sign
     }
 }
 
-fn put_not(alloc: Global, out: &mut Vec<Token>, negated: bool) -> Result<(), NoMemory>
+fn put_not(out: &mut Vec<Token>, negated: bool) -> Result<(), NoMemory>
     ensures { OnOk result (out.new.items ≡ out.old.items ++ spelled.spell_not negated) }
 {
     if negated {
-        put_word(alloc, out, Keyword::Not)
+        put_word(out, Keyword::Not)
     } else {
         Ok(())
     }
 }
 
 /// The word that stands before each part but the first.
-fn put_between(
-    alloc: Global,
-    out: &mut Vec<Token>,
-    keyword: Keyword,
-    index: usize,
-) -> Result<(), NoMemory>
+fn put_between(out: &mut Vec<Token>, keyword: Keyword, index: usize) -> Result<(), NoMemory>
     ensures { OnOk result (out.new.items
         ≡ out.old.items ++ (if index == 0 then [] else (spelled.word keyword ∷ []))) }
 {
     if index == 0 {
         Ok(())
     } else {
-        put_word(alloc, out, keyword)
+        put_word(out, keyword)
     }
 }
 
@@ -54,7 +49,7 @@ fn put_term(alloc: Global, out: &mut Vec<Token>, term: &Term) -> Result<(), NoMe
 {
     match term.form() {
         TermForm::Not(term) => {
-            put_word(alloc, out, Keyword::Not)?;
+            put_word(out, Keyword::Not)?;
             put_term(alloc, out, term)
         }
         TermForm::Nest(cond) => {
@@ -69,9 +64,9 @@ fn put_term(alloc: Global, out: &mut Vec<Token>, term: &Term) -> Result<(), NoMe
         }
         TermForm::IsNull { column, negated } => {
             put_name(alloc, out, column)?;
-            put_word(alloc, out, Keyword::Is)?;
-            put_not(alloc, out, *negated)?;
-            put_word(alloc, out, Keyword::Null)
+            put_word(out, Keyword::Is)?;
+            put_not(out, *negated)?;
+            put_word(out, Keyword::Null)
         }
         TermForm::Between {
             column,
@@ -80,10 +75,10 @@ fn put_term(alloc: Global, out: &mut Vec<Token>, term: &Term) -> Result<(), NoMe
             high,
         } => {
             put_name(alloc, out, column)?;
-            put_not(alloc, out, *negated)?;
-            put_word(alloc, out, Keyword::Between)?;
+            put_not(out, *negated)?;
+            put_word(out, Keyword::Between)?;
             put_lit(alloc, out, low)?;
-            put_word(alloc, out, Keyword::And)?;
+            put_word(out, Keyword::And)?;
             put_lit(alloc, out, high)
         }
         TermForm::Within {
@@ -92,8 +87,8 @@ fn put_term(alloc: Global, out: &mut Vec<Token>, term: &Term) -> Result<(), NoMe
             values,
         } => {
             put_name(alloc, out, column)?;
-            put_not(alloc, out, *negated)?;
-            put_word(alloc, out, Keyword::In)?;
+            put_not(out, *negated)?;
+            put_word(out, Keyword::In)?;
             put_in_parens(alloc, out, values.items())
         }
     }
@@ -104,7 +99,7 @@ fn put_conj(alloc: Global, out: &mut Vec<Token>, conj: &Conj) -> Result<(), NoMe
     ensures { OnOk result (out.new.items ≡ out.old.items ++ spelled.spell_conj conj.now) }
 {
     for (i, term) in conj.terms().iter().enumerate() {
-        put_between(alloc, out, Keyword::And, i)?;
+        put_between(out, Keyword::And, i)?;
         put_term(alloc, out, term)?;
     }
     Ok(())
@@ -116,7 +111,7 @@ pub fn put_cond(alloc: Global, out: &mut Vec<Token>, cond: &Cond) -> Result<(), 
     ensures { OnOk result (out.new.items ≡ out.old.items ++ spelled.spell_cond cond.now) }
 {
     for (i, conj) in cond.lists().iter().enumerate() {
-        put_between(alloc, out, Keyword::Or, i)?;
+        put_between(out, Keyword::Or, i)?;
         put_conj(alloc, out, conj)?;
     }
     Ok(())

@@ -20,7 +20,7 @@ fn put_column_of(
     ensures { OnOk result (out.new.items
         ≡ out.old.items ++ spelled.word aggregate ∷ spelled.in_parens (token.Word column.now ∷ [])) }
 {
-    put_word(alloc, out, aggregate)?;
+    put_word(out, aggregate)?;
     put_sign(out, Sign::LeftParen)?;
     put_name(alloc, out, column)?;
     put_sign(out, Sign::RightParen)
@@ -33,7 +33,7 @@ impl Spelled for ItemPart {
         match self {
             ItemPart::Column(column) => put_name(alloc, out, column),
             ItemPart::CountAll => {
-                put_word(alloc, out, Keyword::Count)?;
+                put_word(out, Keyword::Count)?;
                 put_sign(out, Sign::LeftParen)?;
                 put_sign(out, Sign::Star)?;
                 put_sign(out, Sign::RightParen)
@@ -46,13 +46,13 @@ impl Spelled for ItemPart {
     }
 }
 
-fn put_way(alloc: Global, out: &mut Vec<Token>, way: Way) -> Result<(), NoMemory>
+fn put_way(out: &mut Vec<Token>, way: Way) -> Result<(), NoMemory>
     ensures { OnOk result (out.new.items ≡ out.old.items ++ spelled.spell_way way) }
 {
     match way {
         Way::Unsaid => Ok(()),
-        Way::Asc => put_word(alloc, out, Keyword::Asc),
-        Way::Desc => put_word(alloc, out, Keyword::Desc),
+        Way::Asc => put_word(out, Keyword::Asc),
+        Way::Desc => put_word(out, Keyword::Desc),
     }
 }
 
@@ -61,7 +61,7 @@ impl Spelled for KeyPart {
 
     fn put(&self, alloc: Global, out: &mut Vec<Token>) -> Result<(), NoMemory> {
         self.item.put(alloc, out)?;
-        put_way(alloc, out, self.way)
+        put_way(out, self.way)
     }
 }
 
@@ -81,7 +81,7 @@ pub fn put_where(alloc: Global, out: &mut Vec<Token>, cond: &Option<Cond>) -> Re
     match cond {
         None => Ok(()),
         Some(cond) => {
-            put_word(alloc, out, Keyword::Where)?;
+            put_word(out, Keyword::Where)?;
             put_cond(alloc, out, cond)
         }
     }
@@ -93,8 +93,8 @@ fn put_groups(alloc: Global, out: &mut Vec<Token>, groups: &[Name]) -> Result<()
     match groups {
         [] => Ok(()),
         [_, ..] => {
-            put_word(alloc, out, Keyword::Group)?;
-            put_word(alloc, out, Keyword::By)?;
+            put_word(out, Keyword::Group)?;
+            put_word(out, Keyword::By)?;
             put_list(alloc, out, groups)
         }
     }
@@ -106,8 +106,8 @@ fn put_keys(alloc: Global, out: &mut Vec<Token>, keys: &[KeyPart]) -> Result<(),
     match keys {
         [] => Ok(()),
         [_, ..] => {
-            put_word(alloc, out, Keyword::Order)?;
-            put_word(alloc, out, Keyword::By)?;
+            put_word(out, Keyword::Order)?;
+            put_word(out, Keyword::By)?;
             put_list(alloc, out, keys)
         }
     }
@@ -117,9 +117,9 @@ fn put_keys(alloc: Global, out: &mut Vec<Token>, keys: &[KeyPart]) -> Result<(),
 pub fn put_query(alloc: Global, out: &mut Vec<Token>, query: &Query) -> Result<(), NoMemory>
     ensures { OnOk result (out.new.items ≡ out.old.items ++ spelled.spell_query query.now) }
 {
-    put_word(alloc, out, Keyword::Select)?;
+    put_word(out, Keyword::Select)?;
     put_select_list(alloc, out, &query.list)?;
-    put_word(alloc, out, Keyword::From)?;
+    put_word(out, Keyword::From)?;
     put_name(alloc, out, &query.table)?;
     put_where(alloc, out, &query.cond)?;
     put_groups(alloc, out, query.groups.items())?;

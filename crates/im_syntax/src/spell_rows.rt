@@ -41,11 +41,11 @@ pub fn put_insert(
     ensures { OnOk result (out.new.items
         ≡ out.old.items ++ spelled.spelling (stmt.Insert name.now columns.now tuples.now)) }
 {
-    put_word(alloc, out, Keyword::Insert)?;
-    put_word(alloc, out, Keyword::Into)?;
+    put_word(out, Keyword::Insert)?;
+    put_word(out, Keyword::Into)?;
     put_name(alloc, out, name)?;
     put_columns(alloc, out, columns)?;
-    put_word(alloc, out, Keyword::Values)?;
+    put_word(out, Keyword::Values)?;
     put_list(alloc, out, tuples)
 }
 
@@ -60,9 +60,9 @@ pub fn put_update(
     ensures { OnOk result (out.new.items
         ≡ out.old.items ++ spelled.spelling (stmt.Update name.now sets.now cond.now)) }
 {
-    put_word(alloc, out, Keyword::Update)?;
+    put_word(out, Keyword::Update)?;
     put_name(alloc, out, name)?;
-    put_word(alloc, out, Keyword::Set)?;
+    put_word(out, Keyword::Set)?;
     put_list(alloc, out, sets)?;
     put_where(alloc, out, cond)
 }
@@ -76,8 +76,8 @@ pub fn put_delete(
 ) -> Result<(), NoMemory>
     ensures { OnOk result (out.new.items ≡ out.old.items ++ spelled.spelling (stmt.Delete name.now cond.now)) }
 {
-    put_word(alloc, out, Keyword::Delete)?;
-    put_word(alloc, out, Keyword::From)?;
+    put_word(out, Keyword::Delete)?;
+    put_word(out, Keyword::From)?;
     put_name(alloc, out, name)?;
     put_where(alloc, out, cond)
 }

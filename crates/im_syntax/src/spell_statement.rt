@@ -15,75 +15,65 @@ use crate::token::Token;
 use im_values::{Name, NoMemory};
 use std::alloc::Global;
 
-fn put_pair(
-    alloc: Global,
-    out: &mut Vec<Token>,
-    first: Keyword,
-    second: Keyword,
-) -> Result<(), NoMemory>
+fn put_pair(out: &mut Vec<Token>, first: Keyword, second: Keyword) -> Result<(), NoMemory>
     ensures { OnOk result (out.new.items
         ≡ out.old.items ++ spelled.word first ∷ spelled.word second ∷ []) }
 {
-    put_word(alloc, out, first)?;
-    put_word(alloc, out, second)
+    put_word(out, first)?;
+    put_word(out, second)
 }
 
-fn put_numbered(
-    alloc: Global,
-    out: &mut Vec<Token>,
-    keyword: Keyword,
-    number: u32,
-) -> Result<(), NoMemory>
+fn put_numbered(out: &mut Vec<Token>, keyword: Keyword, number: u32) -> Result<(), NoMemory>
     ensures { OnOk result (out.new.items
         ≡ out.old.items ++ spelled.word keyword ∷ spelled.number number ∷ []) }
 {
-    put_word(alloc, out, keyword)?;
+    put_word(out, keyword)?;
     put_number(out, number)
 }
 
 fn put_explain(alloc: Global, out: &mut Vec<Token>, query: &Query) -> Result<(), NoMemory>
     ensures { OnOk result (out.new.items ≡ out.old.items ++ spelled.spelling (stmt.Explain query.now)) }
 {
-    put_word(alloc, out, Keyword::Explain)?;
+    put_word(out, Keyword::Explain)?;
     put_query(alloc, out, query)
 }
 
 fn put_open(alloc: Global, out: &mut Vec<Token>, cursor: u32, query: &Query) -> Result<(), NoMemory>
     ensures { OnOk result (out.new.items ≡ out.old.items ++ spelled.spelling (stmt.OpenFor cursor query.now)) }
 {
-    put_numbered(alloc, out, Keyword::Open, cursor)?;
-    put_word(alloc, out, Keyword::For)?;
+    put_numbered(out, Keyword::Open, cursor)?;
+    put_word(out, Keyword::For)?;
     put_query(alloc, out, query)
 }
 
-fn put_read_only(alloc: Global, out: &mut Vec<Token>) -> Result<(), NoMemory>
+fn put_read_only(out: &mut Vec<Token>) -> Result<(), NoMemory>
     ensures { OnOk result (out.new.items ≡ out.old.items ++ spelled.spelling stmt.SetReadOnly) }
 {
-    put_pair(alloc, out, Keyword::Set, Keyword::Transaction)?;
-    put_pair(alloc, out, Keyword::Read, Keyword::Only)
+    put_pair(out, Keyword::Set, Keyword::Transaction)?;
+    put_pair(out, Keyword::Read, Keyword::Only)
 }
 
-fn put_serializable(alloc: Global, out: &mut Vec<Token>) -> Result<(), NoMemory>
+fn put_serializable(out: &mut Vec<Token>) -> Result<(), NoMemory>
     ensures { OnOk result (out.new.items ≡ out.old.items ++ spelled.spelling stmt.SetSerializable) }
 {
-    put_pair(alloc, out, Keyword::Set, Keyword::Transaction)?;
-    put_pair(alloc, out, Keyword::Isolation, Keyword::Level)?;
-    put_word(alloc, out, Keyword::Serializable)
+    put_pair(out, Keyword::Set, Keyword::Transaction)?;
+    put_pair(out, Keyword::Isolation, Keyword::Level)?;
+    put_word(out, Keyword::Serializable)
 }
 
-fn put_committed(alloc: Global, out: &mut Vec<Token>) -> Result<(), NoMemory>
+fn put_committed(out: &mut Vec<Token>) -> Result<(), NoMemory>
     ensures { OnOk result (out.new.items ≡ out.old.items ++ spelled.spelling stmt.SetCommitted) }
 {
-    put_pair(alloc, out, Keyword::Set, Keyword::Transaction)?;
-    put_pair(alloc, out, Keyword::Isolation, Keyword::Level)?;
-    put_pair(alloc, out, Keyword::Read, Keyword::Committed)
+    put_pair(out, Keyword::Set, Keyword::Transaction)?;
+    put_pair(out, Keyword::Isolation, Keyword::Level)?;
+    put_pair(out, Keyword::Read, Keyword::Committed)
 }
 
 fn put_evict(alloc: Global, out: &mut Vec<Token>, name: &Name, extent: u64) -> Result<(), NoMemory>
     requires { extent < 2 ^ 63 }
     ensures { OnOk result (out.new.items ≡ out.old.items ++ spelled.spelling (stmt.Evict name.now extent)) }
 {
-    put_word(alloc, out, Keyword::Evict)?;
+    put_word(out, Keyword::Evict)?;
     put_name(alloc, out, name)?;
     out.push(Token::Int(extent as i64))?;
     Ok(())
@@ -112,25 +102,25 @@ fn put_stmt(alloc: Global, out: &mut Vec<Token>, stmt: &Stmt) -> Result<(), NoMe
         } => put_insert(alloc, out, name, columns.items(), tuples.items()),
         Stmt::Update { name, sets, cond } => put_update(alloc, out, name, sets.items(), cond),
         Stmt::Delete { name, cond } => put_delete(alloc, out, name, cond),
-        Stmt::SetReadOnly => put_read_only(alloc, out),
-        Stmt::SetSerializable => put_serializable(alloc, out),
-        Stmt::SetCommitted => put_committed(alloc, out),
-        Stmt::Commit => put_word(alloc, out, Keyword::Commit),
-        Stmt::Rollback => put_word(alloc, out, Keyword::Rollback),
+        Stmt::SetReadOnly => put_read_only(out),
+        Stmt::SetSerializable => put_serializable(out),
+        Stmt::SetCommitted => put_committed(out),
+        Stmt::Commit => put_word(out, Keyword::Commit),
+        Stmt::Rollback => put_word(out, Keyword::Rollback),
         Stmt::OpenFor { cursor, query } => put_open(alloc, out, *cursor, query),
-        Stmt::Step(cursor) => put_numbered(alloc, out, Keyword::Step, *cursor),
-        Stmt::Fetch(cursor) => put_numbered(alloc, out, Keyword::Fetch, *cursor),
-        Stmt::Close(cursor) => put_numbered(alloc, out, Keyword::Close, *cursor),
-        Stmt::Run => put_word(alloc, out, Keyword::Run),
-        Stmt::Begin => put_word(alloc, out, Keyword::Begin),
-        Stmt::Switch => put_word(alloc, out, Keyword::Switch),
-        Stmt::Cancel => put_word(alloc, out, Keyword::Cancel),
-        Stmt::Trickle(number) => put_numbered(alloc, out, Keyword::Trickle, *number),
+        Stmt::Step(cursor) => put_numbered(out, Keyword::Step, *cursor),
+        Stmt::Fetch(cursor) => put_numbered(out, Keyword::Fetch, *cursor),
+        Stmt::Close(cursor) => put_numbered(out, Keyword::Close, *cursor),
+        Stmt::Run => put_word(out, Keyword::Run),
+        Stmt::Begin => put_word(out, Keyword::Begin),
+        Stmt::Switch => put_word(out, Keyword::Switch),
+        Stmt::Cancel => put_word(out, Keyword::Cancel),
+        Stmt::Trickle(number) => put_numbered(out, Keyword::Trickle, *number),
         Stmt::Evict { name, extent } => put_evict(alloc, out, name, *extent),
     }
 }
 
-/// The one list of tokens of a statement. An error is want of memory.
+/// The one list of tokens of a statement. An error is out of memory.
 pub fn spell(alloc: Global, stmt: &Stmt) -> Result<Vec<Token>, NoMemory>
     requires { IsStmt stmt.now }
     ensures { IfOk result (λ tokens. tokens.items ≡ spelled.spelling stmt.now) }

@@ -12,14 +12,14 @@ use crate::token::{Sign, Token};
 use im_values::{Name, NoMemory, Priority};
 use std::alloc::Global;
 
-fn put_kind(alloc: Global, out: &mut Vec<Token>, kind: KindWord) -> Result<(), NoMemory>
+fn put_kind(out: &mut Vec<Token>, kind: KindWord) -> Result<(), NoMemory>
     ensures { OnOk result (out.new.items ≡ out.old.items ++ spelled.spell_kind kind) }
 {
     match kind {
-        KindWord::Number => put_word(alloc, out, Keyword::Number),
-        KindWord::Integer => put_word(alloc, out, Keyword::Integer),
+        KindWord::Number => put_word(out, Keyword::Number),
+        KindWord::Integer => put_word(out, Keyword::Integer),
         KindWord::Varchar2(length) => {
-            put_word(alloc, out, Keyword::Varchar2)?;
+            put_word(out, Keyword::Varchar2)?;
             put_sign(out, Sign::LeftParen)?;
             put_number(out, u32::from(length))?;
             put_sign(out, Sign::RightParen)
@@ -32,7 +32,7 @@ impl Spelled for ColumnPart {
 
     fn put(&self, alloc: Global, out: &mut Vec<Token>) -> Result<(), NoMemory> {
         put_name(alloc, out, &self.name)?;
-        put_kind(alloc, out, self.kind)
+        put_kind(out, self.kind)
     }
 }
 
@@ -48,52 +48,46 @@ fn level_word(level: Priority) -> Keyword
     }
 }
 
-fn put_compress(alloc: Global, out: &mut Vec<Token>, compress: bool) -> Result<(), NoMemory>
+fn put_compress(out: &mut Vec<Token>, compress: bool) -> Result<(), NoMemory>
     ensures { OnOk result (out.new.items ≡ out.old.items ++ spelled.spell_compress compress) }
 {
     if !compress {
         return Ok(());
     }
-    put_word(alloc, out, Keyword::MemCompress)?;
-    put_word(alloc, out, Keyword::For)?;
-    put_word(alloc, out, Keyword::Query)?;
-    put_word(alloc, out, Keyword::Low)
+    put_word(out, Keyword::MemCompress)?;
+    put_word(out, Keyword::For)?;
+    put_word(out, Keyword::Query)?;
+    put_word(out, Keyword::Low)
 }
 
 /// An INMEMORY clause.
-pub fn put_memory(alloc: Global, out: &mut Vec<Token>, memory: MemoryPart) -> Result<(), NoMemory>
+pub fn put_memory(out: &mut Vec<Token>, memory: MemoryPart) -> Result<(), NoMemory>
     ensures { OnOk result (out.new.items ≡ out.old.items ++ spelled.spell_memory memory) }
 {
-    put_word(alloc, out, Keyword::InMemory)?;
-    put_compress(alloc, out, memory.compress)?;
+    put_word(out, Keyword::InMemory)?;
+    put_compress(out, memory.compress)?;
     match memory.level {
         None => Ok(()),
         Some(level) => {
-            put_word(alloc, out, Keyword::Priority)?;
-            put_word(alloc, out, level_word(level))
+            put_word(out, Keyword::Priority)?;
+            put_word(out, level_word(level))
         }
     }
 }
 
-fn put_option(
-    alloc: Global,
-    out: &mut Vec<Token>,
-    keyword: Keyword,
-    number: Option<u32>,
-) -> Result<(), NoMemory>
+fn put_option(out: &mut Vec<Token>, keyword: Keyword, number: Option<u32>) -> Result<(), NoMemory>
     ensures { OnOk result (out.new.items ≡ out.old.items ++ spelled.spell_option keyword number) }
 {
     match number {
         None => Ok(()),
         Some(number) => {
-            put_word(alloc, out, keyword)?;
+            put_word(out, keyword)?;
             put_number(out, number)
         }
     }
 }
 
 fn put_shape(
-    alloc: Global,
     out: &mut Vec<Token>,
     block: Option<u32>,
     extent: Option<u32>,
@@ -102,11 +96,11 @@ fn put_shape(
     ensures { OnOk result (out.new.items ≡ out.old.items ++ (spelled.spell_option key.Block block
         ++ (spelled.spell_option key.Extent extent ++ spell_optional spelled.spell_memory memory))) }
 {
-    put_option(alloc, out, Keyword::Block, block)?;
-    put_option(alloc, out, Keyword::Extent, extent)?;
+    put_option(out, Keyword::Block, block)?;
+    put_option(out, Keyword::Extent, extent)?;
     match memory {
         None => Ok(()),
-        Some(memory) => put_memory(alloc, out, memory),
+        Some(memory) => put_memory(out, memory),
     }
 }
 
@@ -123,11 +117,11 @@ pub fn put_create(
     ensures { OnOk result (out.new.items
         ≡ out.old.items ++ spelled.spelling (stmt.Create name.now columns.now block extent memory)) }
 {
-    put_word(alloc, out, Keyword::Create)?;
-    put_word(alloc, out, Keyword::Table)?;
+    put_word(out, Keyword::Create)?;
+    put_word(out, Keyword::Table)?;
     put_name(alloc, out, name)?;
     put_in_parens(alloc, out, columns)?;
-    put_shape(alloc, out, block, extent, memory)
+    put_shape(out, block, extent, memory)
 }
 
 /// ALTER TABLE with an INMEMORY clause.
@@ -139,19 +133,19 @@ pub fn put_alter_memory(
 ) -> Result<(), NoMemory>
     ensures { OnOk result (out.new.items ≡ out.old.items ++ spelled.spelling (stmt.AlterMemory name.now memory)) }
 {
-    put_word(alloc, out, Keyword::Alter)?;
-    put_word(alloc, out, Keyword::Table)?;
+    put_word(out, Keyword::Alter)?;
+    put_word(out, Keyword::Table)?;
     put_name(alloc, out, name)?;
-    put_memory(alloc, out, memory)
+    put_memory(out, memory)
 }
 
 /// ALTER TABLE with NO INMEMORY.
 pub fn put_alter_no_memory(alloc: Global, out: &mut Vec<Token>, name: &Name) -> Result<(), NoMemory>
     ensures { OnOk result (out.new.items ≡ out.old.items ++ spelled.spelling (stmt.AlterNoMemory name.now)) }
 {
-    put_word(alloc, out, Keyword::Alter)?;
-    put_word(alloc, out, Keyword::Table)?;
+    put_word(out, Keyword::Alter)?;
+    put_word(out, Keyword::Table)?;
     put_name(alloc, out, name)?;
-    put_word(alloc, out, Keyword::No)?;
-    put_word(alloc, out, Keyword::InMemory)
+    put_word(out, Keyword::No)?;
+    put_word(out, Keyword::InMemory)
 }

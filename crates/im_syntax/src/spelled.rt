@@ -20,10 +20,10 @@ pub trait Spelled {
 }
 
 /// A keyword.
-pub fn put_word(alloc: Global, out: &mut Vec<Token>, keyword: Keyword) -> Result<(), NoMemory>
+pub fn put_word(out: &mut Vec<Token>, keyword: Keyword) -> Result<(), NoMemory>
     ensures { OnOk result (out.new.items ≡ out.old.items ++ spell.word keyword ∷ []) }
 {
-    out.push(Token::Word(Name::of(alloc, keyword.text())?))?;
+    out.push(Token::Keyword(keyword))?;
     Ok(())
 }
 
@@ -56,7 +56,7 @@ pub fn put_lit(alloc: Global, out: &mut Vec<Token>, lit: &Lit) -> Result<(), NoM
     ensures { OnOk result (out.new.items ≡ out.old.items ++ spell.lit_token lit.now ∷ []) }
 {
     match lit {
-        Lit::Null => put_word(alloc, out, Keyword::Null),
+        Lit::Null => put_word(out, Keyword::Null),
         Lit::Int(number) => {
             out.push(Token::Int(*number))?;
             Ok(())

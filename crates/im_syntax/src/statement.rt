@@ -12,11 +12,11 @@ pub enum Stmt {
     Explain(Query),
     Create {
         name: Name,
-        /// 1 to 16 columns.
+        /// One column or more, at most `MOST_COLUMNS`.
         columns: List<ColumnPart>,
-        /// Rows in a block, 1 to 64.
+        /// Rows in a block, from 1 to `MOST_IN_SHAPE`.
         block: Option<u32>,
-        /// Blocks in an extent, 1 to 64.
+        /// Blocks in an extent, from 1 to `MOST_IN_SHAPE`.
         extent: Option<u32>,
         memory: Option<MemoryPart>,
     },
@@ -49,7 +49,7 @@ pub enum Stmt {
     SetCommitted,
     Commit,
     Rollback,
-    /// Cursors are numbered from 1 to 999.
+    /// Cursors are numbered from 1 to `LAST_CURSOR`.
     OpenFor {
         cursor: u32,
         query: Query,
@@ -61,9 +61,9 @@ pub enum Stmt {
     Begin,
     Switch,
     Cancel,
-    /// Credits for repopulation, 1 to 1,000,000.
+    /// Credits for repopulation, from 1 to `MOST_CREDITS`.
     Trickle(u32),
-    /// The extent is from 0 to 4,294,967,295.
+    /// The extent is at most `LAST_EXTENT`.
     Evict {
         name: Name,
         extent: u64,

@@ -5,7 +5,7 @@ use im_values::{Name, Priority};
 pub enum KindWord {
     Number,
     Integer,
-    /// A text of at most so many bytes, 1 to 255.
+    /// A text of at most so many bytes, from 1 to `MOST_TEXT_BYTES`.
     Varchar2(u16),
 }
 

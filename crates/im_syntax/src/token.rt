@@ -1,3 +1,4 @@
+use crate::keyword::Keyword;
 use im_values::Name;
 
 /// A sign of the language. `!=` is [`Sign::Ne`], as `<>` is.
@@ -18,7 +19,9 @@ pub enum Sign {
 /// The smallest part of a line that has a meaning.
 #[derive(Debug, PartialEq, Eq, Drop)]
 pub enum Token {
-    /// A word in capitals: a keyword, or the name of a table or a column.
+    /// A word that the language keeps for itself.
+    Keyword(Keyword),
+    /// Any other word, in capitals: the name of a table or a column.
     Word(Name),
     /// A whole number of 64 bits.
     Int(i64),

@@ -16,7 +16,9 @@ returns-in-Bad c =
 
 pub overflow_add-at-in-Lexed-2 : goal.overflow_add-at-in-Lexed-2
 overflow_add-at-in-Lexed-2 c =
-    let room = token_room c.loop.tokens.items (length c.args.line.now) c.loop.counter c.loop.at c.args.line.now _ c.loop.invariant.0 c.loop-test.true c.loop.invariant.1 c.in-Lexed.token c.in-Lexed.more
+    let room = token_room c.loop.tokens.items
+    (length c.args.line.now) c.loop.counter c.loop.at c.args.line.now _ c.loop.invariant.0 c.loop-test.true c.loop.invariant.1
+    c.in-Lexed.token c.in-Lexed.more
     (ap front (sym c.behind.ensures) ∙ sym c.in_ok-front.ensures ∙ c.in-Lexed.is) in
     omega arith
 
@@ -25,11 +27,14 @@ loop-preserved c =
     elim c.match-branch-2.branch [
       | in-Blank w ↦
           rw (w.tokens-is, w.at-is)
-          (blank_step c.loop.tokens.items (length c.args.line.now) c.loop.counter c.loop.at c.args.line.now _ c.loop.invariant.0 c.loop-test.true c.loop.invariant.1
+          (blank_step c.loop.tokens.items
+          (length c.args.line.now) c.loop.counter c.loop.at c.args.line.now _ c.loop.invariant.0 c.loop-test.true c.loop.invariant.1
           (ap front (sym c.behind.ensures) ∙ sym c.in_ok-front.ensures ∙ w.in-Blank.is))
       | in-Lexed+in_ok-push-in-Lexed w ↦
           rw (w.tokens-is, w.at-is, w.in_ok-push-in-Lexed.ensures.items)
-          (token_step c.loop.tokens.items (length c.args.line.now) c.loop.counter c.loop.at c.args.line.now _ c.loop.invariant.0 c.loop-test.true c.loop.invariant.1 w.in-Lexed.token w.in-Lexed.more
+          (token_step c.loop.tokens.items
+          (length c.args.line.now) c.loop.counter c.loop.at c.args.line.now _ c.loop.invariant.0 c.loop-test.true c.loop.invariant.1
+          w.in-Lexed.token w.in-Lexed.more
           (ap front (sym c.behind.ensures) ∙ sym c.in_ok-front.ensures ∙ w.in-Lexed.is))
     ]
 

@@ -1,5 +1,5 @@
 use Rattle.std.proofs.Common.{◌≡◌, ◌-◌, ◌≤◌, drop, length}
-use Rattle.im_lex.specs.Lexing.{lexed_in}
+use Rattle.im_lex.specs.inner.Rounds.{lexed_in}
 use Rattle.im_lex.proofs.Rounds.{with_tokens}
 use Rattle.im_lex.proofs.lexing.lexed.Given as goal
 

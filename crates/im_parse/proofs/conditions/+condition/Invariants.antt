@@ -2,8 +2,8 @@ use Rattle.std.proofs.Common.{◌≡◌, ◌∷◌, ◌+◌, ◌-◌, ◌*◌, l
 use Rattle.im_readers.specs.Reading.{Found, and_then, further}
 use Rattle.im_readers.proofs.Steps.{with_front}
 use Rattle.im_syntax.specs.declared.keyword.Keyword.TheVariants as key
-use Rattle.im_parse.specs.Marks.{is_key}
-use Rattle.im_parse.specs.Conditions.{term_at, conj_at}
+use Rattle.im_parse.specs.inner.Marks.{is_key}
+use Rattle.im_parse.specs.inner.Conditions.{term_at, conj_at}
 use Rattle.im_parse.proofs.conditions.+condition.Given as goal
 
 abbrev pub decreases-term : goal.decreases-term

@@ -11,7 +11,8 @@ pub returns-in-Ok-clause-only : goal.returns-in-Ok-clause-only
 returns-in-Ok-clause-only c = λ s good same. read_as c.args.tokens.now c.in-Ok.stmt s c.in-Ok.ensures good same
 
 pub returns-in-Err-Left-clause-only : goal.returns-in-Err-Left-clause-only
-returns-in-Err-Left-clause-only c = λ s good same. not_read c.args.tokens.now c.in-Err-Left.left s (rw c.in-Err-Left.field-0-is at c.in-Err-Left.ensures) good same
+returns-in-Err-Left-clause-only c = λ s good same. not_read c.args.tokens.now c.in-Err-Left.left s
+    (rw c.in-Err-Left.field-0-is at c.in-Err-Left.ensures) good same
 
 pub returns-in-Err-Left-clause-place : goal.returns-in-Err-Left-clause-place
 returns-in-Err-Left-clause-place c = whole_place c.args.tokens.now c.in-Err-Left.left (rw c.in-Err-Left.field-0-is at c.in-Err-Left.ensures)

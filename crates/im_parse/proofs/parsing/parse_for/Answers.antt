@@ -5,7 +5,10 @@ use Rattle.im_parse.proofs.parsing.parse_for.Goals as goal
 
 pub returns-then-begins-clause-found : goal.returns-then-begins-clause-found
 returns-then-begins-clause-found c =
-    IfOk-weaker c.parse.result _ _ (λ s p. (side_found c.args.side c.args.tokens.now s (sym c.begins.ensures ∙ c.if-begins.true) p.0 p.1, p.1)) c.parse.ensures.found
+    IfOk-weaker c.parse.result _ _ (λ s p. (
+      side_found c.args.side c.args.tokens.now s (sym c.begins.ensures ∙ c.if-begins.true) p.0 p.1,
+      p.1,
+    )) c.parse.ensures.found
 
 pub returns-then-begins-clause-place : goal.returns-then-begins-clause-place
 returns-then-begins-clause-place c =

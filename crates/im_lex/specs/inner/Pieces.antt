@@ -1,0 +1,10 @@
+-- Texts, piece by piece.
+use Rattle.std.specs.Prelude.{ℕ, ◌==◌, List, [], ◌∷◌, if◌then◌else◌}
+use Rattle.im_lex.specs.declared.front.Piece.{Piece}
+use Rattle.im_lex.specs.declared.front.Piece.TheVariants.{Over, End, Byte}
+
+-- what comes next in a text: nothing, its closing quote, or a byte of so many bytes
+abbrev pub piece_of : List ℕ → Piece
+piece_of [] = Over
+piece_of (b ∷ []) = if b == 39 then End else Byte b 1
+piece_of (b ∷ c ∷ bs) = if b == 39 then (if c == 39 then Byte 39 2 else End) else Byte b 1

@@ -1,0 +1,5 @@
+pub mod Marks
+pub mod Conditions
+pub mod Queries
+pub mod Tables
+pub mod Statements
