@@ -1,4 +1,4 @@
--- The order of values is a total order that tells different values apart.
+-- What callers know of the order of values: it is a total order, and only equal values tie in it.
 use Rattle.std.proofs.Common.{◌≡◌, refl, ap}
 use Rattle.std.specs.Cmp.{IsTotalOrder, int_cmp_total}
 use Rattle.std.specs.FinMap.{int_cmp-IsAntisymmetric, slice_cmp-IsAntisymmetric, nat_cmp-IsAntisymmetric}
@@ -54,6 +54,7 @@ order_same Null (Int b) e = cc
 order_same Null (Text b) e = cc
 order_same Null Null e = refl
 
+-- the order of values is a total order
 pub order_total : IsTotalOrder order
 order_total = record {
   antisymm = order-antisymm;
