@@ -13,7 +13,9 @@ use Rattle.im_group.specs.Answers.{group_cell}
 
 -- the next cell behind the others, unless each item has its cell
 abbrev pub with_cell : List ℕ → List Value → List Item → List Cell → Tally → List Cell
-with_cell columns key is cells t = if nat_lt (length cells) (length is) then cells ++ group_cell columns key (get_or is (length cells) item.CountAll) t ∷ [] else cells
+with_cell columns key is cells t =
+    if nat_lt (length cells) (length is) then cells ++ group_cell columns key (get_or is (length cells) item.CountAll) t ∷ []
+    else cells
 
 -- a tally joined to that at a place, unless the place is past the end
 abbrev pub joined_at : List Tally → ℕ → Tally → List Tally
@@ -39,7 +41,9 @@ so_far wanted (Some ts) = ts
 -- the groups of a query, once one row more has come
 abbrev pub with_row : Bound → List (List Value × List Tally) → List Value → List (List Value × List Tally)
 with_row bound groups row =
-    if keeps bound.filter row then placed groups (key_of bound.groups row) (all_taken (wanted bound) (so_far (wanted bound) (tallies_at groups (key_of bound.groups row))) row)
+    if keeps bound.filter row
+    then placed groups (key_of bound.groups row)
+    (all_taken (wanted bound) (so_far (wanted bound) (tallies_at groups (key_of bound.groups row))) row)
     else groups
 
 -- the groups of no row: without GROUP BY there is one

@@ -28,8 +28,10 @@ module _ {C V : Type 0} (c : Coded C) (m : Coded Cmp) (v : Coded V) where
     term_code (nested t) = gcons (gnum 1) (cond_code t)
     term_code (comparison column cmp value) = gcons (gnum 2) (gcons (c.code column) (gcons (m.code cmp) (v.code value)))
     term_code (null_test column negated) = gcons (gnum 3) (gcons (c.code column) (coded_bool.code negated))
-    term_code (between column negated low high) = gcons (gnum 4) (gcons (c.code column) (gcons (coded_bool.code negated) (gcons (v.code low) (v.code high))))
-    term_code (within column negated values) = gcons (gnum 5) (gcons (c.code column) (gcons (coded_bool.code negated) ((coded_list v).code values)))
+    term_code (between column negated low high) =
+        gcons (gnum 4) (gcons (c.code column) (gcons (coded_bool.code negated) (gcons (v.code low) (v.code high))))
+    term_code (within column negated values) =
+        gcons (gnum 5) (gcons (c.code column) (gcons (coded_bool.code negated) ((coded_list v).code values)))
 
     pub conj_code : ConjOf C V → Gv
     conj_code no_term = gnil
@@ -43,10 +45,26 @@ module _ {C V : Type 0} (c : Coded C) (m : Coded Cmp) (v : Coded V) where
     pub term_inj : (x y : TermOf C V) → term_code x ≡ term_code y → x ≡ y
     term_inj (negation x) (negation y) p = ap negation (term_inj x y (ap right p))
     term_inj (nested x) (nested y) p = ap nested (cond_inj x y (ap right p))
-    term_inj (comparison a x b) (comparison a2 x2 b2) p = λ i. comparison (c.inj a a2 (ap (λ g. left (right g)) p) i) (m.inj x x2 (ap (λ g. left (right (right g))) p) i) (v.inj b b2 (ap (λ g. right (right (right g))) p) i)
-    term_inj (null_test a n) (null_test a2 n2) p = λ i. null_test (c.inj a a2 (ap (λ g. left (right g)) p) i) (coded_bool.inj n n2 (ap (λ g. right (right g)) p) i)
-    term_inj (between a n l h) (between a2 n2 l2 h2) p = λ i. between (c.inj a a2 (ap (λ g. left (right g)) p) i) (coded_bool.inj n n2 (ap (λ g. left (right (right g))) p) i) (v.inj l l2 (ap (λ g. left (right (right (right g)))) p) i) (v.inj h h2 (ap (λ g. right (right (right (right g)))) p) i)
-    term_inj (within a n vs) (within a2 n2 vs2) p = λ i. within (c.inj a a2 (ap (λ g. left (right g)) p) i) (coded_bool.inj n n2 (ap (λ g. left (right (right g))) p) i) ((coded_list v).inj vs vs2 (ap (λ g. right (right (right g))) p) i)
+    term_inj (comparison a x b) (comparison a2 x2 b2) p = λ i.
+        comparison
+        (c.inj a a2 (ap (λ g. left (right g)) p) i)
+        (m.inj x x2 (ap (λ g. left (right (right g))) p) i)
+        (v.inj b b2 (ap (λ g. right (right (right g))) p) i)
+    term_inj (null_test a n) (null_test a2 n2) p = λ i.
+        null_test
+        (c.inj a a2 (ap (λ g. left (right g)) p) i)
+        (coded_bool.inj n n2 (ap (λ g. right (right g)) p) i)
+    term_inj (between a n l h) (between a2 n2 l2 h2) p = λ i.
+        between
+        (c.inj a a2 (ap (λ g. left (right g)) p) i)
+        (coded_bool.inj n n2 (ap (λ g. left (right (right g))) p) i)
+        (v.inj l l2 (ap (λ g. left (right (right (right g)))) p) i)
+        (v.inj h h2 (ap (λ g. right (right (right (right g)))) p) i)
+    term_inj (within a n vs) (within a2 n2 vs2) p = λ i.
+        within
+        (c.inj a a2 (ap (λ g. left (right g)) p) i)
+        (coded_bool.inj n n2 (ap (λ g. left (right (right g))) p) i)
+        ((coded_list v).inj vs vs2 (ap (λ g. right (right (right g))) p) i)
     term_inj x y p = absurd (omega (arith, ap (λ g. number (left g)) p))
 
     pub conj_inj : (x y : ConjOf C V) → conj_code x ≡ conj_code y → x ≡ y
