@@ -1,21 +1,10 @@
 -- What codes say of values.
 use Rattle.std.proofs.Common.{◌≡◌, ℕ, ◌+◌, ◌<◌, List, length, get_or, nat_lt, count_by, ◌∙◌, arith}
 use Rattle.std.specs.Ordering.{is_lt}
-use Rattle.std.specs.Cmp.{IsTotalOrder}
-use Rattle.std.specs.declared.cmp.Ordering.TheVariants.{Equal}
 use Rattle.im_values.specs.declared.value.Value.{Value}
 use Rattle.im_values.specs.Order.{order}
 use Rattle.im_codes.specs.Dictionary.{IsDictionary, lower}
-use Rattle.im_codes.proofs.OrderLemmas as orders
 use Rattle.im_codes.proofs.DictLemmas.{below-parted, passes-below, same_tests}
-
--- the order of values is a total order
-pub order_total : IsTotalOrder order
-order_total = orders.order_total
-
--- and only equal values tie in it
-pub order_same : (x y : Value) → order x y ≡ Equal → x ≡ y
-order_same = orders.order_same
 
 -- the value of a code is below one exactly where the code is below its `lower`
 pub value-below : (dict : List Value) (value : Value) (k : ℕ) (d : Value) → IsDictionary dict → k < length dict →

@@ -1,4 +1,3 @@
 mod RunLemmas
-mod OrderLemmas
 mod DictLemmas
 pub mod ForCallers

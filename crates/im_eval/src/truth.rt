@@ -92,7 +92,7 @@ fn all_hold(tests: &Tests, row: &[Value]) -> Truth
     ensures { result ≡ spec.truth_of_tests tests.now row.now }
 {
     let mut truth = Truth::Yes;
-    for test in tests.tests() {
+    for test in tests.terms() {
         truth = truth.and(test_holds(test, row));
         if truth == Truth::No {
             return truth;

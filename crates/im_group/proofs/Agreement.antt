@@ -29,13 +29,15 @@ pub keys_tie : (xs ys : List Value) → pointwise same_value xs ys ≡ is_key xs
 keys_tie = lists_ties order value_ties
 
 -- keys that are lent
-lent_keys : (xs ys : List (Bor Value)) → pointwise (λ (x y : Bor Value). same_value x.now y.now) xs ys ≡ pointwise same_value (map (λ v. v.now) xs) (map (λ v. v.now) ys)
+lent_keys : (xs ys : List (Bor Value))
+    → pointwise (λ (x y : Bor Value). same_value x.now y.now) xs ys ≡ pointwise same_value (map (λ v. v.now) xs) (map (λ v. v.now) ys)
 lent_keys [] [] = refl
 lent_keys [] (y ∷ ys) = refl
 lent_keys (x ∷ xs) [] = refl
 lent_keys (x ∷ xs) (y ∷ ys) = ap (λ b. same_value x.now y.now && b) (lent_keys xs ys)
 
-pub lent_keys_tie : (xs ys : List (Bor Value)) → pointwise (λ (x y : Bor Value). same_value x.now y.now) xs ys ≡ is_key (map (λ v. v.now) xs) (map (λ v. v.now) ys)
+pub lent_keys_tie : (xs ys : List (Bor Value))
+    → pointwise (λ (x y : Bor Value). same_value x.now y.now) xs ys ≡ is_key (map (λ v. v.now) xs) (map (λ v. v.now) ys)
 lent_keys_tie xs ys = lent_keys xs ys ∙ keys_tie (map (λ v. v.now) xs) (map (λ v. v.now) ys)
 
 -- the order of values, as it is derived

@@ -33,11 +33,13 @@ groups_merge bound xs ys few key ts t us u =
     let back = the_tallies _ _ us (sym (get-groups_of bound ys key) ∙ u) in
     let fewer : length (members bound.groups xs key) + length (members bound.groups ys key) < 2 ^ 64 =
     omega (arith, shorter (λ row. is_key (key_of bound.groups row) key) xs, shorter (λ row. is_key (key_of bound.groups row) key) ys) in
-    subst (λ ts. CanJoin ts us) front (subst (CanJoin (tallies_of bound xs key)) back (few_join (wanted bound) (members bound.groups xs key) (members bound.groups ys key) fewer))
+    subst (λ ts. CanJoin ts us) front
+    (subst (CanJoin (tallies_of bound xs key)) back (few_join (wanted bound) (members bound.groups xs key) (members bound.groups ys key) fewer))
 
 -- a part, by whether the query is grouped
 abbrev part_of : Bool → Bound → List Numbered → Parts
-part_of b bound rows = cond b (record { rows = []; groups = groups_of bound (map (λ r. r.1) (kept bound rows)) }) (record { rows = kept bound rows; groups = map_of.empty })
+part_of b bound rows =
+    cond b (record { rows = []; groups = groups_of bound (map (λ r. r.1) (kept bound rows)) }) (record { rows = kept bound rows; groups = map_of.empty })
 
 no_group : (key : List Value) (ts : List Tally) → map_of.get {X = List Tally} {R = key_order} map_of.empty key ≡ Some ts → ⊥
 no_group key ts t = let none = sym (map_of.get-empty {X = List Tally} key_order key) ∙ t in absurd cc
@@ -49,12 +51,15 @@ few_kept bound rows = let same = length-map (kept bound rows) (λ r. r.1) in let
 pub CanMerge-partial : (bound : Bound) (front back : List Numbered) → length front + length back < 2 ^ 64 → CanMerge (partial bound front) (partial bound back)
 CanMerge-partial bound front back few =
     elim bound.grouped as (λ b. CanMerge (part_of b bound front) (part_of b bound back)) [
-      | true ↦ groups_merge bound (map (λ r. r.1) (kept bound front)) (map (λ r. r.1) (kept bound back)) (omega (arith, few_kept bound front, few_kept bound back))
+      | true ↦ groups_merge bound (map (λ r. r.1) (kept bound front)) (map (λ r. r.1) (kept bound back))
+          (omega (arith, few_kept bound front, few_kept bound back))
       | false ↦ λ key ts t us u. absurd (no_group key ts t)
     ]
 
-pub CanMerge-parts : (bound : Bound) (front back : List Numbered) (a b : Parts) → a ≡ partial bound front → b ≡ partial bound back → length front + length back < 2 ^ 64 → CanMerge a b
-CanMerge-parts bound front back a b is then_is few = subst (λ p. CanMerge p b) (sym is) (subst (CanMerge (partial bound front)) (sym then_is) (CanMerge-partial bound front back few))
+pub CanMerge-parts : (bound : Bound) (front back : List Numbered) (a b : Parts) → a ≡ partial bound front → b ≡ partial bound back
+    → length front + length back < 2 ^ 64 → CanMerge a b
+CanMerge-parts bound front back a b is then_is few =
+    subst (λ p. CanMerge p b) (sym is) (subst (CanMerge (partial bound front)) (sym then_is) (CanMerge-partial bound front back few))
 
 -- ---- parts of two lists of rows
 
@@ -66,7 +71,8 @@ pub merged-nil : (bound : Bound) (rows : List Numbered) → merged (partial boun
 merged-nil bound rows = parts.merged-partial bound [] rows
 
 -- a query may be asked of two lists of rows together where it may be asked of each
-pub fits-append : (bound : Bound) (front back : List Numbered) → AllByRecursion (λ r. BoundFits r.1 bound) front → AllByRecursion (λ r. BoundFits r.1 bound) back → AllByRecursion (λ r. BoundFits r.1 bound) (front ++ back)
+pub fits-append : (bound : Bound) (front back : List Numbered) → AllByRecursion (λ r. BoundFits r.1 bound) front
+    → AllByRecursion (λ r. BoundFits r.1 bound) back → AllByRecursion (λ r. BoundFits r.1 bound) (front ++ back)
 fits-append bound [] back a b = b
 fits-append bound (r ∷ front) back a b = (a.0, fits-append bound front back a.1 b)
 
@@ -90,5 +96,6 @@ pub answer-finished : (bound : Bound) (rows : List Numbered) → answer bound ro
 answer-finished bound rows = refl
 
 -- the answer over two lists of rows is made of the merged parts
-pub answer-merged : (bound : Bound) (front back : List Numbered) → answer bound (front ++ back) ≡ finished bound (merged (partial bound front) (partial bound back))
+pub answer-merged : (bound : Bound) (front back : List Numbered)
+    → answer bound (front ++ back) ≡ finished bound (merged (partial bound front) (partial bound back))
 answer-merged bound front back = ap (finished bound) (sym (merged-partial bound front back))

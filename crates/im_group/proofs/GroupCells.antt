@@ -8,7 +8,7 @@ use Rattle.im_syntax.specs.declared.bound.Item.TheVariants as item
 use Rattle.im_group.specs.declared.cell.Cell.{Cell}
 use Rattle.im_group.specs.declared.tally.Tally.{Tally}
 use Rattle.im_group.specs.Answers.{group_cell, group_cells}
-use Rattle.im_group.specs.Steps.{with_cell}
+use Rattle.im_group.specs.inner.Steps.{with_cell}
 
 module _ (columns : List ℕ) (key : List Value) where
   pub no_cells : (is : List Item) → group_cells columns key is [] ≡ []
@@ -26,7 +26,8 @@ module _ (columns : List ℕ) (key : List Value) where
   pushed false c x cells = refl
 
   -- the cells of one tally more
-  pub group_cells-push : (is : List Item) (ts : List Tally) (t : Tally) → group_cells columns key is (ts ++ t ∷ []) ≡ with_cell columns key is (group_cells columns key is ts) t
+  pub group_cells-push : (is : List Item) (ts : List Tally) (t : Tally)
+      → group_cells columns key is (ts ++ t ∷ []) ≡ with_cell columns key is (group_cells columns key is ts) t
   group_cells-push [] ts t = refl
   group_cells-push (i ∷ is) [] t =
       ap (λ l. group_cell columns key i t ∷ l) (no_cells is) ∙ ap (λ b. cond b (group_cell columns key i t ∷ []) []) (sym (first_test (length is)))
@@ -39,6 +40,8 @@ module _ (columns : List ℕ) (key : List Value) where
       ∙ ap (λ b. cond b ((c ∷ cells) ++ x ∷ []) (c ∷ cells)) (sym (next_test (length cells) (length is))))
 
 -- one more of what a map gives
-pub map_step : {A B : Type 0} (f : A → B) (xs : List A) (i : ℕ) (d : A) (out : List B) (y : B) (whole : List B) → i < length xs → y ≡ f (get_or xs i d) → out ++ map f (drop i xs) ≡ whole → (out ++ y ∷ []) ++ map f (drop (i + 1) xs) ≡ whole
+pub map_step : {A B : Type 0} (f : A → B) (xs : List A) (i : ℕ) (d : A) (out : List B) (y : B) (whole : List B) → i < length xs
+    → y ≡ f (get_or xs i d) → out ++ map f (drop i xs) ≡ whole → (out ++ y ∷ []) ++ map f (drop (i + 1) xs) ≡ whole
 map_step f xs i d out y whole lt e h =
-    append_assoc out (y ∷ []) (map f (drop (i + 1) xs)) ∙ (ap (λ z. out ++ z ∷ map f (drop (i + 1) xs)) e ∙ (ap (λ l. out ++ l) (sym (at_drop_more (map f) xs i d lt)) ∙ h))
+    append_assoc out (y ∷ []) (map f (drop (i + 1) xs))
+    ∙ (ap (λ z. out ++ z ∷ map f (drop (i + 1) xs)) e ∙ (ap (λ l. out ++ l) (sym (at_drop_more (map f) xs i d lt)) ∙ h))

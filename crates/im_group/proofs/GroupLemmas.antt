@@ -12,25 +12,29 @@ use Rattle.im_syntax.specs.declared.bound.Bound.{Bound}
 use Rattle.im_group.specs.declared.tally.Tally.{Tally}
 use Rattle.im_group.specs.Tallies.{tally_of, all_taken}
 use Rattle.im_group.specs.Partials.{key_order, key_of, is_key, wanted, members, tallies_of, keys_of, groups_of}
-use Rattle.im_group.specs.Steps.{placed}
+use Rattle.im_group.specs.inner.Steps.{placed}
 use Rattle.im_group.proofs.Orders.{key_total, key_same}
 use Rattle.im_group.proofs.Growth.{tally-push}
 use Rattle.im_group.proofs.Sorting.{true_is_not_false}
 
 -- ---- one group
 
-members-push : (columns : List ℕ) (rows : List (List Value)) (row key : List Value) → members columns (rows ++ row ∷ []) key ≡ members columns rows key ++ cond (is_key (key_of columns row) key) (row ∷ []) []
+members-push : (columns : List ℕ) (rows : List (List Value)) (row key : List Value)
+    → members columns (rows ++ row ∷ []) key ≡ members columns rows key ++ cond (is_key (key_of columns row) key) (row ∷ []) []
 members-push columns rows row key = filter-append (λ r. is_key (key_of columns r) key) rows (row ∷ [])
 
 -- each item takes the row
-taken_each : (is : List Item) (ms : List (List Value)) (row : List Value) → map (λ i. tally_of i (ms ++ row ∷ [])) is ≡ all_taken is (map (λ i. tally_of i ms) is) row
+taken_each : (is : List Item) (ms : List (List Value)) (row : List Value)
+    → map (λ i. tally_of i (ms ++ row ∷ [])) is ≡ all_taken is (map (λ i. tally_of i ms) is) row
 taken_each [] ms row = refl
 taken_each (i ∷ is) ms row = λ j. tally-push i ms row j ∷ taken_each is ms row j
 
 -- a group takes a row of its key
-pub tallies-push_here : (bound : Bound) (rows : List (List Value)) (row key : List Value) → is_key (key_of bound.groups row) key ≡ true → tallies_of bound (rows ++ row ∷ []) key ≡ all_taken (wanted bound) (tallies_of bound rows key) row
+pub tallies-push_here : (bound : Bound) (rows : List (List Value)) (row key : List Value) → is_key (key_of bound.groups row) key ≡ true
+    → tallies_of bound (rows ++ row ∷ []) key ≡ all_taken (wanted bound) (tallies_of bound rows key) row
 tallies-push_here bound rows row key h =
-    ap (λ ms. map (λ i. tally_of i ms) (wanted bound)) (members-push bound.groups rows row key ∙ ap (λ b. members bound.groups rows key ++ cond b (row ∷ []) []) h)
+    ap (λ ms. map (λ i. tally_of i ms) (wanted bound)) (members-push bound.groups rows row key
+    ∙ ap (λ b. members bound.groups rows key ++ cond b (row ∷ []) []) h)
     ∙ taken_each (wanted bound) (members bound.groups rows key) row
 
 pub no_more : {A : Type 0} (xs : List A) → xs ++ [] ≡ xs
@@ -38,9 +42,11 @@ no_more [] = refl
 no_more (x ∷ xs) = ap (λ l. x ∷ l) (no_more xs)
 
 -- and no row of another
-pub tallies-push_apart : (bound : Bound) (rows : List (List Value)) (row key : List Value) → is_key (key_of bound.groups row) key ≡ false → tallies_of bound (rows ++ row ∷ []) key ≡ tallies_of bound rows key
+pub tallies-push_apart : (bound : Bound) (rows : List (List Value)) (row key : List Value) → is_key (key_of bound.groups row) key ≡ false
+    → tallies_of bound (rows ++ row ∷ []) key ≡ tallies_of bound rows key
 tallies-push_apart bound rows row key h =
-    ap (λ ms. map (λ i. tally_of i ms) (wanted bound)) (members-push bound.groups rows row key ∙ (ap (λ b. members bound.groups rows key ++ cond b (row ∷ []) []) h ∙ no_more (members bound.groups rows key)))
+    ap (λ ms. map (λ i. tally_of i ms) (wanted bound)) (members-push bound.groups rows row key
+    ∙ (ap (λ b. members bound.groups rows key ++ cond b (row ∷ []) []) h ∙ no_more (members bound.groups rows key)))
 
 -- ---- all groups
 
@@ -55,7 +61,8 @@ equal Equal h = refl
 equal Greater h = absurd cc
 
 -- the groups that a function of the key gives, at a key
-pub find-map : (f : List Value → List Tally) (ks : List (List Value)) (q : List Value) → map_of.find key_order q (map (λ k. (k, f k)) ks) ≡ cond (stands q ks) (Some (f q)) None
+pub find-map : (f : List Value → List Tally) (ks : List (List Value)) (q : List Value)
+    → map_of.find key_order q (map (λ k. (k, f k)) ks) ≡ cond (stands q ks) (Some (f q)) None
 find-map f [] q = refl
 find-map f (k ∷ ks) q = go (is_eq (key_order q k)) refl (find-map f ks q)
   where
@@ -65,7 +72,8 @@ find-map f (k ∷ ks) q = go (is_eq (key_order q k)) refl (find-map f ks q)
     go false e more = more
 
 -- what the groups of rows have at a key
-pub get-groups_of : (bound : Bound) (rows : List (List Value)) (q : List Value) → map_of.get (groups_of bound rows) q ≡ cond (stands q (keys_of bound.groups rows)) (Some (tallies_of bound rows q)) None
+pub get-groups_of : (bound : Bound) (rows : List (List Value)) (q : List Value)
+    → map_of.get (groups_of bound rows) q ≡ cond (stands q (keys_of bound.groups rows)) (Some (tallies_of bound rows q)) None
 get-groups_of bound rows q = map_of.get-from_entries key_total _ q ∙ find-map (tallies_of bound rows) (keys_of bound.groups rows) q
 
 -- ---- one row more
@@ -74,12 +82,14 @@ twice : (b : Bool) (v w : List Tally) (r : Option (List Tally)) → cond b (Some
 twice true v w r = refl
 twice false v w r = refl
 
-exchanged : (a b : Bool) (v w : List Tally) (r : Option (List Tally)) → (a ≡ true → b ≡ true → ⊥) → cond a (Some v) (cond b (Some w) r) ≡ cond b (Some w) (cond a (Some v) r)
+exchanged : (a b : Bool) (v w : List Tally) (r : Option (List Tally)) → (a ≡ true → b ≡ true → ⊥)
+    → cond a (Some v) (cond b (Some w) r) ≡ cond b (Some w) (cond a (Some v) r)
 exchanged true true v w r apart = absurd (apart refl refl)
 exchanged true false v w r apart = refl
 exchanged false b v w r apart = refl
 
-pub find-placed : (es : List (List Value × List Tally)) (k : List Value) (v : List Tally) (q : List Value) → map_of.find key_order q (placed es k v) ≡ cond (is_eq (key_order q k)) (Some v) (map_of.find key_order q es)
+pub find-placed : (es : List (List Value × List Tally)) (k : List Value) (v : List Tally) (q : List Value)
+    → map_of.find key_order q (placed es k v) ≡ cond (is_eq (key_order q k)) (Some v) (map_of.find key_order q es)
 find-placed [] k v q = refl
 find-placed (e ∷ es) k v q = go (is_eq (key_order k e.0)) refl (find-placed es k v q)
   where
@@ -87,7 +97,8 @@ find-placed (e ∷ es) k v q = go (is_eq (key_order k e.0)) refl (find-placed es
         → map_of.find key_order q (cond b ((e.0, v) ∷ es) (e ∷ placed es k v)) ≡ cond (is_eq (key_order q k)) (Some v) (map_of.find key_order q (e ∷ es))
     go true h more =
         let same = key_same k e.0 (equal _ h) in
-        twice (is_eq (key_order q e.0)) v e.1 (map_of.find key_order q es) ∙ ap (λ k. cond (is_eq (key_order q k)) (Some v) (map_of.find key_order q (e ∷ es))) (sym same)
+        twice (is_eq (key_order q e.0)) v e.1 (map_of.find key_order q es)
+        ∙ ap (λ k. cond (is_eq (key_order q k)) (Some v) (map_of.find key_order q (e ∷ es))) (sym same)
     go false h more =
         ap (λ r. cond (is_eq (key_order q e.0)) (Some e.1) r) more
         ∙ exchanged (is_eq (key_order q e.0)) (is_eq (key_order q k)) e.1 v (map_of.find key_order q es)

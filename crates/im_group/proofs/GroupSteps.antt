@@ -14,7 +14,7 @@ use Rattle.im_syntax.specs.BoundFits.{ItemFits, KeyFits}
 use Rattle.im_group.specs.declared.tally.Tally.{Tally}
 use Rattle.im_group.specs.Tallies.{tally_of, counted, all_taken}
 use Rattle.im_group.specs.Partials.{Numbered, key_order, key_of, is_key, keeps, kept, wanted, members, tallies_of, keys_of, groups_of}
-use Rattle.im_group.specs.Steps.{tallies_at, placed, so_far, first_groups, with_row, GroupsAre}
+use Rattle.im_group.specs.inner.Steps.{tallies_at, placed, so_far, first_groups, with_row, GroupsAre}
 use Rattle.im_group.proofs.Few.{all_few, shorter}
 use Rattle.im_group.proofs.Sorting.{true_is_not_false}
 use Rattle.im_group.proofs.Orders.{key_total, key_same}
@@ -31,13 +31,15 @@ stands-push (x ∷ ks) k q = either (is_eq (key_order q x)) (is_eq (key_order q 
     either false b c d e = e
 
 -- the key of a row that came stands
-stands-keys : (columns : List ℕ) (rows : List (List Value)) (row q : List Value) → stands q (keys_of columns (rows ++ row ∷ [])) ≡ cond (is_eq (key_order q (key_of columns row))) true (stands q (keys_of columns rows))
+stands-keys : (columns : List ℕ) (rows : List (List Value)) (row q : List Value)
+    → stands q (keys_of columns (rows ++ row ∷ [])) ≡ cond (is_eq (key_order q (key_of columns row))) true (stands q (keys_of columns rows))
 stands-keys [] rows row q = again (is_eq (key_order q []))
   where
     again : (b : Bool) → cond b true false ≡ cond b true (cond b true false)
     again true = refl
     again false = refl
-stands-keys (c ∷ cs) rows row q = ap (stands q) (map-append (key_of (c ∷ cs)) rows (row ∷ [])) ∙ stands-push (map (key_of (c ∷ cs)) rows) (key_of (c ∷ cs) row) q
+stands-keys (c ∷ cs) rows row q =
+    ap (stands q) (map-append (key_of (c ∷ cs)) rows (row ∷ [])) ∙ stands-push (map (key_of (c ∷ cs)) rows) (key_of (c ∷ cs) row) q
 
 pub flipped : (a b : List Value) → is_key a b ≡ is_key b a
 flipped a b = (eq_by_cmp_equiv key_total).symm a b
@@ -53,7 +55,8 @@ none_has columns (row ∷ rows) q h = go (is_key q (key_of columns row)) refl h 
     go false e h more = ap (λ b. cond b (row ∷ members columns rows q) (members columns rows q)) (flipped (key_of columns row) q ∙ e) ∙ more h
 
 -- nor has one the key of a row that came, where that does not stand
-none_has_it : (columns : List ℕ) (rows : List (List Value)) (row : List Value) → stands (key_of columns row) (keys_of columns rows) ≡ false → members columns rows (key_of columns row) ≡ []
+none_has_it : (columns : List ℕ) (rows : List (List Value)) (row : List Value) → stands (key_of columns row) (keys_of columns rows) ≡ false
+    → members columns rows (key_of columns row) ≡ []
 none_has_it [] rows row h = absurd (true_is_not_false h)
 none_has_it (c ∷ cs) rows row h = none_has (c ∷ cs) rows (key_of (c ∷ cs) row) h
 
@@ -69,20 +72,24 @@ so_far_is bound rows groups row g =
     go true e = refl
     go false e = ap (λ ms. map (λ i. tally_of i ms) (wanted bound)) (sym (none_has_it bound.groups rows row e))
 
-pub few_so_far : (bound : Bound) (rows : List (List Value)) (groups : List (List Value × List Tally)) (row : List Value) → GroupsAre bound rows groups → length rows + 1 < 2 ^ 64
+pub few_so_far : (bound : Bound) (rows : List (List Value)) (groups : List (List Value × List Tally)) (row : List Value) → GroupsAre bound rows groups
+    → length rows + 1 < 2 ^ 64
     → AllByRecursion (λ t. counted t + 1 < 2 ^ 64) (so_far (wanted bound) (tallies_at groups (key_of bound.groups row)))
 few_so_far bound rows groups row g few =
     subst (AllByRecursion (λ t. counted t + 1 < 2 ^ 64)) (sym (so_far_is bound rows groups row g))
-    (all_few (wanted bound) (members bound.groups rows (key_of bound.groups row)) (omega (arith, shorter (λ r. is_key (key_of bound.groups r) (key_of bound.groups row)) rows)))
+    (all_few (wanted bound) (members bound.groups rows (key_of bound.groups row))
+    (omega (arith, shorter (λ r. is_key (key_of bound.groups r) (key_of bound.groups row)) rows)))
 
 -- one row more
 groups-push : (bound : Bound) (rows : List (List Value)) (groups : List (List Value × List Tally)) (row : List Value) → GroupsAre bound rows groups
-    → GroupsAre bound (rows ++ row ∷ []) (placed groups (key_of bound.groups row) (all_taken (wanted bound) (so_far (wanted bound) (tallies_at groups (key_of bound.groups row))) row))
+    → GroupsAre bound (rows ++ row ∷ [])
+    (placed groups (key_of bound.groups row) (all_taken (wanted bound) (so_far (wanted bound) (tallies_at groups (key_of bound.groups row))) row))
 groups-push bound rows groups row g = record {
   at = λ q.
       find-placed groups (key_of bound.groups row) (all_taken (wanted bound) (so_far (wanted bound) (tallies_at groups (key_of bound.groups row))) row) q
       ∙ (go q (is_eq (key_order q (key_of bound.groups row))) refl
-      ∙ sym (get-groups_of bound (rows ++ row ∷ []) q ∙ ap (λ b. cond b (Some (tallies_of bound (rows ++ row ∷ []) q)) None) (stands-keys bound.groups rows row q)));
+      ∙ sym (get-groups_of bound (rows ++ row ∷ []) q
+      ∙ ap (λ b. cond b (Some (tallies_of bound (rows ++ row ∷ []) q)) None) (stands-keys bound.groups rows row q)));
 }
   where
     go : (q : List Value) (b : Bool) → is_eq (key_order q (key_of bound.groups row)) ≡ b
@@ -95,19 +102,26 @@ groups-push bound rows groups row g = record {
         ∙ ap (tallies_of bound (rows ++ row ∷ [])) (sym same)))
     go q false e =
         g.at q ∙ (get-groups_of bound rows q
-        ∙ ap (λ ts. cond (stands q (keys_of bound.groups rows)) (Some ts) None) (sym (tallies-push_apart bound rows row q (flipped (key_of bound.groups row) q ∙ e))))
+        ∙ ap (λ ts. cond (stands q (keys_of bound.groups rows)) (Some ts) None)
+        (sym (tallies-push_apart bound rows row q (flipped (key_of bound.groups row) q ∙ e))))
 
 pub with_row-push : (bound : Bound) (rows : List (List Value)) (groups : List (List Value × List Tally)) (row : List Value) → GroupsAre bound rows groups
     → GroupsAre bound (cond (keeps bound.filter row) (rows ++ row ∷ []) rows) (with_row bound groups row)
 with_row-push bound rows groups row g =
-    elim (keeps bound.filter row) as (λ b. GroupsAre bound (cond b (rows ++ row ∷ []) rows) (cond b (placed groups (key_of bound.groups row) (all_taken (wanted bound) (so_far (wanted bound) (tallies_at groups (key_of bound.groups row))) row)) groups)) [
+    elim (keeps bound.filter row) as
+    (λ b. GroupsAre bound (cond b (rows ++ row ∷ []) rows)
+    (cond b (placed groups (key_of bound.groups row)
+    (all_taken (wanted bound) (so_far (wanted bound) (tallies_at groups (key_of bound.groups row))) row)) groups)) [
       | true ↦ groups-push bound rows groups row g
       | false ↦ g
     ]
 
 -- no row
-first-at : (columns : List ℕ) (is : List Item) (q : List Value) → tallies_at (first_groups columns is) q ≡ cond (stands q (keys_of columns [])) (Some (map (λ i. tally_of i []) is)) None
-first-at [] is q = elim (is_eq (key_order q [])) as (λ b. cond b (Some (map (λ i. tally_of i []) is)) None ≡ cond (cond b true false) (Some (map (λ i. tally_of i []) is)) None) [ true ↦ refl | false ↦ refl ]
+first-at : (columns : List ℕ) (is : List Item) (q : List Value)
+    → tallies_at (first_groups columns is) q ≡ cond (stands q (keys_of columns [])) (Some (map (λ i. tally_of i []) is)) None
+first-at [] is q =
+    elim (is_eq (key_order q [])) as
+    (λ b. cond b (Some (map (λ i. tally_of i []) is)) None ≡ cond (cond b true false) (Some (map (λ i. tally_of i []) is)) None) [ true ↦ refl | false ↦ refl ]
 first-at (c ∷ cs) is q = refl
 
 pub first-are : (bound : Bound) → GroupsAre bound [] (first_groups bound.groups (wanted bound))
@@ -115,19 +129,23 @@ first-are bound = record { at = λ q. first-at bound.groups (wanted bound) q ∙
 
 -- the kept rows of one row more
 pub kept-push : (bound : Bound) (rows : List Numbered) (i : ℕ) (d : Numbered) → i < length rows
-    → map (λ r. r.1) (kept bound (take (i + 1) rows)) ≡ cond (keeps bound.filter (get_or rows i d).1) (map (λ r. r.1) (kept bound (take i rows)) ++ (get_or rows i d).1 ∷ []) (map (λ r. r.1) (kept bound (take i rows)))
+    → map (λ r. r.1) (kept bound (take (i + 1) rows))
+    ≡ cond (keeps bound.filter (get_or rows i d).1) (map (λ r. r.1) (kept bound (take i rows)) ++ (get_or rows i d).1 ∷ [])
+    (map (λ r. r.1) (kept bound (take i rows)))
 kept-push bound rows i d lt =
     ap (λ l. map (λ r. r.1) (kept bound l)) (take_more rows i d lt)
     ∙ (ap (map (λ r. r.1)) (filter-append (λ r. keeps bound.filter r.1) (take i rows) (get_or rows i d ∷ []))
     ∙ (map-append (λ r. r.1) (kept bound (take i rows)) (kept bound (get_or rows i d ∷ []))
     ∙ last (keeps bound.filter (get_or rows i d).1)))
   where
-    last : (b : Bool) → map (λ r. r.1) (kept bound (take i rows)) ++ map (λ r. r.1) (cond b (get_or rows i d ∷ []) []) ≡ cond b (map (λ r. r.1) (kept bound (take i rows)) ++ (get_or rows i d).1 ∷ []) (map (λ r. r.1) (kept bound (take i rows)))
+    last : (b : Bool) → map (λ r. r.1) (kept bound (take i rows)) ++ map (λ r. r.1) (cond b (get_or rows i d ∷ []) [])
+        ≡ cond b (map (λ r. r.1) (kept bound (take i rows)) ++ (get_or rows i d).1 ∷ []) (map (λ r. r.1) (kept bound (take i rows)))
     last true = refl
     last false = no_more (map (λ r. r.1) (kept bound (take i rows)))
 
 -- what the query wants of a row fits it where the query does
-pub wanted_fit : (row : List Value) (is : List Item) (ks : List Key) → AllByRecursion (ItemFits row) is → AllByRecursion (KeyFits row) ks → AllByRecursion (ItemFits row) (is ++ map (λ k. k.item) ks)
+pub wanted_fit : (row : List Value) (is : List Item) (ks : List Key) → AllByRecursion (ItemFits row) is → AllByRecursion (KeyFits row) ks
+    → AllByRecursion (ItemFits row) (is ++ map (λ k. k.item) ks)
 wanted_fit row [] [] a b = tt
 wanted_fit row [] (k ∷ ks) a b = (b.0, wanted_fit row [] ks a b.1)
 wanted_fit row (i ∷ is) ks a b = (a.0, wanted_fit row is ks a.1 b)
@@ -139,8 +157,11 @@ short_take (suc i) (x ∷ xs) = omega (arith, short_take i xs)
 
 -- of so many rows no more are kept
 pub few_kept : (bound : Bound) (rows : List Numbered) (i : ℕ) → length (map (λ r. r.1) (kept bound (take i rows))) ≤ i
-few_kept bound rows i = let a = length-map (kept bound (take i rows)) (λ r. r.1) in let b = shorter (λ r. keeps bound.filter r.1) (take i rows) in let c = short_take i rows in omega arith
+few_kept bound rows i =
+    let a = length-map (kept bound (take i rows)) (λ r. r.1) in let b = shorter (λ r. keeps bound.filter r.1) (take i rows) in
+    let c = short_take i rows in omega arith
 
 -- groups that are those of the rows, as a map
-pub held_are : (bound : Bound) (rows : List (List Value)) (groups : List (List Value × List Tally)) → GroupsAre bound rows groups → map_of.from_entries groups ≡ groups_of bound rows
+pub held_are : (bound : Bound) (rows : List (List Value)) (groups : List (List Value × List Tally)) → GroupsAre bound rows groups
+    → map_of.from_entries groups ≡ groups_of bound rows
 held_are bound rows groups g = map_of.same_map key_total key_same _ _ (λ q. map_of.get-from_entries key_total groups q ∙ g.at q)

@@ -19,7 +19,7 @@ use Rattle.im_syntax.specs.BoundFits.{value_at}
 use Rattle.im_group.specs.declared.tally.Tally.TheVariants as tally
 use Rattle.im_group.specs.Sums.{number, added, joined_sum}
 use Rattle.im_group.specs.Tallies.{column_of, present, total, lesser, greater, least, greatest, sum_of, tally_of, taken, one_more, joined}
-use Rattle.im_group.proofs.Orders.{order_total}
+use Rattle.im_values.proofs.ForCallers.{order_total}
 
 -- ---- one row more
 
@@ -85,7 +85,8 @@ below : (a b c : Value) → is_lt (order a b) ≡ true → is_lt (order b c) ≡
 below a b c p q = ap is_lt (order_total.trans a b c (less _ p) (less _ q))
 
 -- which of three is least, by what is known of each two
-lesser_of_three : (a b c : Value) (p q r : Bool) → is_lt (order b a) ≡ p → is_lt (order c b) ≡ q → is_lt (order c a) ≡ r → lesser (lesser a b) c ≡ lesser a (lesser b c)
+lesser_of_three : (a b c : Value) (p q r : Bool) → is_lt (order b a) ≡ p → is_lt (order c b) ≡ q → is_lt (order c a) ≡ r
+    → lesser (lesser a b) c ≡ lesser a (lesser b c)
 lesser_of_three a b c true true r p q s = rw (p, q, below c b a q p) refl
 lesser_of_three a b c true false r p q s = rw (p, q, p) refl
 lesser_of_three a b c false true r p q s = rw (p, q) refl
@@ -165,5 +166,7 @@ tally-append (item.Column c) xs ys = refl
 tally-append item.CountAll xs ys = ap tally.Count (length-append xs ys)
 tally-append (item.Count c) xs ys = ap tally.Count (ap (λ vs. length (present vs)) (column-append c xs ys) ∙ present-append (column_of c xs) (column_of c ys))
 tally-append (item.Sum c) xs ys = ap tally.Sum (ap sum_of (column-append c xs ys) ∙ sum-append (column_of c xs) (column_of c ys))
-tally-append (item.Min c) xs ys = ap tally.Least (ap least (column-append c xs ys) ∙ fold_both lesser Null Null-lesser lesser-Null lesser-assoc (column_of c xs) (column_of c ys))
-tally-append (item.Max c) xs ys = ap tally.Greatest (ap greatest (column-append c xs ys) ∙ fold_both greater Null Null-greater greater-Null greater-assoc (column_of c xs) (column_of c ys))
+tally-append (item.Min c) xs ys =
+    ap tally.Least (ap least (column-append c xs ys) ∙ fold_both lesser Null Null-lesser lesser-Null lesser-assoc (column_of c xs) (column_of c ys))
+tally-append (item.Max c) xs ys =
+    ap tally.Greatest (ap greatest (column-append c xs ys) ∙ fold_both greater Null Null-greater greater-Null greater-assoc (column_of c xs) (column_of c ys))

@@ -10,7 +10,7 @@ use Rattle.im_values.specs.declared.value.Value.{Value}
 use Rattle.indexmap.specs.IndexMap.{insert_entry}
 use Rattle.im_group.specs.declared.tally.Tally.{Tally}
 use Rattle.im_group.specs.Partials.{is_key, keyed}
-use Rattle.im_group.specs.Steps.{tallies_at, placed}
+use Rattle.im_group.specs.inner.Steps.{tallies_at, placed}
 use Rattle.im_group.proofs.Orders.{key_total}
 
 -- `eq` compares keys as their values compare
@@ -18,7 +18,8 @@ abbrev pub Agrees : {K : Type 0} → (K → K → Bool) → (K → List Value) �
 Agrees {K} eq f = (x y : K) → eq x y ≡ is_key (f x) (f y)
 
 module _ {K : Type 0} (eq : K → K → Bool) (f : K → List Value) (agrees : Agrees eq f) where
-  put : (b : Bool) (e : K × List Tally) (es rest : List (K × List Tally)) (ts : List Tally) → keyed f (cond b ((e.0, ts) ∷ es) (e ∷ rest)) ≡ cond b ((f e.0, ts) ∷ keyed f es) ((f e.0, e.1) ∷ keyed f rest)
+  put : (b : Bool) (e : K × List Tally) (es rest : List (K × List Tally)) (ts : List Tally)
+      → keyed f (cond b ((e.0, ts) ∷ es) (e ∷ rest)) ≡ cond b ((f e.0, ts) ∷ keyed f es) ((f e.0, e.1) ∷ keyed f rest)
   put true e es rest ts = refl
   put false e es rest ts = refl
 
@@ -34,13 +35,16 @@ module _ {K : Type 0} (eq : K → K → Bool) (f : K → List Value) (agrees : A
   lookup-keyed [] k = refl
   lookup-keyed (e ∷ es) k = λ i. cond (agrees k e.0 i) (Some e.1) (lookup-keyed es k i)
 
-  found : (b : Bool) (e : K × List Tally) (es : List (K × List Tally)) (k : K) (ts : List Tally) → eq k e.0 ≡ b → (IsSome (lookup (eq k) es) → keyed f (set_value (eq k) es ts) ≡ placed (keyed f es) (f k) ts)
-      → IsSome (cond b (Some e.1) (lookup (eq k) es)) → keyed f (cond b ((e.0, ts) ∷ es) (e ∷ set_value (eq k) es ts)) ≡ cond b ((f e.0, ts) ∷ keyed f es) ((f e.0, e.1) ∷ placed (keyed f es) (f k) ts)
+  found : (b : Bool) (e : K × List Tally) (es : List (K × List Tally)) (k : K) (ts : List Tally) → eq k e.0 ≡ b
+      → (IsSome (lookup (eq k) es) → keyed f (set_value (eq k) es ts) ≡ placed (keyed f es) (f k) ts)
+      → IsSome (cond b (Some e.1) (lookup (eq k) es))
+      → keyed f (cond b ((e.0, ts) ∷ es) (e ∷ set_value (eq k) es ts)) ≡ cond b ((f e.0, ts) ∷ keyed f es) ((f e.0, e.1) ∷ placed (keyed f es) (f k) ts)
   found true e es k ts t more here = refl
   found false e es k ts t more here = ap (λ l. (f e.0, e.1) ∷ l) (more here)
 
   -- a write at a key that is there
-  pub keyed-set_value : (es : List (K × List Tally)) (k : K) (ts : List Tally) → IsSome (lookup (eq k) es) → keyed f (set_value (eq k) es ts) ≡ placed (keyed f es) (f k) ts
+  pub keyed-set_value : (es : List (K × List Tally)) (k : K) (ts : List Tally) → IsSome (lookup (eq k) es)
+      → keyed f (set_value (eq k) es ts) ≡ placed (keyed f es) (f k) ts
   keyed-set_value [] k ts here = absurd cc
   keyed-set_value (e ∷ es) k ts here =
       found (eq k e.0) e es k ts refl (keyed-set_value es k ts) here
@@ -52,8 +56,10 @@ module _ {K : Type 0} (test : K → Bool) (q : List Value) (f : K → List Value
   lookup-tested [] = refl
   lookup-tested (e ∷ es) = λ i. cond (agrees e.0 i) (Some e.1) (lookup-tested es i)
 
-  tested : (b : Bool) (e : K × List Tally) (es : List (K × List Tally)) (ts : List Tally) → (IsSome (lookup test es) → keyed f (set_value test es ts) ≡ placed (keyed f es) q ts)
-      → IsSome (cond b (Some e.1) (lookup test es)) → keyed f (cond b ((e.0, ts) ∷ es) (e ∷ set_value test es ts)) ≡ cond b ((f e.0, ts) ∷ keyed f es) ((f e.0, e.1) ∷ placed (keyed f es) q ts)
+  tested : (b : Bool) (e : K × List Tally) (es : List (K × List Tally)) (ts : List Tally)
+      → (IsSome (lookup test es) → keyed f (set_value test es ts) ≡ placed (keyed f es) q ts)
+      → IsSome (cond b (Some e.1) (lookup test es))
+      → keyed f (cond b ((e.0, ts) ∷ es) (e ∷ set_value test es ts)) ≡ cond b ((f e.0, ts) ∷ keyed f es) ((f e.0, e.1) ∷ placed (keyed f es) q ts)
   tested true e es ts more here = refl
   tested false e es ts more here = ap (λ l. (f e.0, e.1) ∷ l) (more here)
 
@@ -82,12 +88,14 @@ all_middle P [] y zs all = all.0
 all_middle P (x ∷ xs) y zs all = all_middle P xs y zs all.1
 
 -- no key stands before itself where the keys are distinct
-pub not_before : {K : Type 0} (eq : K → K → Bool) (f : K → List Value) → Agrees eq f → (xs : List (K × List Tally)) (e : K × List Tally) (zs : List (K × List Tally))
+pub not_before : {K : Type 0} (eq : K → K → Bool) (f : K → List Value) → Agrees eq f
+    → (xs : List (K × List Tally)) (e : K × List Tally) (zs : List (K × List Tally))
     → IsDistinct eq (map (λ g. g.0) (xs ++ e ∷ zs)) → tallies_at (keyed f xs) (f e.0) ≡ None
 unfolding IsDistinct
 not_before eq f agrees [] e zs distinct = refl
 not_before eq f agrees (x ∷ xs) e zs distinct =
-    let front = all_middle (λ y. eq x.0 y ≡ false) (map (λ g. g.0) xs) e.0 (map (λ g. g.0) zs) (subst (AllByRecursion (λ y. eq x.0 y ≡ false)) (map-append (λ g. g.0) xs (e ∷ zs)) distinct.0) in
+    let front = all_middle (λ y. eq x.0 y ≡ false) (map (λ g. g.0) xs) e.0 (map (λ g. g.0) zs)
+    (subst (AllByRecursion (λ y. eq x.0 y ≡ false)) (map-append (λ g. g.0) xs (e ∷ zs)) distinct.0) in
     ap (λ b. cond b (Some x.1) (tallies_at (keyed f xs) (f e.0))) (flipped_key (f e.0) (f x.0) ∙ (sym (agrees x.0 e.0) ∙ front))
     ∙ not_before eq f agrees xs e zs distinct.1
 

@@ -13,4 +13,5 @@ mod KeySort
 mod Merging
 mod Parts
 mod Prefixes
+mod QueryLemmas
 pub mod ForCallers

@@ -8,7 +8,7 @@ use Rattle.std.specs.declared.vec.IntoIter.{IntoIter}
 use Rattle.im_values.specs.declared.value.Value.{Value}
 use Rattle.im_syntax.specs.declared.bound.Item.{Item}
 use Rattle.im_group.specs.declared.tally.Tally.{Tally}
-use Rattle.im_group.specs.Steps.{joined_at, next_place}
+use Rattle.im_group.specs.inner.Steps.{joined_at, next_place}
 use Rattle.im_group.specs.Tallies.{all_taken, joined, all_joined, counted, CanJoin}
 
 -- so many of the tallies have taken the row
@@ -35,13 +35,17 @@ no_tally [] row = refl
 no_tally (x ∷ is) row = refl
 
 -- behind the end of the items or of the tallies nothing is left to take
-nothing_left : (is : List Item) (now : List Tally) (row : List Value) (i : ℕ) → min (length is) (length now) ≤ i → take i now ++ all_taken (drop i is) (drop i now) row ≡ now
+nothing_left : (is : List Item) (now : List Tally) (row : List Value) (i : ℕ) → min (length is) (length now) ≤ i
+    → take i now ++ all_taken (drop i is) (drop i now) row ≡ now
 nothing_left [] now row i h = ap (λ is. take i now ++ all_taken is (drop i now) row) (drop_nothing i) ∙ both_parts now i
-nothing_left (x ∷ is) [] row i h = ap (λ ts. take i [] ++ all_taken (drop i (x ∷ is)) ts row) (drop_nothing i) ∙ (ap (λ l. take i [] ++ l) (no_tally (drop i (x ∷ is)) row ∙ sym (drop_nothing i)) ∙ both_parts [] i)
+nothing_left (x ∷ is) [] row i h =
+    ap (λ ts. take i [] ++ all_taken (drop i (x ∷ is)) ts row) (drop_nothing i)
+    ∙ (ap (λ l. take i [] ++ l) (no_tally (drop i (x ∷ is)) row ∙ sym (drop_nothing i)) ∙ both_parts [] i)
 nothing_left (x ∷ is) (t ∷ ts) row zero h = absurd (omega arith)
 nothing_left (x ∷ is) (t ∷ ts) row (suc i) h = ap (λ l. t ∷ l) (nothing_left is ts row i (omega arith))
 
-pub taking_all : (is : List Item) (old : List Tally) (row : List Value) (i : ℕ) (now : List Tally) → Taking is old row i now → min (length is) (length now) ≤ i → now ≡ all_taken is old row
+pub taking_all : (is : List Item) (old : List Tally) (row : List Value) (i : ℕ) (now : List Tally) → Taking is old row i now
+    → min (length is) (length now) ≤ i → now ≡ all_taken is old row
 taking_all is old row i now t h = sym (nothing_left is now row i h) ∙ t.whole
 
 -- ---- two parts of a group
@@ -60,7 +64,8 @@ length-all_joined [] us = refl
 length-all_joined (t ∷ ts) [] = refl
 length-all_joined (t ∷ ts) (u ∷ us) = ap suc (length-all_joined ts us)
 
-pub joined-push : (ts us : List Tally) (u d : Tally) → length us < length ts → all_joined ts (us ++ u ∷ []) ≡ set (all_joined ts us) (length us) (joined (get_or (all_joined ts us) (length us) d) u)
+pub joined-push : (ts us : List Tally) (u d : Tally) → length us < length ts
+    → all_joined ts (us ++ u ∷ []) ≡ set (all_joined ts us) (length us) (joined (get_or (all_joined ts us) (length us) d) u)
 joined-push [] us u d lt = absurd (omega arith)
 joined-push (t ∷ ts) [] u d lt = ap (λ l. joined t u ∷ l) (joined_none ts)
 joined-push (t ∷ ts) (v ∷ us) u d lt = ap (λ l. joined t v ∷ l) (joined-push ts us u d (omega arith))
@@ -71,7 +76,8 @@ joined-push_past (t ∷ ts) [] u le = absurd (omega arith)
 joined-push_past (t ∷ ts) (v ∷ us) u le = ap (λ l. joined t v ∷ l) (joined-push_past ts us u (omega arith))
 
 -- the counts of the next two stay below 2^64
-pub can_join_next : (ts us : List Tally) (u : Tally) (more : List Tally) (d : Tally) → CanJoin ts (us ++ u ∷ more) → length us < length ts → counted (get_or (all_joined ts us) (length us) d) + counted u < 2 ^ 64
+pub can_join_next : (ts us : List Tally) (u : Tally) (more : List Tally) (d : Tally) → CanJoin ts (us ++ u ∷ more) → length us < length ts
+    → counted (get_or (all_joined ts us) (length us) d) + counted u < 2 ^ 64
 can_join_next [] us u more d can lt = absurd (omega arith)
 can_join_next (t ∷ ts) [] u more d can lt = can.0
 can_join_next (t ∷ ts) (v ∷ us) u more d can lt = can_join_next ts us u more d can.1 (omega arith)
@@ -85,7 +91,8 @@ past_test n m h = grind (arith, nat_tests)
 least_left : (n m : ℕ) → n < m → min n m ≡ n
 least_left n m h = omega arith
 
-pub joining_next : (old us : List Tally) (u : Tally) (place : ℕ) (now : List Tally) → Joining old us place now → Joining old (us ++ u ∷ []) (next_place (length now) place) (joined_at now place u)
+pub joining_next : (old us : List Tally) (u : Tally) (place : ℕ) (now : List Tally) → Joining old us place now
+    → Joining old (us ++ u ∷ []) (next_place (length now) place) (joined_at now place u)
 joining_next old us u place now j = go (nat_lt (length us) (length old)) refl
   where
     size : length now ≡ length old
@@ -113,12 +120,14 @@ joining_next old us u place now j = go (nat_lt (length us) (length old)) refl
 pub joining_none : (old : List Tally) → Joining old [] 0 old
 joining_none old = record { whole = sym (joined_none old); at = omega arith }
 
--- what the iterator of a vector has given is a front of its items
-pub taken_front : {X A : Type 0} (s : IntoIter X A) (xs : List X) (t : IntoIter X A) → Yields into_iter_steps s xs t → into_iter_items s ≡ xs ++ into_iter_items t
+-- what the iterator of a vector has given is a prefix of its items
+pub taken_front : {X A : Type 0} (s : IntoIter X A) (xs : List X) (t : IntoIter X A) → Yields into_iter_steps s xs t
+    → into_iter_items s ≡ xs ++ into_iter_items t
 taken_front s [] t y = ap into_iter_items y
 taken_front s (x ∷ xs) t y = y.1.0 ∙ ap (λ ys. x ∷ ys) (taken_front y.0 xs t y.2)
 
-pub can_join_at : (old us : List Tally) (u : Tally) (more : List Tally) (place : ℕ) (now : List Tally) → Joining old us place now → CanJoin old ((us ++ u ∷ []) ++ more) → place < length now → counted (get_or now place u) + counted u < 2 ^ 64
+pub can_join_at : (old us : List Tally) (u : Tally) (more : List Tally) (place : ℕ) (now : List Tally) → Joining old us place now
+    → CanJoin old ((us ++ u ∷ []) ++ more) → place < length now → counted (get_or now place u) + counted u < 2 ^ 64
 can_join_at old us u more place now j can lt =
     let size : length now ≡ length old = ap length j.whole ∙ length-all_joined old us in
     let at = j.at in

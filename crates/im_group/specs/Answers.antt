@@ -20,12 +20,12 @@ use Rattle.im_group.specs.Partials.{Numbered, Groups, Parts, wanted, partial}
 
 -- ---- records
 
--- an item of one row; one row alone has no aggregates
+-- an item of one row; one row alone has no aggregates, and a query that is not grouped asks for none
 abbrev pub row_cell : List Value → Item → Cell
 row_cell row (item.Column column) = cell_of (value_at row column)
 row_cell row i = cell.Null
 
--- the value of a group in a column of GROUP BY
+-- the value of a group in a column of GROUP BY; a grouped query asks for no other column
 abbrev pub key_value : List ℕ → List Value → ℕ → Value
 key_value [] vs column = Null
 key_value (c ∷ cs) [] column = Null
@@ -61,7 +61,8 @@ directed true a b = cell_order b a
 -- the first key at which the cells differ decides; the keys stand from a place on
 abbrev pub by_keys : List Key → ℕ → List Cell → List Cell → Ordering
 by_keys [] place xs ys = Equal
-by_keys (k ∷ ks) place xs ys = ordering_then (directed k.descending (get_or xs place cell.Null) (get_or ys place cell.Null)) (by_keys ks (place + 1) xs ys)
+by_keys (k ∷ ks) place xs ys =
+    ordering_then (directed k.descending (get_or xs place cell.Null) (get_or ys place cell.Null)) (by_keys ks (place + 1) xs ys)
 
 -- two records whose keys stand behind so many cells
 abbrev pub record_order : List Key → ℕ → List Cell → List Cell → Ordering
@@ -81,7 +82,8 @@ in_order cmp (x ∷ xs) = put_in_order cmp x (in_order cmp xs)
 
 -- what is left to do once all rows have been seen: order the records, and cut off the keys
 abbrev pub finished : Bound → Parts → List (List Cell)
-finished bound parts = map (take (length bound.items)) (in_order (record_order bound.keys (length bound.items)) (records bound parts))
+finished bound parts =
+    map (take (length bound.items)) (in_order (record_order bound.keys (length bound.items)) (records bound parts))
 
 abbrev pub answer : Bound → List Numbered → List (List Cell)
 answer bound rows = finished bound (partial bound rows)

@@ -91,21 +91,30 @@ partial bound rows =
     if bound.grouped then record { rows = []; groups = groups_of bound (map (λ r. r.1) (kept bound rows)) }
     else record { rows = kept bound rows; groups = map_of.empty }
 
+-- this is the part of some rows
+pub record IsPart (bound : Bound) (part : Parts) : Type 0 where
+  pub rows : List Numbered
+  pub is : part ≡ partial bound rows
+
 -- the groups of two parts: a group of both joins what it has in each
 abbrev pub with_tallies : Option (List Tally) → List Tally → List Tally
 with_tallies None ts = ts
 with_tallies (Some old) ts = all_joined old ts
 
 abbrev pub joined_groups : Groups → Groups → Groups
-joined_groups a b = map_of.from_entries (map (λ g. (g.0, with_tallies (map_of.get a g.0) g.1)) (map_of.entries b) ++ map_of.entries a)
+joined_groups a b =
+    map_of.from_entries (map (λ g. (g.0, with_tallies (map_of.get a g.0) g.1)) (map_of.entries b) ++ map_of.entries a)
 
 abbrev pub merged : Parts → Parts → Parts
 merged a b = record { rows = a.rows ++ b.rows; groups = joined_groups a.groups b.groups }
 
 -- where two parts are those of two lists of rows, one is the part of both lists, one behind the other
 abbrev pub IsPartOfBoth : Parts → Parts → Parts → Type 0
-IsPartOfBoth a b whole = (bound : Bound) (front back : List Numbered) → a ≡ partial bound front → b ≡ partial bound back → whole ≡ partial bound (front ++ back)
+IsPartOfBoth a b whole =
+    (bound : Bound) (front back : List Numbered) → a ≡ partial bound front → b ≡ partial bound back
+    → whole ≡ partial bound (front ++ back)
 
 -- the counts of each group of two parts stay below 2^64
 abbrev pub CanMerge : Parts → Parts → Type 0
-CanMerge a b = (key : List Value) → ForSome (map_of.get a.groups key) (λ ts. ForSome (map_of.get b.groups key) (λ us. CanJoin ts us))
+CanMerge a b =
+    (key : List Value) → ForSome (map_of.get a.groups key) (λ ts. ForSome (map_of.get b.groups key) (λ us. CanJoin ts us))

@@ -3,9 +3,9 @@ ghost use Rattle.std.specs.List.{AllByRecursion};
 ghost use Rattle.std.specs.Option.{ForSome};
 ghost use Rattle.indexmap.specs.IndexMap.{spare};
 ghost use Rattle.im_syntax.specs.BoundFits.{BoundFits, FilterFits, ItemFits};
-ghost use Rattle.im_group.specs.Holding.{CanJoinGroups, CanTake, as_groups, kept_values, lent, lent_key, own, with_first, with_group, with_taken};
+ghost use Rattle.im_group.specs.inner.Holding.{CanJoinGroups, CanTake, as_groups, kept_values, lent, lent_key, own, with_first, with_group, with_taken};
 ghost use Rattle.im_group.specs.Partials as spec;
-ghost use Rattle.im_group.specs.Steps.{tallies_at, with_row, first_groups, GroupsAre};
+ghost use Rattle.im_group.specs.inner.Steps.{tallies_at, with_row, first_groups, GroupsAre};
 ghost use Rattle.im_group.specs.Tallies.{CanJoin};
 
 use crate::tallies::Tallies;
@@ -221,7 +221,7 @@ fn join_group(groups: &mut Groups, key: Vec<Value>, tallies: Tallies)
     }
 }
 
-/// The groups of another part join these. Where memory lacks, these are as before.
+/// The groups of another part join these. Where memory is out, these are as before.
 pub fn join_groups(groups: &mut Groups, others: Groups) -> Result<(), NoMemory>
     requires few { CanJoinGroups (own groups.old.entries) (own others.entries) }
     ensures ok { OnOk result (as_groups groups.new.entries ≡ spec.joined_groups (as_groups groups.old.entries) (as_groups others.entries)) }

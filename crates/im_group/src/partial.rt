@@ -1,9 +1,10 @@
-ghost use Rattle.std.specs.Prelude.{◌≡◌, ◌++◌, IfOk, OnOk, OnErr, map};
+ghost use Rattle.std.specs.Prelude.{◌≡◌, ◌++◌, IfOk, OnOk, OnErr, length, map};
 ghost use Rattle.std.specs.List.{AllByRecursion};
 ghost use Rattle.im_syntax.specs.BoundFits.{BoundFits};
-ghost use Rattle.im_group.specs.Holding.{as_groups, held_records};
+ghost use Rattle.im_syntax.specs.BoundQuery.{IsOfGroup, IsQuery};
+ghost use Rattle.im_group.specs.inner.Holding.{AreKeyed, as_groups, entry_order, held_records};
 ghost use Rattle.im_group.specs.Partials as spec;
-ghost use Rattle.im_group.specs.Answers.{finished, group_records, records};
+ghost use Rattle.im_group.specs.Answers.{finished, group_records, in_order, records};
 
 use crate::cell::Cell;
 use crate::grouping::{Groups, copy_groups, groups_of, join_groups, keeps, wanted};
@@ -25,7 +26,7 @@ pub struct Partial {
 
 impl Model for Partial {
     ghost use Rattle.im_group.specs.Partials.{Parts, held};
-    ghost use Rattle.im_group.specs.PartialCode.{coded_parts};
+    ghost use Rattle.im_group.specs.inner.PartialCode.{coded_parts};
 
     ghost Value = { Parts };
 
@@ -65,6 +66,14 @@ fn order_keys(left: &[Value], right: &[Value]) -> Ordering
     left.cmp(right)
 }
 
+/// Puts groups in the order of their keys, NULL last.
+fn sort_groups(groups: &mut Groups) -> Result<(), NoMemory>
+    ensures { OnOk result (groups.new.entries ≡ in_order entry_order groups.old.entries) }
+{
+    groups.sort_by(|left, _, right, _| order_keys(left.as_slice(), right.as_slice()))?;
+    Ok(())
+}
+
 /// Puts a record for each group behind the others, in the order of the groups.
 fn put_records(
     alloc: Global,
@@ -73,6 +82,8 @@ fn put_records(
     groups: Groups,
     records: &mut Vec<Record>,
 ) -> Result<(), NoMemory>
+    requires listed { AllByRecursion (IsOfGroup bound.now.groups) wanted.now }
+    requires keyed { AreKeyed (length bound.now.groups) groups.entries }
     ensures { OnOk result (records.new.items ≡ records.old.items ++ held_records bound.now.groups wanted.now groups.entries) }
 {
     for (key, tallies) in groups {
@@ -89,10 +100,12 @@ fn group_records(
     wanted: &[Item],
     mut groups: Groups,
 ) -> Result<Vec<Record>, NoMemory>
+    requires listed { AllByRecursion (IsOfGroup bound.now.groups) wanted.now }
+    requires keyed { AreKeyed (length bound.now.groups) groups.entries }
     ensures { IfOk result (λ records. records.items ≡ group_records bound.now.groups wanted.now (as_groups groups.entries)) }
 {
     let mut records = Vec::with_capacity(alloc, groups.len())?;
-    groups.sort_by(|left, _, right, _| order_keys(left.as_slice(), right.as_slice()))?;
+    sort_groups(&mut groups)?;
     put_records(alloc, bound, wanted, groups, &mut records)?;
     Ok(records)
 }
@@ -105,7 +118,9 @@ fn records_of(
     rows: &[(u64, Row)],
     groups: Groups,
 ) -> Result<Vec<Record>, NoMemory>
-    requires { wanted.now ≡ spec.wanted bound.now }
+    requires wanted { wanted.now ≡ spec.wanted bound.now }
+    requires query { IsQuery bound.now }
+    requires keyed { AreKeyed (length bound.now.groups) groups.entries }
     ensures { IfOk result (λ made. made.items ≡ records bound.now (record { rows = rows.now; groups = as_groups groups.entries })) }
 {
     if bound.grouped {
@@ -148,7 +163,7 @@ impl Partial {
 
     /// Takes what later rows give to the same query.
     ///
-    /// Where memory lacks, this one is as before and the other is dropped. It costs the rows or the groups of the
+    /// Where memory is out, this one is as before and the other is dropped. It costs the rows or the groups of the
     /// other.
     pub fn merge(&mut self, other: Partial) -> Result<(), NoMemory>
         requires few { spec.CanMerge self.old other }
@@ -173,8 +188,13 @@ impl Partial {
 
     /// The answer: the records in order, each with what the list of the query asks for.
     ///
+    /// Each cell is an item of a row or of a group: an aggregate where rows are grouped, and a column where they are not
+    /// or where GROUP BY names it.
+    ///
     /// It costs a sort of the records by the keys of ORDER BY, and one of the groups by their own.
     pub fn finish(self, alloc: Global, bound: &Bound) -> Result<Vec<Vec<Cell>>, NoMemory>
+        requires query { IsQuery bound.now }
+        requires part { spec.IsPart bound.now self }
         ensures { IfOk result (λ records. map (λ cells. cells.items) records.items ≡ finished bound.now self) }
     {
         let Partial { rows, groups } = self;

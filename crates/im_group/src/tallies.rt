@@ -2,7 +2,7 @@ ghost use Rattle.std.specs.Prelude.{◌≡◌, ◌+◌, ◌<◌, ◌^◌, [], If
 ghost use Rattle.std.specs.List.{AllByRecursion};
 ghost use Rattle.im_syntax.specs.BoundFits.{ItemFits};
 ghost use Rattle.im_group.specs.Tallies as spec;
-ghost use Rattle.im_group.specs.Steps.{joined_at, next_place};
+ghost use Rattle.im_group.specs.inner.Steps.{joined_at, next_place};
 
 use crate::tally::Tally;
 use im_syntax::Item;
@@ -62,7 +62,7 @@ impl Tallies {
         Ok(Tallies { tallies })
     }
 
-    /// Takes one row more. Where memory lacks, what the tallies are then is not said.
+    /// Takes one row more. Where memory is out, what the tallies are then is not said.
     pub fn take(&mut self, alloc: Global, wanted: &[Item], row: &[Value]) -> Result<(), NoMemory>
         requires fits { AllByRecursion (ItemFits row.now) wanted.now }
         requires few { AllByRecursion (λ t. spec.counted t + 1 < 2 ^ 64) self.old }

@@ -91,7 +91,7 @@ impl Tally {
         }
     }
 
-    /// Takes one row more. Where memory lacks, what the tally is then is not said.
+    /// Takes one row more. Where memory is out, what the tally is then is not said.
     pub fn take(&mut self, alloc: Global, item: Item, row: &[Value]) -> Result<(), NoMemory>
         requires fits { ItemFits row.now item }
         requires few { spec.counted self.old + 1 < 2 ^ 64 }

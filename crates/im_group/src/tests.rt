@@ -1,10 +1,11 @@
 ghost use Rattle.std.specs.Prelude.{◌≡◌, IfOk};
 ghost use Rattle.im_group.specs.Partials as spec;
+ghost use Rattle.im_group.specs.Partials.{IsPart};
 
 mod fits;
 
 use crate::{Cell, Partial};
-use fits::rows_fit;
+use fits::{is_query, rows_fit};
 use im_syntax::{Bound, Filter, Item, Key, Test, TestForm, Tests};
 use im_values::{Cmp, List, Name, Row, Value};
 use std::alloc::Global;
@@ -112,7 +113,9 @@ fn part(alloc: Global, bound: &Bound, rows: &[(u64, Row)]) -> Result<Partial, Fa
 }
 
 /// The part of all rows, merged from the parts in front of a place and behind it.
-fn merged(alloc: Global, bound: &Bound, rows: &[(u64, Row)], cut: usize) -> Result<Partial, Fail> {
+fn merged(alloc: Global, bound: &Bound, rows: &[(u64, Row)], cut: usize) -> Result<Partial, Fail>
+    ensures { IfOk result (IsPart bound.now) }
+{
     let cut = cut.min(rows.len());
     let mut partial = part(alloc, bound, &rows[..cut])?;
     partial.merge(part(alloc, bound, &rows[cut..])?)?;
@@ -120,7 +123,12 @@ fn merged(alloc: Global, bound: &Bound, rows: &[(u64, Row)], cut: usize) -> Resu
 }
 
 /// The answer over the rows.
-fn answer(alloc: Global, bound: &Bound, partial: Partial) -> Result<Vec<u8>, Fail> {
+fn answer(alloc: Global, bound: &Bound, partial: Partial) -> Result<Vec<u8>, Fail>
+    requires { IsPart bound.now partial }
+{
+    if !is_query(alloc, bound)? {
+        return Err(Fail::new("the bound form is not one of a query"));
+    }
     let records = partial.finish(alloc, bound)?;
     written(alloc, records.as_slice())
 }
@@ -143,7 +151,7 @@ const fn desc(item: Item) -> Key {
 fn queries_have_the_answers_of_sql(rt: HostRuntime) -> Result<(), Fail> {
     let alloc = rt.alloc();
     let rows = seven(alloc)?;
-    let cases: [(&[Item], &[u32], &[Key], bool, &[u8]); 22] = [
+    let cases: [(&[Item], &[u32], &[Key], bool, &[u8]); 21] = [
         (
             &[Item::Column(K), Item::Column(T)],
             &[],
@@ -279,7 +287,6 @@ fn queries_have_the_answers_of_sql(rt: HostRuntime) -> Result<(), Fail> {
             true,
             b"1,;,;,c;2,b;3,b;1,a;2,a;",
         ),
-        (&[], &[], &[], true, b";"),
     ];
     for (items, groups, keys, grouped, expected) in cases {
         let bound = query(alloc, None, items, groups, keys, grouped)?;

@@ -34,7 +34,8 @@ pub neither : (f g : Option NameFault) → option_or f g ≡ None → (f ≡ Non
 neither None g e = (refl, e)
 neither (Some x) g e = absurd cc
 
-pub none_of_both : {A : Type 0} (f : A → Option NameFault) (xs ys : List A) → first_fault (map f (xs ++ ys)) ≡ None → (first_fault (map f xs) ≡ None) × (first_fault (map f ys) ≡ None)
+pub none_of_both : {A : Type 0} (f : A → Option NameFault) (xs ys : List A) → first_fault (map f (xs ++ ys)) ≡ None
+    → (first_fault (map f xs) ≡ None) × (first_fault (map f ys) ≡ None)
 none_of_both f xs ys e = neither _ _ (sym (first_fault-append (map f xs) (map f ys)) ∙ sym (ap first_fault (map-append f xs ys)) ∙ e)
 
 -- ---- columns
@@ -48,7 +49,8 @@ found_within : {A : Type 0} (t : A → Bool) (i n : ℕ) (xs : List A) (k : ℕ)
 found_within t i n [] k e p = absurd cc
 found_within t i n (x ∷ xs) k e p = within_step (t x) i k n (position_from t (i + 1) xs) (omega arith) (found_within t (i + 1) n xs k (omega arith)) p
 
-known_at : (columns : List Column) (name : List ℕ) (o : Option ℕ) → column_called columns name ≡ o → cond (is_some o) None (Some (UnknownColumn name)) ≡ None → unwrap_or o 0 < length columns
+known_at : (columns : List Column) (name : List ℕ) (o : Option ℕ) → column_called columns name ≡ o
+    → cond (is_some o) None (Some (UnknownColumn name)) ≡ None → unwrap_or o 0 < length columns
 known_at columns name None is e = absurd cc
 known_at columns name (Some k) is e = found_within (is_called name) 0 (length columns) columns k (omega arith) is
 
@@ -81,7 +83,8 @@ agrees (kind.Text n) name (value.Text a) (value.Text b) s e = refl
 agrees (kind.Text n) name (value.Text a) value.Null s e = refl
 agrees (kind.Text n) name value.Null v s e = refl
 
-meets : (row : List Value) (columns : List Column) (number : ℕ) (v : Value) → fits row columns ≡ true → of_column columns number (compared v) ≡ None → Meets row number v
+meets : (row : List Value) (columns : List Column) (number : ℕ) (v : Value) → fits row columns ≡ true → of_column columns number (compared v) ≡ None
+    → Meets row number v
 meets [] [] number v f e = refl
 meets [] (c ∷ cs) number v f e = absurd cc
 meets (m ∷ ms) [] number v f e = absurd cc
@@ -94,7 +97,8 @@ textless kind.Int name (value.Text a) s e = absurd cc
 textless kind.Int name value.Null s e = refl
 textless (kind.Text n) name mine s e = absurd cc
 
-no_text : (row : List Value) (columns : List Column) (number : ℕ) → fits row columns ≡ true → of_column columns number summed ≡ None → is_text (value_at row number) ≡ false
+no_text : (row : List Value) (columns : List Column) (number : ℕ) → fits row columns ≡ true → of_column columns number summed ≡ None
+    → is_text (value_at row number) ≡ false
 no_text [] [] number f e = refl
 no_text [] (c ∷ cs) number f e = absurd cc
 no_text (m ∷ ms) [] number f e = absurd cc
@@ -113,14 +117,16 @@ module _ (row : List Value) (columns : List Column) (f : fits row columns ≡ tr
   meets_one : (name : List ℕ) (v : Lit) → value_fault columns (behind name v) ≡ None → Meets row (number_of columns name) (value_of v)
   meets_one name v e = meets row columns (number_of columns name) (value_of v) f e
 
-  meets_all : (name : List ℕ) (vs : List Lit) → values_fault columns (map (behind name) vs) ≡ None → AllByRecursion (Meets row (number_of columns name)) (map value_of vs)
+  meets_all : (name : List ℕ) (vs : List Lit) → values_fault columns (map (behind name) vs) ≡ None
+      → AllByRecursion (Meets row (number_of columns name)) (map value_of vs)
   meets_all name [] e = tt
   meets_all name (v ∷ vs) e =
       let both = neither (value_fault columns (behind name v)) (values_fault columns (map (behind name) vs)) e in
       (meets_one name v both.0, meets_all name vs both.1)
 
   mutual
-    pub test_fits : (t : TermOf (List ℕ) Lit) → unknown_fault columns (term_names t) ≡ None → values_fault columns (term_values t) ≡ None → TestFits row (term_map (number_of columns) value_of t)
+    pub test_fits : (t : TermOf (List ℕ) Lit) → unknown_fault columns (term_names t) ≡ None → values_fault columns (term_values t) ≡ None
+        → TestFits row (term_map (number_of columns) value_of t)
     test_fits (negation t) n e = test_fits t n e
     test_fits (nested c) n e = cond_fits c n e
     test_fits (comparison name cmp v) n e = (has_one name n, meets_one name v (neither (value_fault columns (behind name v)) None e).0)
@@ -130,21 +136,24 @@ module _ (row : List Value) (columns : List Column) (f : fits row columns ≡ tr
         (has_one name n, meets_one name low first.0, meets_one name high (neither (value_fault columns (behind name high)) None first.1).0)
     test_fits (within name negated vs) n e = (has_one name n, meets_all name vs e)
 
-    pub conj_fits : (c : ConjOf (List ℕ) Lit) → unknown_fault columns (conj_names c) ≡ None → values_fault columns (conj_values c) ≡ None → TestsFit row (conj_map (number_of columns) value_of c)
+    pub conj_fits : (c : ConjOf (List ℕ) Lit) → unknown_fault columns (conj_names c) ≡ None → values_fault columns (conj_values c) ≡ None
+        → TestsFit row (conj_map (number_of columns) value_of c)
     conj_fits no_term n e = tt
     conj_fits (and_term t ts) n e =
         let names = none_of_both (unknown columns) (term_names t) (conj_names ts) n in
         let values = none_of_both (value_fault columns) (term_values t) (conj_values ts) e in
         (test_fits t names.0 values.0, conj_fits ts names.1 values.1)
 
-    pub cond_fits : (c : CondOf (List ℕ) Lit) → unknown_fault columns (cond_names c) ≡ None → values_fault columns (cond_values c) ≡ None → FilterFits row (cond_map (number_of columns) value_of c)
+    pub cond_fits : (c : CondOf (List ℕ) Lit) → unknown_fault columns (cond_names c) ≡ None → values_fault columns (cond_values c) ≡ None
+        → FilterFits row (cond_map (number_of columns) value_of c)
     cond_fits no_conj n e = tt
     cond_fits (or_conj c cs) n e =
         let names = none_of_both (unknown columns) (conj_names c) (cond_names cs) n in
         let values = none_of_both (value_fault columns) (conj_values c) (cond_values cs) e in
         (conj_fits c names.0 values.0, cond_fits cs names.1 values.1)
 
-  pub where_fits : (c : Option (CondOf (List ℕ) Lit)) → unknown_fault columns (where_names c) ≡ None → values_fault columns (where_values c) ≡ None → ForSome (filter_of columns c) (FilterFits row)
+  pub where_fits : (c : Option (CondOf (List ℕ) Lit)) → unknown_fault columns (where_names c) ≡ None → values_fault columns (where_values c) ≡ None
+      → ForSome (filter_of columns c) (FilterFits row)
   where_fits None n e = λ x is. absurd cc
   where_fits (Some c) n e = λ x is. let same : cond_map (number_of columns) value_of c ≡ x = cc in rw (← same) (cond_fits c n e)
 
@@ -161,18 +170,21 @@ module _ (row : List Value) (columns : List Column) (f : fits row columns ≡ tr
   item_fits (part.Min name) n e = has_one name n
   item_fits (part.Max name) n e = has_one name n
 
-  items_fit : (is : List ItemPart) → unknown_fault columns (flat_map item_names is) ≡ None → first_fault (map (item_fault columns) is) ≡ None → AllByRecursion (ItemFits row) (map (item_of columns) is)
+  items_fit : (is : List ItemPart) → unknown_fault columns (flat_map item_names is) ≡ None → first_fault (map (item_fault columns) is) ≡ None
+      → AllByRecursion (ItemFits row) (map (item_of columns) is)
   items_fit [] n e = tt
   items_fit (i ∷ is) n e =
       let names = none_of_both (unknown columns) (item_names i) (flat_map item_names is) n in
       let kinds = neither (item_fault columns i) (first_fault (map (item_fault columns) is)) e in
       (item_fits i names.0 kinds.0, items_fit is names.1 kinds.1)
 
-  list_fits : (l : ListPart) → unknown_fault columns (flat_map item_names (items_of l)) ≡ None → first_fault (map (item_fault columns) (items_of l)) ≡ None → AllByRecursion (ItemFits row) (list_of columns l)
+  list_fits : (l : ListPart) → unknown_fault columns (flat_map item_names (items_of l)) ≡ None
+      → first_fault (map (item_fault columns) (items_of l)) ≡ None → AllByRecursion (ItemFits row) (list_of columns l)
   list_fits list.Star n e = let same = fits_length row columns f in all_fit 0 (length columns) (omega arith)
   list_fits (list.Items is) n e = items_fit is n e
 
-  keys_fit : (ks : List KeyPart) → unknown_fault columns (flat_map item_names (map key_item ks)) ≡ None → first_fault (map (item_fault columns) (map key_item ks)) ≡ None → AllByRecursion (KeyFits row) (map (key_of columns) ks)
+  keys_fit : (ks : List KeyPart) → unknown_fault columns (flat_map item_names (map key_item ks)) ≡ None
+      → first_fault (map (item_fault columns) (map key_item ks)) ≡ None → AllByRecursion (KeyFits row) (map (key_of columns) ks)
   keys_fit [] n e = tt
   keys_fit (k ∷ ks) n e =
       let names = none_of_both (unknown columns) (item_names k.item) (flat_map item_names (map key_item ks)) n in

@@ -7,10 +7,11 @@ use Rattle.im_values.specs.declared.schema.Column.{Column}
 use Rattle.im_syntax.specs.declared.query.ItemPart.{ItemPart}
 use Rattle.im_syntax.specs.declared.query.ItemPart.TheVariants as part
 use Rattle.im_syntax.specs.declared.query.Query.{Query}
+use Rattle.im_syntax.specs.BoundQuery.{is_listed}
 use Rattle.im_names.specs.declared.fault.NameFault.TheVariants.{NotGrouped}
 use Rattle.im_names.specs.Faults.{first_fault}
 use Rattle.im_names.specs.Lookups.{is_called, number_of}
-use Rattle.im_names.specs.Queries.{items_of, key_item, is_listed, lone_fault, lone_faults, marked_fault, marked_faults}
+use Rattle.im_names.specs.Queries.{items_of, key_item, lone_fault, lone_faults, marked_fault, marked_faults}
 
 either_within : (b : Bool) (i d n : ℕ) (rest : Option ℕ) → i < n → unwrap_or rest d < n → unwrap_or (cond b (Some i) rest) d < n
 either_within true i d n rest lt below = lt
@@ -28,16 +29,20 @@ number_within columns name some = place_within (is_called name) 0 (length column
 abbrev pub all_marks : List Column → List (List ℕ) → List Bool
 all_marks columns groups = map (is_listed (map (number_of columns) groups)) (range_with_len 0 (length columns))
 
-marked : (columns : List Column) (groups : List (List ℕ)) (item : ItemPart) → 1 ≤ length columns → marked_fault columns (all_marks columns groups) item ≡ lone_fault columns groups item
+marked : (columns : List Column) (groups : List (List ℕ)) (item : ItemPart) → 1 ≤ length columns
+    → marked_fault columns (all_marks columns groups) item ≡ lone_fault columns groups item
 marked columns groups (part.Column name) some =
-    ap (λ (b : Bool). cond b None (Some (NotGrouped (Some name)))) (get_or-map-range_with_len (is_listed (map (number_of columns) groups)) 0 (length columns) (number_of columns name) (number_of columns name) false (number_within columns name some) (omega arith))
+    ap (λ (b : Bool). cond b None (Some (NotGrouped (Some name))))
+    (get_or-map-range_with_len (is_listed (map (number_of columns) groups)) 0 (length columns) (number_of columns name)
+    (number_of columns name) false (number_within columns name some) (omega arith))
 marked columns groups part.CountAll some = refl
 marked columns groups (part.Count name) some = refl
 marked columns groups (part.Sum name) some = refl
 marked columns groups (part.Min name) some = refl
 marked columns groups (part.Max name) some = refl
 
-all_marked : (columns : List Column) (groups : List (List ℕ)) (items : List ItemPart) → 1 ≤ length columns → first_fault (map (marked_fault columns (all_marks columns groups)) items) ≡ first_fault (map (lone_fault columns groups) items)
+all_marked : (columns : List Column) (groups : List (List ℕ)) (items : List ItemPart) → 1 ≤ length columns
+    → first_fault (map (marked_fault columns (all_marks columns groups)) items) ≡ first_fault (map (lone_fault columns groups) items)
 all_marked columns groups [] some = refl
 all_marked columns groups (item ∷ items) some = rw (marked columns groups item some, all_marked columns groups items some) refl
 

@@ -1,6 +1,7 @@
 pub mod FaultLemmas
 pub mod MapLemmas
 pub mod GroupLemmas
+mod QueryLemmas
 pub mod StatementLemmas
 pub mod FitLemmas
 pub mod RowLemmas

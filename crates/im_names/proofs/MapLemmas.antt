@@ -20,10 +20,12 @@ map_ends g xs i ys le made = made ∙ ap (map g) (take_all i xs le)
 
 -- the numbers below the next one
 pub range_more : (n : ℕ) → range_with_len 0 (n + 1) ≡ range_with_len 0 n ++ n ∷ []
-range_more n = sym (map-id (range_with_len 0 (n + 1))) ∙ map-range_with_len_more (λ k. k) 0 n n (omega arith) ∙ ap (λ ks. ks ++ n ∷ []) (map-id (range_with_len 0 n))
+range_more n =
+    sym (map-id (range_with_len 0 (n + 1))) ∙ map-range_with_len_more (λ k. k) 0 n n (omega arith) ∙ ap (λ ks. ks ++ n ∷ []) (map-id (range_with_len 0 n))
 
 -- a map over the numbers below the next one
-pub range_goes : {B : Type 0} (g : ℕ → B) (n : ℕ) (ys new : List B) (y : B) → y ≡ g n → new ≡ ys ++ y ∷ [] → ys ≡ map g (range_with_len 0 n) → new ≡ map g (range_with_len 0 (n + 1))
+pub range_goes : {B : Type 0} (g : ℕ → B) (n : ℕ) (ys new : List B) (y : B) → y ≡ g n → new ≡ ys ++ y ∷ [] → ys ≡ map g (range_with_len 0 n)
+    → new ≡ map g (range_with_len 0 (n + 1))
 range_goes g n ys new y is_image grown made =
     grown ∙ ap (λ zs. zs ++ y ∷ []) made ∙ ap (λ z. map g (range_with_len 0 n) ++ z ∷ []) is_image ∙ sym (map-range_with_len_more g 0 n n (omega arith))
 

@@ -30,7 +30,8 @@ short true name m n e = refl
 short false name m n e = absurd cc
 
 -- what has no fault may stand there
-fault_free : (k : Kind) (name : List ℕ) (v : Value) → option_or (cond (is_other k v) (Some (WrongKind name)) None) (too_long name k v) ≡ None → may_stand k v ≡ true
+fault_free : (k : Kind) (name : List ℕ) (v : Value) → option_or (cond (is_other k v) (Some (WrongKind name)) None) (too_long name k v) ≡ None
+    → may_stand k v ≡ true
 fault_free kind.Int name (value.Int a) e = refl
 fault_free kind.Int name (value.Text a) e = absurd cc
 fault_free kind.Int name value.Null e = refl
@@ -51,25 +52,29 @@ stands (c ∷ cs) (suc number) v lt e =
 
 -- ---- sets
 
-each_known : (columns : List Column) (before names : List (List ℕ)) → first_fault (with_earlier (misplaced columns) before names) ≡ None → AllByRecursion (λ name. unknown columns name ≡ None) names
+each_known : (columns : List Column) (before names : List (List ℕ)) → first_fault (with_earlier (misplaced columns) before names) ≡ None
+    → AllByRecursion (λ name. unknown columns name ≡ None) names
 each_known columns before [] e = tt
 each_known columns before (name ∷ names) e =
     let both = neither (misplaced columns before name) (first_fault (with_earlier (misplaced columns) (before ++ name ∷ []) names)) e in
     ((neither (unknown columns name) (repeated before name) both.0).0, each_known columns (before ++ name ∷ []) names both.1)
 
-each_serves : (columns : List Column) (sets : List (List ℕ × Lit)) → AllByRecursion (λ name. unknown columns name ≡ None) (map set_name sets) → first_fault (map (set_fault columns) sets) ≡ None → AllByRecursion (SetServes columns) (map (set_of columns) sets)
+each_serves : (columns : List Column) (sets : List (List ℕ × Lit)) → AllByRecursion (λ name. unknown columns name ≡ None) (map set_name sets)
+    → first_fault (map (set_fault columns) sets) ≡ None → AllByRecursion (SetServes columns) (map (set_of columns) sets)
 each_serves columns [] known e = tt
 each_serves columns (s ∷ ss) known e =
     let both = neither (set_fault columns s) (first_fault (map (set_fault columns) ss)) e in
     (stands columns (number_of columns s.0) (value_of s.1) (known_within columns s.0 known.0) both.0, each_serves columns ss known.1 both.1)
 
-pub sets_serve : (columns : List Column) (sets : List (List ℕ × Lit)) → listed_fault columns (map set_name sets) ≡ None → first_fault (map (set_fault columns) sets) ≡ None → AllByRecursion (SetServes columns) (map (set_of columns) sets)
+pub sets_serve : (columns : List Column) (sets : List (List ℕ × Lit)) → listed_fault columns (map set_name sets) ≡ None
+    → first_fault (map (set_fault columns) sets) ≡ None → AllByRecursion (SetServes columns) (map (set_of columns) sets)
 sets_serve columns sets names values = each_serves columns sets (each_known columns [] (map set_name sets) names) values
 
 -- ---- rows
 
 -- a row that is made column by column
-fits_range : (cs : List Column) (a : ℕ) (h : ℕ → Value) → ((i j : ℕ) (c : Column) → a + i ≡ j → slice_get cs i ≡ Some c → may_stand c.kind (h j) ≡ true) → fits (map h (range_with_len a (length cs))) cs ≡ true
+fits_range : (cs : List Column) (a : ℕ) (h : ℕ → Value)
+    → ((i j : ℕ) (c : Column) → a + i ≡ j → slice_get cs i ≡ Some c → may_stand c.kind (h j) ≡ true) → fits (map h (range_with_len a (length cs))) cs ≡ true
 fits_range [] a h each = refl
 fits_range (c ∷ cs) a h each =
     let here : may_stand c.kind (h a) ≡ true = each 0 a c (omega arith) refl in
@@ -97,37 +102,44 @@ no_values f (n ∷ ns) = refl
 module _ (columns : List Column) (number : ℕ) (column : Column) (is_there : slice_get columns number ≡ Some column) (whole : List Lit) where
   taken_at : (rest : List Lit) (b : Bool) (k n : ℕ) (ns : List ℕ) → drop k whole ≡ rest → nat_eq number n ≡ b
       → first_fault (map (stored_fault columns) (zip (n ∷ ns) rest)) ≡ None
-      → ((others : List Lit) → drop (k + 1) whole ≡ others → first_fault (map (stored_fault columns) (zip ns others)) ≡ None → may_stand column.kind (taken whole (position_from (nat_eq number) (k + 1) ns)) ≡ true)
+      → ((others : List Lit) → drop (k + 1) whole ≡ others → first_fault (map (stored_fault columns) (zip ns others)) ≡ None
+      → may_stand column.kind (taken whole (position_from (nat_eq number) (k + 1) ns)) ≡ true)
       → may_stand column.kind (taken whole (cond b (Some k) (position_from (nat_eq number) (k + 1) ns))) ≡ true
   taken_at [] true k n ns is here e further = rw (past k whole is).0 (null_stands column.kind)
   taken_at [] false k n ns is here e further = further [] (rw add-one (past k whole is).1) (no_values (stored_fault columns) ns)
   taken_at (l ∷ ls) true k n ns is here e further =
       let same : number ≡ n = eqb-true number n here in
-      let there : of_column columns n (stored (value_of l)) ≡ None = (neither (stored_fault columns (n, l)) (first_fault (map (stored_fault columns) (zip ns ls))) e).0 in
+      let there : of_column columns n (stored (value_of l)) ≡ None =
+      (neither (stored_fault columns (n, l)) (first_fault (map (stored_fault columns) (zip ns ls))) e).0 in
       let fault : of_column columns number (stored (value_of l)) ≡ None = rw same there in
       let own : stored (value_of l) column ≡ None = rw is_there at fault in
       rw (inside k whole l ls is).0 (fault_free column.kind column.name (value_of l) own)
   taken_at (l ∷ ls) false k n ns is here e further =
       further ls (rw add-one (inside k whole l ls is).1) (neither (stored_fault columns (n, l)) (first_fault (map (stored_fault columns) (zip ns ls))) e).1
 
-  taken_stands : (numbers : List ℕ) (k : ℕ) (rest : List Lit) → drop k whole ≡ rest → first_fault (map (stored_fault columns) (zip numbers rest)) ≡ None → may_stand column.kind (taken whole (position_from (nat_eq number) k numbers)) ≡ true
+  taken_stands : (numbers : List ℕ) (k : ℕ) (rest : List Lit) → drop k whole ≡ rest
+      → first_fault (map (stored_fault columns) (zip numbers rest)) ≡ None
+      → may_stand column.kind (taken whole (position_from (nat_eq number) k numbers)) ≡ true
   taken_stands [] k rest is e = null_stands column.kind
   taken_stands (n ∷ ns) k rest is e = taken_at rest (nat_eq number n) k n ns is refl e (taken_stands ns (k + 1))
 
-row_serves : (columns : List Column) (numbers : List ℕ) (tuple : List Lit) → tuple_fault columns numbers tuple ≡ None → fits (row_of (length columns) numbers tuple) columns ≡ true
+row_serves : (columns : List Column) (numbers : List ℕ) (tuple : List Lit) → tuple_fault columns numbers tuple ≡ None
+    → fits (row_of (length columns) numbers tuple) columns ≡ true
 row_serves columns numbers tuple e =
     rw (map-map (taken tuple) (source numbers) (range_with_len 0 (length columns)))
     (fits_range columns 0 (λ number. taken tuple (source numbers number)) (λ i j c s is.
     let same : i ≡ j = omega arith in
     taken_stands columns j c (rw (← same) is) tuple numbers 0 tuple refl e))
 
-each_row : (columns : List Column) (numbers : List ℕ) (tuples : List (List Lit)) → first_fault (map (tuple_fault columns numbers) tuples) ≡ None → AllByRecursion (λ row. fits row columns ≡ true) (map (row_of (length columns) numbers) tuples)
+each_row : (columns : List Column) (numbers : List ℕ) (tuples : List (List Lit)) → first_fault (map (tuple_fault columns numbers) tuples) ≡ None
+    → AllByRecursion (λ row. fits row columns ≡ true) (map (row_of (length columns) numbers) tuples)
 each_row columns numbers [] e = tt
 each_row columns numbers (tuple ∷ tuples) e =
     let both = neither (tuple_fault columns numbers tuple) (first_fault (map (tuple_fault columns numbers) tuples)) e in
     (row_serves columns numbers tuple both.0, each_row columns numbers tuples both.1)
 
-pub rows_serve : (columns : List Column) (names : List (List ℕ)) (tuples : List (List Lit)) → 1 ≤ length tuples → insert_fault columns names tuples ≡ None → RowsServe (rows_of columns names tuples) columns
+pub rows_serve : (columns : List Column) (names : List (List ℕ)) (tuples : List (List Lit)) → 1 ≤ length tuples
+    → insert_fault columns names tuples ≡ None → RowsServe (rows_of columns names tuples) columns
 rows_serve columns names tuples some e =
     let numbers = targets columns names in
     let e1 = neither (listed_fault columns names) _ e in

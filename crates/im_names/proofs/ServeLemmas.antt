@@ -17,7 +17,7 @@ use Rattle.im_syntax.specs.Condition.{CondOf}
 use Rattle.im_values.specs.declared.priority.Priority.{Priority}
 use Rattle.im_history.specs.declared.entry.Mode.TheVariants as mode
 use Rattle.im_syntax.specs.Rules.{IsStmt, IsCreate, IsInsert}
-use Rattle.im_history.specs.Grid.{IsInRange}
+use Rattle.im_history.specs.Grid.{IsInRange, default_grid}
 use Rattle.im_history.specs.Tables.{is_named}
 use Rattle.im_history.specs.declared.look.TableInfo.{TableInfo}
 use Rattle.im_names.specs.declared.fault.NameFault.{NameFault}
@@ -32,6 +32,7 @@ use Rattle.im_names.specs.Definitions.{column_of, column_name, shape_of, priorit
 use Rattle.im_names.specs.Statements.{answer, query_answer, create_answer, memory_answer}
 use Rattle.im_names.specs.Fitting.{columns_at, OfTable, QueryServes, Serves}
 use Rattle.im_names.proofs.FitLemmas.{neither, where_fits, query_fits}
+use Rattle.im_names.proofs.QueryLemmas.{is_query}
 use Rattle.im_names.proofs.RowLemmas.{sets_serve, rows_serve}
 
 -- ---- answers taken apart
@@ -79,18 +80,21 @@ record Answered {A : Type 0} (tables : List TableInfo) (name : List ℕ) (of : �
   pub are_of : columns_at tables (table_number tables name) ≡ Some columns
   pub answered : of (table_number tables name) columns ≡ Ok x
 
-number_there : (tables : List TableInfo) (name : List ℕ) (table : TableInfo) → table_called tables name ≡ Some table → columns_at tables (table_number tables name) ≡ Some table.schema
+number_there : (tables : List TableInfo) (name : List ℕ) (table : TableInfo) → table_called tables name ≡ Some table
+    → columns_at tables (table_number tables name) ≡ Some table.schema
 number_there tables name table e =
     let at = found_at (is_named name) 0 tables table e in
     let same : 0 + at.place ≡ at.place = omega arith in
     rw (at.position, same, at.there) refl
 
-answered_at : {A : Type 0} (tables : List TableInfo) (name : List ℕ) (of : ℕ → List Column → Result A NameFault) (x : A) (o : Option TableInfo) → table_called tables name ≡ o
+answered_at : {A : Type 0} (tables : List TableInfo) (name : List ℕ) (of : ℕ → List Column → Result A NameFault) (x : A) (o : Option TableInfo)
+    → table_called tables name ≡ o
     → of_table o name (λ table. of (table_number tables name) table.schema) ≡ Ok x → Answered tables name of x
 answered_at tables name of x None is e = absurd cc
 answered_at tables name of x (Some table) is e = record { columns = table.schema; are_of = number_there tables name table is; answered = e }
 
-answered : {A : Type 0} (tables : List TableInfo) (name : List ℕ) (of : ℕ → List Column → Result A NameFault) (x : A) → in_table tables name of ≡ Ok x → Answered tables name of x
+answered : {A : Type 0} (tables : List TableInfo) (name : List ℕ) (of : ℕ → List Column → Result A NameFault) (x : A) → in_table tables name of ≡ Ok x
+    → Answered tables name of x
 answered tables name of x e = answered_at tables name of x (table_called tables name) refl e
 
 -- ---- each statement
@@ -99,23 +103,32 @@ query_serves : (tables : List TableInfo) (q : Query) (bound : Bound) → query_a
 query_serves tables q bound e =
     let a = answered tables q.table (λ number columns. unless (query_fault columns q) (bound_of number columns q)) bound e in
     let v = unless_value (query_fault a.columns q) (bound_of (table_number tables q.table) a.columns q) bound a.answered in
-    rw v.is (record { columns = a.columns; are_of = a.are_of; is = λ row f. query_fits row a.columns f (table_number tables q.table) q v.free })
+    let number = table_number tables q.table in
+    let serves_of : QueryServes (bound_of number a.columns q) a.columns = record {
+      rows = λ row f. query_fits row a.columns f number q v.free;
+      query = is_query a.columns number q v.free;
+    } in
+    rw v.is (record { columns = a.columns; are_of = a.are_of; is = serves_of })
 
 some_columns : (name : List ℕ) (columns : List ColumnPart) (block extent : Option ℕ) → IsCreate name columns block extent → 1 ≤ length columns
 some_columns name [] block extent good = absurd good.columns.0
 some_columns name (c ∷ cs) block extent good = omega arith
 
-block_in_range : (name : List ℕ) (columns : List ColumnPart) (block extent : Option ℕ) → IsCreate name columns block extent → IsInRange (unwrap_or block 32)
+block_in_range : (name : List ℕ) (columns : List ColumnPart) (block extent : Option ℕ) → IsCreate name columns block extent
+    → IsInRange (unwrap_or block default_grid.block)
 block_in_range name columns None extent good = record { some = omega arith; few = omega arith }
 block_in_range name columns (Some n) extent good = record { some = good.block.low_end; few = good.block.high_end }
 
-extent_in_range : (name : List ℕ) (columns : List ColumnPart) (block extent : Option ℕ) → IsCreate name columns block extent → IsInRange (unwrap_or extent 64)
+extent_in_range : (name : List ℕ) (columns : List ColumnPart) (block extent : Option ℕ) → IsCreate name columns block extent
+    → IsInRange (unwrap_or extent default_grid.extent)
 extent_in_range name columns block None good = record { some = omega arith; few = omega arith }
 extent_in_range name columns block (Some n) good = record { some = good.extent.low_end; few = good.extent.high_end }
 
-create_serves : (tables : List TableInfo) (name : List ℕ) (columns : List ColumnPart) (block extent : Option ℕ) (memory : Option MemoryPart) (r : Resolved) → IsCreate name columns block extent → create_answer name columns block extent memory ≡ Ok r → Serves tables r
+create_serves : (tables : List TableInfo) (name : List ℕ) (columns : List ColumnPart) (block extent : Option ℕ) (memory : Option MemoryPart)
+    (r : Resolved) → IsCreate name columns block extent → create_answer name columns block extent memory ≡ Ok r → Serves tables r
 create_serves tables name columns block extent memory r good e =
-    let v = unless_value (repeated_fault (map column_name columns)) (resolved.Create name (map column_of columns) (shape_of block extent) (option_map priority_of memory)) r e in
+    let v = unless_value (repeated_fault (map column_name columns))
+    (resolved.Create name (map column_of columns) (shape_of block extent) (option_map priority_of memory)) r e in
     rw v.is (record {
       some = rw (length-map columns column_of) (some_columns name columns block extent good);
       few = rw (length-map columns column_of) good.columns.1.count;
@@ -123,7 +136,8 @@ create_serves tables name columns block extent memory r good e =
       extent = extent_in_range name columns block extent good;
     })
 
-memory_serves : (tables : List TableInfo) (name : List ℕ) (priority : Option Priority) (r : Resolved) → memory_answer tables name priority ≡ Ok r → Serves tables r
+memory_serves : (tables : List TableInfo) (name : List ℕ) (priority : Option Priority) (r : Resolved) → memory_answer tables name priority ≡ Ok r
+    → Serves tables r
 memory_serves tables name priority r e =
     let a = answered tables name (λ number columns. Ok (resolved.Memory number priority)) r e in
     let is : r ≡ resolved.Memory (table_number tables name) priority = cc (a.answered) in
@@ -139,16 +153,20 @@ some_tuples : (name : List ℕ) (names : List (List ℕ)) (tuples : List (List L
 some_tuples name names [] good = absurd good.tuples.0
 some_tuples name names (t ∷ ts) good = omega arith
 
-insert_serves : (tables : List TableInfo) (name : List ℕ) (names : List (List ℕ)) (tuples : List (List Lit)) (r : Resolved) → IsInsert name names tuples → answer tables (stmt.Insert name names tuples) ≡ Ok r → Serves tables r
+insert_serves : (tables : List TableInfo) (name : List ℕ) (names : List (List ℕ)) (tuples : List (List Lit)) (r : Resolved)
+    → IsInsert name names tuples → answer tables (stmt.Insert name names tuples) ≡ Ok r → Serves tables r
 insert_serves tables name names tuples r good e =
     let a = answered tables name (λ number columns. unless (insert_fault columns names tuples) (resolved.Insert number (rows_of columns names tuples))) r e in
     let v = unless_value (insert_fault a.columns names tuples) (resolved.Insert (table_number tables name) (rows_of a.columns names tuples)) r a.answered in
     rw v.is (record { columns = a.columns; are_of = a.are_of; is = rows_serve a.columns names tuples (some_tuples name names tuples good) v.free })
 
-update_serves : (tables : List TableInfo) (name : List ℕ) (sets : List (List ℕ × Lit)) (where_ : Option (CondOf (List ℕ) Lit)) (r : Resolved) → answer tables (stmt.Update name sets where_) ≡ Ok r → Serves tables r
+update_serves : (tables : List TableInfo) (name : List ℕ) (sets : List (List ℕ × Lit)) (where_ : Option (CondOf (List ℕ) Lit)) (r : Resolved)
+    → answer tables (stmt.Update name sets where_) ≡ Ok r → Serves tables r
 update_serves tables name sets where_ r e =
-    let a = answered tables name (λ number columns. unless (update_fault columns sets where_) (resolved.Update number (filter_of columns where_) (map (set_of columns) sets))) r e in
-    let v = unless_value (update_fault a.columns sets where_) (resolved.Update (table_number tables name) (filter_of a.columns where_) (map (set_of a.columns) sets)) r a.answered in
+    let a = answered tables name (λ number columns. unless (update_fault columns sets where_)
+    (resolved.Update number (filter_of columns where_) (map (set_of columns) sets))) r e in
+    let v = unless_value (update_fault a.columns sets where_)
+    (resolved.Update (table_number tables name) (filter_of a.columns where_) (map (set_of a.columns) sets)) r a.answered in
     let e1 = neither (listed_fault a.columns (map set_name sets)) _ v.free in
     let e2 = neither (unknown_fault a.columns (where_names where_)) _ e1.1 in
     let e3 = neither (first_fault (map (set_fault a.columns) sets)) _ e2.1 in
@@ -162,7 +180,8 @@ update_serves tables name sets where_ r e =
       };
     })
 
-delete_serves : (tables : List TableInfo) (name : List ℕ) (where_ : Option (CondOf (List ℕ) Lit)) (r : Resolved) → answer tables (stmt.Delete name where_) ≡ Ok r → Serves tables r
+delete_serves : (tables : List TableInfo) (name : List ℕ) (where_ : Option (CondOf (List ℕ) Lit)) (r : Resolved)
+    → answer tables (stmt.Delete name where_) ≡ Ok r → Serves tables r
 delete_serves tables name where_ r e =
     let a = answered tables name (λ number columns. unless (delete_fault columns where_) (resolved.Delete number (filter_of columns where_))) r e in
     let v = unless_value (delete_fault a.columns where_) (resolved.Delete (table_number tables name) (filter_of a.columns where_)) r a.answered in
@@ -176,8 +195,10 @@ plain_serves tables x r s e = let is : x ≡ r = cc in rw (← is) s
 
 pub serves : (tables : List TableInfo) (s : Stmt) (r : Resolved) → IsStmt s → answer tables s ≡ Ok r → Serves tables r
 serves tables (stmt.Select q) r good e = let f = formed_value resolved.Select (query_answer tables q) r e in rw f.is (query_serves tables q f.value f.answered)
-serves tables (stmt.Explain q) r good e = let f = formed_value resolved.Explain (query_answer tables q) r e in rw f.is (query_serves tables q f.value f.answered)
-serves tables (stmt.OpenFor cursor q) r good e = let f = formed_value (resolved.OpenFor cursor) (query_answer tables q) r e in rw f.is (query_serves tables q f.value f.answered)
+serves tables (stmt.Explain q) r good e =
+    let f = formed_value resolved.Explain (query_answer tables q) r e in rw f.is (query_serves tables q f.value f.answered)
+serves tables (stmt.OpenFor cursor q) r good e =
+    let f = formed_value (resolved.OpenFor cursor) (query_answer tables q) r e in rw f.is (query_serves tables q f.value f.answered)
 serves tables (stmt.Create name columns block extent memory) r good e = create_serves tables name columns block extent memory r good e
 serves tables (stmt.AlterMemory name memory) r good e = memory_serves tables name (Some (priority_of memory)) r e
 serves tables (stmt.AlterNoMemory name) r good e = memory_serves tables name None r e
@@ -200,6 +221,7 @@ serves tables stmt.Cancel r good e = plain_serves tables resolved.Cancel r tt e
 serves tables (stmt.Trickle n) r good e = plain_serves tables (resolved.Trickle n) r tt e
 
 -- the same of a result
-pub result_serves : (tables : List TableInfo) (s : Stmt) (r : Result Resolved NameFault) → IsStmt s → IfOk r (λ x. answer tables s ≡ Ok x) → IfOk r (Serves tables)
+pub result_serves : (tables : List TableInfo) (s : Stmt) (r : Result Resolved NameFault) → IsStmt s → IfOk r (λ x. answer tables s ≡ Ok x)
+    → IfOk r (Serves tables)
 result_serves tables s (Ok x) good e = serves tables s x good e
 result_serves tables s (Err f) good e = tt

@@ -8,7 +8,7 @@ use Rattle.im_syntax.specs.declared.table.KindWord.{KindWord}
 use Rattle.im_syntax.specs.declared.table.KindWord.TheVariants as word
 use Rattle.im_syntax.specs.declared.table.ColumnPart.{ColumnPart}
 use Rattle.im_syntax.specs.declared.table.MemoryPart.{MemoryPart}
-use Rattle.im_history.specs.Grid.{Grid}
+use Rattle.im_history.specs.Grid.{Grid, default_grid}
 use Rattle.im_values.specs.declared.priority.Priority.{Priority}
 use Rattle.im_values.specs.declared.priority.Priority.TheVariants as priority
 
@@ -24,9 +24,9 @@ column_of c = record { name = c.name; kind = kind_of c.kind }
 abbrev pub column_name : ColumnPart → List ℕ
 column_name c = c.name
 
--- 32 row numbers a block and 64 blocks an extent, unless others are written
+-- the shape of a table that names none, unless others are written
 abbrev pub shape_of : Option ℕ → Option ℕ → Grid
-shape_of block extent = record { block = unwrap_or block 32; extent = unwrap_or extent 64 }
+shape_of block extent = record { block = unwrap_or block default_grid.block; extent = unwrap_or extent default_grid.extent }
 
 -- an INMEMORY clause without PRIORITY has the priority NONE
 abbrev pub priority_of : MemoryPart → Priority

@@ -1,4 +1,4 @@
--- Which fault of a statement is told: the first in the order of the checks.
+-- Which fault of a statement is reported: the first in the order of the checks.
 use Rattle.std.specs.Prelude.{◌≡◌, ◌⊎◌, List, [], ◌∷◌, ◌++◌, Option, Some, None, Result, Ok, Err}
 use Rattle.std.specs.Option.{option_or}
 use Rattle.im_names.specs.declared.fault.NameFault.{NameFault}
@@ -29,7 +29,7 @@ pub record Passes (fault : Option NameFault) (fact : Type 0) : Type 0 where
   pub free : fault ≡ None
   pub is : fact
 
--- what is told is the fault, or want of memory, which may come at any time
+-- what is reported is the fault, or that memory is out, which may come at any time
 pub record IsCause (fault : Option NameFault) (why : NameFault) : Type 0 where
   pub is : (why ≡ NoMemory) ⊎ (fault ≡ Some why)
 

@@ -5,9 +5,11 @@ use Rattle.std.specs.Option.{option_map, ForSome}
 use Rattle.im_values.specs.declared.schema.Column.{Column}
 use Rattle.im_values.specs.declared.value.Value.{Value}
 use Rattle.im_values.specs.Fits.{may_stand, fits}
+use Rattle.im_values.specs.declared.limits.TheConstants.{MOST_COLUMNS}
 use Rattle.im_syntax.specs.Condition.{CondOf}
 use Rattle.im_syntax.specs.declared.bound.Bound.{Bound}
 use Rattle.im_syntax.specs.BoundFits.{FilterFits, BoundFits}
+use Rattle.im_syntax.specs.BoundQuery.{IsQuery}
 use Rattle.im_history.specs.Grid.{Grid, IsInRange}
 use Rattle.im_history.specs.declared.look.TableInfo.{TableInfo}
 use Rattle.im_names.specs.declared.resolved.Resolved.{Resolved}
@@ -28,9 +30,10 @@ pub record OfTable (tables : List TableInfo) (number : ℕ) (P : List Column →
 abbrev pub FilterServes : Option (CondOf ℕ Value) → List Column → Type 0
 FilterServes filter columns = (row : List Value) → fits row columns ≡ true → ForSome filter (FilterFits row)
 
--- a query may be asked of every row of the table
-abbrev pub QueryServes : Bound → List Column → Type 0
-QueryServes bound columns = (row : List Value) → fits row columns ≡ true → BoundFits row bound
+-- a query may be asked of every row of the table, and is grouped as SQL groups
+pub record QueryServes (bound : Bound) (columns : List Column) : Type 0 where
+  pub rows : (row : List Value) → fits row columns ≡ true → BoundFits row bound
+  pub query : IsQuery bound
 
 -- a value may stand in the column of a number
 pub record SetServes (columns : List Column) (set : ℕ × Value) : Type 0 where
@@ -48,10 +51,10 @@ pub record UpdateServes (filter : Option (CondOf ℕ Value)) (sets : List (ℕ �
   pub condition : FilterServes filter columns
   pub values : AllByRecursion (SetServes columns) sets
 
--- 1 to 16 columns, and a shape in its range
+-- a column or more, not more than a table may have, and a shape in its range
 pub record TableServes (columns : List Column) (shape : Grid) : Type 0 where
   pub some : 1 ≤ length columns
-  pub few : length columns ≤ 16
+  pub few : length columns ≤ MOST_COLUMNS
   pub block : IsInRange shape.block
   pub extent : IsInRange shape.extent
 
@@ -66,4 +69,14 @@ Serves tables (resolved.Insert table rows) = OfTable tables table (RowsServe row
 Serves tables (resolved.Update table filter sets) = OfTable tables table (UpdateServes filter sets)
 Serves tables (resolved.Delete table filter) = OfTable tables table (FilterServes filter)
 Serves tables (resolved.Evict table extent) = OfTable tables table (λ columns. Unit {0})
-Serves tables r = Unit {0}
+Serves tables (resolved.SetMode mode) = Unit {0}
+Serves tables resolved.Commit = Unit {0}
+Serves tables resolved.Rollback = Unit {0}
+Serves tables (resolved.Step cursor) = Unit {0}
+Serves tables (resolved.Fetch cursor) = Unit {0}
+Serves tables (resolved.Close cursor) = Unit {0}
+Serves tables resolved.Run = Unit {0}
+Serves tables resolved.Begin = Unit {0}
+Serves tables resolved.Switch = Unit {0}
+Serves tables resolved.Cancel = Unit {0}
+Serves tables (resolved.Trickle n) = Unit {0}

@@ -1,5 +1,5 @@
 -- Queries: what may be wrong with them, and their bound forms.
-use Rattle.std.specs.Prelude.{ℕ, Bool, true, false, ◌||◌, ◌==◌, List, [], ◌∷◌, get_or, length, map, Option, Some, None, if◌then◌else◌}
+use Rattle.std.specs.Prelude.{ℕ, Bool, true, false, ◌||◌, List, [], ◌∷◌, get_or, length, map, Option, Some, None, if◌then◌else◌}
 use Rattle.std.specs.List.{flat_map, list_any, range_with_len}
 use Rattle.im_values.specs.declared.schema.Column.{Column}
 use Rattle.im_syntax.specs.declared.query.ItemPart.{ItemPart}
@@ -14,6 +14,7 @@ use Rattle.im_syntax.specs.declared.bound.Item.{Item}
 use Rattle.im_syntax.specs.declared.bound.Item.TheVariants as item
 use Rattle.im_syntax.specs.declared.bound.Key.{Key}
 use Rattle.im_syntax.specs.declared.bound.Bound.{Bound}
+use Rattle.im_syntax.specs.BoundQuery.{is_filled, is_listed}
 use Rattle.im_names.specs.declared.fault.NameFault.{NameFault}
 use Rattle.im_names.specs.declared.fault.NameFault.TheVariants.{NotGrouped}
 use Rattle.im_names.specs.Faults.{first_fault}
@@ -79,17 +80,9 @@ is_aggregate (part.Sum name) = true
 is_aggregate (part.Min name) = true
 is_aggregate (part.Max name) = true
 
-abbrev pub is_filled : {A : Type 0} → List A → Bool
-is_filled [] = false
-is_filled (x ∷ xs) = true
-
 -- A query is grouped where it has GROUP BY, or an aggregate in its list or keys.
 abbrev pub is_grouped : Query → Bool
 is_grouped q = is_filled q.groups || list_any is_aggregate (items_of q.list) || list_any is_aggregate (map key_item q.keys)
-
--- the column of a number is among these
-abbrev pub is_listed : List ℕ → ℕ → Bool
-is_listed numbers number = list_any (λ other. other == number) numbers
 
 -- the item is a plain column that is not among those of GROUP BY
 abbrev pub lone_fault : List Column → List (List ℕ) → ItemPart → Option NameFault

@@ -1,4 +1,5 @@
 ghost use Rattle.std.specs.Prelude.{◌≡◌, ◌<◌, ◌≤◌, List, ℕ, length, map, None, OnOk, IfErr, IfSome};
+ghost use Rattle.im_values.specs.declared.limits.TheConstants.{MOST_COLUMNS};
 ghost use Rattle.im_names.specs.Faults.{IsCause};
 ghost use Rattle.im_names.specs.Lookups as lookup;
 
@@ -39,11 +40,11 @@ impl Named for ColumnPart {
     }
 }
 
-/// How many columns there are: from 1 to 16.
+/// How many columns there are.
 pub fn width_of(schema: &Schema) -> u32
     ensures width { result ≡ length schema.now }
     ensures some { 1 ≤ result }
-    ensures few { result ≤ 16 }
+    ensures few { result ≤ MOST_COLUMNS }
 {
     schema.columns().len() as u32
 }

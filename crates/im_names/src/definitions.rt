@@ -1,5 +1,6 @@
 ghost use Rattle.std.specs.Prelude.{◌≡◌, ◌≤◌, length, map, IfOk, IfSome};
 ghost use Rattle.std.specs.Option.{option_map};
+ghost use Rattle.im_values.specs.declared.limits.TheConstants.{MOST_COLUMNS};
 ghost use Rattle.im_history.specs.Grid.{IsInRange};
 ghost use Rattle.im_names.specs.Definitions as spec;
 
@@ -20,7 +21,7 @@ fn kind_of(word: KindWord) -> Kind
 /// The columns of a table that is created.
 pub fn schema_of(alloc: Global, parts: &[ColumnPart]) -> Result<Schema, NoMemory>
     requires some { 1 ≤ length parts.now }
-    requires few { length parts.now ≤ 16 }
+    requires few { length parts.now ≤ MOST_COLUMNS }
     ensures { IfOk result (λ schema. schema ≡ map spec.column_of parts.now) }
 {
     let mut columns = Vec::with_capacity(alloc, parts.len())?;

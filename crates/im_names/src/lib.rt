@@ -3,8 +3,8 @@
 //! The model is one function on definitions, `answer` (`specs/Statements.antt`): for a list of tables and a statement
 //! it gives the statement with numbers for its names, or a fault. It lists the checks in their order: the table, the
 //! names of columns in the order of the text, the lengths of tuples, the kinds and lengths of values, the grouping.
-//! [`resolve`] answers exactly that, or want of memory. What it answers fits the tables (`specs/Fitting.antt`): a query
-//! may be asked of every row of its table, and rows and values may stand in theirs.
+//! [`resolve`] answers exactly that, or that it is out of memory. What it answers fits the tables (`specs/Fitting.antt`):
+//! a query may be asked of every row of its table and is grouped as SQL groups, and rows and values may stand in theirs.
 //!
 //! That a new table's name is free, that there is room for it, cursors and transactions are not looked at here.
 //!

@@ -3,6 +3,7 @@ ghost use Rattle.std.specs.List.{flat_map, list_any, range_with_len};
 ghost use Rattle.im_syntax.specs.declared.query.ItemPart.{ItemPart as AnyItem};
 ghost use Rattle.im_syntax.specs.declared.query.ItemPart.TheVariants as part;
 ghost use Rattle.im_syntax.specs.declared.bound.Item.TheVariants as bound_item;
+ghost use Rattle.im_syntax.specs.BoundQuery.{is_listed as listed};
 ghost use Rattle.im_names.specs.Faults.{IsCause, Passes, first_fault};
 ghost use Rattle.im_names.specs.Lookups.{number_of as number, unknown_fault};
 ghost use Rattle.im_names.specs.Queries as spec;
@@ -212,14 +213,14 @@ fn is_grouped(query: &Query) -> bool
 }
 
 fn is_listed(numbers: &[u32], number: u32) -> bool
-    ensures { result ≡ spec.is_listed numbers.now number }
+    ensures { result ≡ listed numbers.now number }
 {
     numbers.contains(&number)
 }
 
 /// For each column of the table, whether it is among these.
 fn marks_of(alloc: Global, width: u32, groups: &[u32]) -> Result<Vec<bool>, NoMemory>
-    ensures { IfOk result (λ marks. marks.items ≡ map (spec.is_listed groups.now) (range_with_len 0 width)) }
+    ensures { IfOk result (λ marks. marks.items ≡ map (listed groups.now) (range_with_len 0 width)) }
 {
     let mut marks = Vec::with_capacity(alloc, width as usize)?;
     for column in 0..width {

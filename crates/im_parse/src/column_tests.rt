@@ -1,7 +1,7 @@
 ghost use Rattle.std.specs.Prelude.{◌≡◌};
 ghost use Rattle.im_readers.specs.Reading.{Found, and_then};
 ghost use Rattle.im_readers.specs.Answers.{Gives};
-ghost use Rattle.im_syntax.specs.Written.{term_of_form};
+ghost use Rattle.im_syntax.specs.Forms.{term_of_form};
 ghost use Rattle.im_parse.specs.inner.Conditions as conditions;
 
 use crate::marks::{cmp, is_key, lit, name, peek, word};

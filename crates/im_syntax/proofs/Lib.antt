@@ -1,1 +1,2 @@
+pub mod ConditionParts
 pub mod SpellLists

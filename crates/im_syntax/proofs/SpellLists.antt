@@ -5,7 +5,7 @@ use Rattle.std.specs.Prelude.{◌==◌, if◌then◌else◌}
 use Rattle.im_syntax.specs.declared.keyword.Keyword.TheVariants as key
 use Rattle.im_syntax.specs.declared.token.Token.{Token}
 use Rattle.im_syntax.specs.declared.literal.Lit.{Lit}
-use Rattle.im_syntax.specs.Condition.{TermOf, ConjOf, conj_of, cond_of, term_size, conj_size, cond_size}
+use Rattle.im_syntax.specs.Condition.{TermOf, ConjOf, conj_of, cond_of}
 use Rattle.im_syntax.specs.Spelling.{word, spell_term, spell_conj, spell_and, spell_cond, spell_or}
 
 -- the tokens of the parts from the i-th on
@@ -47,14 +47,3 @@ conj_from-nil i = either_nil (i == 0)
 
 cond_from-nil : (i : ℕ) → cond_from i [] ≡ []
 cond_from-nil i = either_nil (i == 0)
-
--- each part is smaller than the whole
-pub term_below : (ts : List (TermOf (List ℕ) Lit)) (i : ℕ) (t : TermOf (List ℕ) Lit) → i < length ts → t ≡ get_or ts i t → term_size t < conj_size (conj_of ts)
-term_below [] i t lt e = absurd (omega arith)
-term_below (x ∷ ts) zero t lt e = let same : term_size t ≡ term_size x = ap term_size e in omega arith
-term_below (x ∷ ts) (suc i) t lt e = let less = term_below ts i t (omega arith) e in omega arith
-
-pub conj_below : (cs : List (ConjOf (List ℕ) Lit)) (i : ℕ) (c : ConjOf (List ℕ) Lit) → i < length cs → c ≡ get_or cs i c → conj_size c < cond_size (cond_of cs)
-conj_below [] i c lt e = absurd (omega arith)
-conj_below (x ∷ cs) zero c lt e = let same : conj_size c ≡ conj_size x = ap conj_size e in omega arith
-conj_below (x ∷ cs) (suc i) c lt e = let less = conj_below cs i c (omega arith) e in omega arith

@@ -1,14 +1,9 @@
 pub mod Keywords
 pub mod Condition
-pub mod ConditionCode
-pub mod ConditionFalls
-pub mod Written
-pub mod WrittenCode
-pub mod WrittenFalls
-pub mod Bound
-pub mod BoundCode
-pub mod BoundFalls
+pub mod Forms
+pub mod inner
 pub mod BoundFits
+pub mod BoundQuery
 pub mod Words
 pub mod Spelling
 pub mod Rules

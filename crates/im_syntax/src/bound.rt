@@ -1,4 +1,4 @@
-use crate::bound_filter::Filter;
+use crate::condition::Filter;
 use im_values::List;
 
 /// One column of an answer, on columns of the table by their numbers.

@@ -1,168 +1,183 @@
 use crate::literal::Lit;
-use im_values::{Cmp, List, Name};
+use im_values::{Cmp, List, Name, Value};
 use std::marker::Model;
 
-/// One term of a condition.
+/// A condition as it is written: over names of columns, and literals.
+pub type Cond = CondOf<Name, Lit>;
+
+pub type Conj = ConjOf<Name, Lit>;
+
+pub type Term = TermOf<Name, Lit>;
+
+pub type TermForm = FormOf<Name, Lit>;
+
+/// A condition whose names are resolved: over numbers of columns, and values.
+pub type Filter = CondOf<u32, Value>;
+
+pub type Tests = ConjOf<u32, Value>;
+
+pub type Test = TermOf<u32, Value>;
+
+pub type TestForm = FormOf<u32, Value>;
+
+/// One term of a condition, over columns `C` and values `V`.
 #[cycle(condition)]
 #[derive(Debug, Drop)]
-pub struct Term {
-    form: TermForm,
+pub struct TermOf<C, V> {
+    form: FormOf<C, V>,
 }
 
 /// What a term tests.
 #[cycle(condition)]
 #[derive(Debug, Drop)]
-pub enum TermForm {
-    Not(Box<Term>),
+pub enum FormOf<C, V> {
+    Not(Box<TermOf<C, V>>),
     /// A condition in parentheses.
-    Nest(Box<Cond>),
+    Nest(Box<CondOf<C, V>>),
     Compare {
-        column: Name,
+        column: C,
         cmp: Cmp,
-        value: Lit,
+        value: V,
     },
     IsNull {
-        column: Name,
+        column: C,
         negated: bool,
     },
     Between {
-        column: Name,
+        column: C,
         negated: bool,
-        low: Lit,
-        high: Lit,
+        low: V,
+        high: V,
     },
     /// A column IN a list of values.
     Within {
-        column: Name,
+        column: C,
         negated: bool,
-        values: List<Lit>,
+        values: List<V>,
     },
 }
 
 /// Terms with AND between them.
 #[cycle(condition)]
 #[derive(Debug, Drop)]
-pub struct Conj {
-    terms: Vec<Term>,
+pub struct ConjOf<C, V> {
+    terms: Vec<TermOf<C, V>>,
 }
 
-/// Conjunctions with OR between them.
+/// A condition: conjunctions with OR between them.
 #[cycle(condition)]
 #[derive(Debug, Drop)]
-pub struct Cond {
-    lists: Vec<Conj>,
+pub struct CondOf<C, V> {
+    lists: Vec<ConjOf<C, V>>,
 }
 
-impl Model for Term {
-    ghost use Rattle.std.specs.Prelude.{List, ℕ};
-    ghost use Rattle.im_syntax.specs.declared.literal.Lit.{Lit as AnyLit};
-    ghost use Rattle.im_syntax.specs.Condition.{TermOf, term_size};
-    ghost use Rattle.im_syntax.specs.WrittenCode.{written_term};
+impl<C, V> Model for TermOf<C, V> {
+    ghost use Rattle.im_syntax.specs.Condition.{TermOf as TermTree, term_size};
+    ghost use Rattle.im_syntax.specs.inner.ConditionCode.{coded_term};
+    ghost use Rattle.im_values.specs.contracts.comparison.Cmp as cmp;
 
-    ghost Value = { TermOf (List ℕ) AnyLit };
+    ghost Value = { TermTree C V };
 
-    ghost coded = { written_term };
+    ghost coded = { coded_term C.code cmp.the_row.coded V.code };
 
-    ghost use Rattle.im_syntax.specs.Written.{term_of_form};
+    ghost use Rattle.im_syntax.specs.Forms.{term_of_form};
 
     ghost view = { λ t. term_of_form t.form };
 
     ghost size = { term_size };
 
-    ghost use Rattle.im_syntax.specs.WrittenFalls.{form_falls};
+    ghost use Rattle.im_syntax.specs.inner.FormFalls.{form_falls};
 
     ghost size_decreases = { λ t h. form_falls t.form };
 }
 
-impl Model for Conj {
-    ghost use Rattle.std.specs.Prelude.{List, ℕ};
-    ghost use Rattle.im_syntax.specs.declared.literal.Lit.{Lit as AnyLit};
-    ghost use Rattle.im_syntax.specs.Condition.{ConjOf, conj_of, conj_size};
-    ghost use Rattle.im_syntax.specs.WrittenCode.{written_conj};
+impl<C, V> Model for ConjOf<C, V> {
+    ghost use Rattle.im_syntax.specs.Condition.{ConjOf as ConjTree, conj_of, conj_size};
+    ghost use Rattle.im_syntax.specs.inner.ConditionCode.{coded_conj};
+    ghost use Rattle.im_values.specs.contracts.comparison.Cmp as cmp;
 
-    ghost Value = { ConjOf (List ℕ) AnyLit };
+    ghost Value = { ConjTree C V };
 
-    ghost coded = { written_conj };
+    ghost coded = { coded_conj C.code cmp.the_row.coded V.code };
 
     ghost view = { λ c. conj_of c.terms.items };
 
     ghost size = { conj_size };
 
-    ghost use Rattle.im_syntax.specs.ConditionFalls.{terms_fall};
+    ghost use Rattle.im_syntax.specs.inner.ConditionFalls.{terms_fall};
 
     ghost size_decreases = { λ c h. terms_fall c.terms.items };
 }
 
-impl Model for Cond {
-    ghost use Rattle.std.specs.Prelude.{List, ℕ};
-    ghost use Rattle.im_syntax.specs.declared.literal.Lit.{Lit as AnyLit};
-    ghost use Rattle.im_syntax.specs.Condition.{CondOf, cond_of, cond_size};
-    ghost use Rattle.im_syntax.specs.WrittenCode.{written_cond};
+impl<C, V> Model for CondOf<C, V> {
+    ghost use Rattle.im_syntax.specs.Condition.{CondOf as CondTree, cond_of, cond_size};
+    ghost use Rattle.im_syntax.specs.inner.ConditionCode.{coded_cond};
+    ghost use Rattle.im_values.specs.contracts.comparison.Cmp as cmp;
 
-    ghost Value = { CondOf (List ℕ) AnyLit };
+    ghost Value = { CondTree C V };
 
-    ghost coded = { written_cond };
+    ghost coded = { coded_cond C.code cmp.the_row.coded V.code };
 
     ghost view = { λ c. cond_of c.lists.items };
 
     ghost size = { cond_size };
 
-    ghost use Rattle.im_syntax.specs.ConditionFalls.{conjs_fall};
+    ghost use Rattle.im_syntax.specs.inner.ConditionFalls.{conjs_fall};
 
     ghost size_decreases = { λ c h. conjs_fall c.lists.items };
 }
 
-impl Term {
+impl<C, V> TermOf<C, V> {
     ghost use Rattle.std.specs.Prelude.{◌≡◌};
-    ghost use Rattle.im_syntax.specs.Written.{term_of_form};
+    ghost use Rattle.im_syntax.specs.Forms.{term_of_form};
 
-    /// The term of this form.
-    pub fn of(form: TermForm) -> Term
+    /// The term of this form. It takes no memory.
+    pub fn of(form: FormOf<C, V>) -> TermOf<C, V>
         ensures { result ≡ term_of_form form }
     {
-        Term { form }
+        TermOf { form }
     }
 
     /// What the term tests.
-    pub fn form(&self) -> &TermForm
+    pub fn form(&self) -> &FormOf<C, V>
         ensures { term_of_form result.now ≡ self.now }
     {
         &self.form
     }
 }
 
-impl Conj {
+impl<C, V> ConjOf<C, V> {
     ghost use Rattle.std.specs.Prelude.{◌≡◌};
     ghost use Rattle.im_syntax.specs.Condition.{conj_of};
 
     /// The conjunction of these terms. It takes no memory.
-    pub fn of(terms: Vec<Term>) -> Conj
+    pub fn of(terms: Vec<TermOf<C, V>>) -> ConjOf<C, V>
         ensures { result ≡ conj_of terms.items }
     {
-        Conj { terms }
+        ConjOf { terms }
     }
 
     /// The terms, in order.
-    pub fn terms(&self) -> &[Term]
+    pub fn terms(&self) -> &[TermOf<C, V>]
         ensures { conj_of result.now ≡ self.now }
     {
         self.terms.as_slice()
     }
 }
 
-impl Cond {
+impl<C, V> CondOf<C, V> {
     ghost use Rattle.std.specs.Prelude.{◌≡◌};
     ghost use Rattle.im_syntax.specs.Condition.{cond_of};
 
     /// The condition of these conjunctions. It takes no memory.
-    pub fn of(lists: Vec<Conj>) -> Cond
+    pub fn of(lists: Vec<ConjOf<C, V>>) -> CondOf<C, V>
         ensures { result ≡ cond_of lists.items }
     {
-        Cond { lists }
+        CondOf { lists }
     }
 
     /// The conjunctions, in order.
-    pub fn lists(&self) -> &[Conj]
+    pub fn lists(&self) -> &[ConjOf<C, V>]
         ensures { cond_of result.now ≡ self.now }
     {
         self.lists.as_slice()

@@ -4,13 +4,13 @@
 //! `specs/Spelling.antt`, which [`spell`] computes. `IsStmt`, in `specs/Rules.antt`, says which values are statements:
 //! what names, numbers and lists must be, and how deep a condition nests. Contracts see lists as lists and a
 //! condition as a tree (`specs/Condition.antt`), so two of them are equal in a contract exactly where they are written
-//! alike. The words that the language keeps for itself are the [`Keyword`]s; [`is_name`] tests what else a word may be.
+//! alike. One tree of conditions serves those that are written, a [`Cond`], and those whose names are resolved, a
+//! [`Filter`]. The words that the language keeps for itself are the [`Keyword`]s; [`is_name`] tests what else a word may be.
 //!
 //! Start with `statement.rt`, then `specs/Rules.antt` and `specs/Spelling.antt`.
 #![tactic(auto)]
 
 mod bound;
-mod bound_filter;
 mod condition;
 mod keyword;
 pub mod limits;
@@ -28,8 +28,9 @@ mod token;
 mod word;
 
 pub use bound::{Bound, Item, Key};
-pub use bound_filter::{Filter, Test, TestForm, Tests};
-pub use condition::{Cond, Conj, Term, TermForm};
+pub use condition::{
+    Cond, CondOf, Conj, ConjOf, Filter, FormOf, Term, TermForm, TermOf, Test, TestForm, Tests,
+};
 pub use im_values::Priority as Level;
 pub use keyword::Keyword;
 pub use literal::Lit;

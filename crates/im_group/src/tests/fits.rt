@@ -1,12 +1,14 @@
-//! Whether a query may be asked of some rows. A condition may be one comparison with a number.
-ghost use Rattle.std.specs.Prelude.{◌≡◌, true, false};
-ghost use Rattle.std.specs.List.{AllByRecursion};
+//! Whether a bound form is one of a query, and may be asked of some rows. A condition may be one comparison with a number.
+ghost use Rattle.std.specs.Prelude.{◌≡◌, true, false, map, IfOk};
+ghost use Rattle.std.specs.List.{AllByRecursion, list_any};
 ghost use Rattle.std.specs.Option.{ForSome};
 ghost use Rattle.im_syntax.specs.BoundFits.{BoundFits, FilterFits, HasColumn, ItemFits, KeyFits, TestFits, value_at};
 ghost use Rattle.im_syntax.specs.BoundFits as spec;
+ghost use Rattle.im_syntax.specs.BoundQuery as query;
 
 use im_syntax::{Bound, Filter, Item, Key, Test, TestForm};
-use im_values::{Row, Value};
+use im_values::{NoMemory, Row, Value};
+use std::alloc::Global;
 
 fn is_text(value: &Value) -> bool
     ensures { result ≡ spec.is_text value.now }
@@ -92,7 +94,7 @@ fn filter_fits(row: &[Value], filter: &Filter) -> bool
     let [tests] = filter.lists() else {
         return false;
     };
-    let [test] = tests.tests() else {
+    let [test] = tests.terms() else {
         return false;
     };
     test_fits(row, test)
@@ -125,4 +127,74 @@ pub fn rows_fit(rows: &[(u64, Row)], bound: &Bound) -> bool
         }
     }
     true
+}
+
+fn is_aggregate(item: Item) -> bool
+    ensures { result ≡ query.is_aggregate item }
+{
+    !matches!(item, Item::Column(_))
+}
+
+fn has_aggregate(items: &[Item]) -> bool
+    ensures { result ≡ list_any query.is_aggregate items.now }
+{
+    for item in items {
+        if is_aggregate(*item) {
+            return true;
+        }
+    }
+    false
+}
+
+fn is_of_group(groups: &[u32], item: Item) -> bool
+    ensures { result ≡ true → query.IsOfGroup groups.now item }
+{
+    match item {
+        Item::Column(column) => groups.contains(&column),
+        Item::CountAll | Item::Count(_) | Item::Sum(_) | Item::Min(_) | Item::Max(_) => true,
+    }
+}
+
+fn are_of_group(groups: &[u32], items: &[Item]) -> bool
+    ensures { result ≡ true → AllByRecursion (query.IsOfGroup groups.now) items.now }
+{
+    for item in items {
+        if !is_of_group(groups, *item) {
+            return false;
+        }
+    }
+    true
+}
+
+fn items_of(alloc: Global, keys: &[Key]) -> Result<Vec<Item>, NoMemory>
+    ensures { IfOk result (λ items. items.items ≡ map (λ key. key.item) keys.now) }
+{
+    let mut items = Vec::with_capacity(alloc, keys.len())?;
+    for key in keys {
+        items.push(key.item)?;
+    }
+    Ok(items)
+}
+
+/// Whether a bound form is one of a query whose keys have these items.
+fn is_grouped_right(bound: &Bound, keys: &[Item]) -> bool
+    requires { keys.now ≡ map (λ key. key.item) bound.now.keys }
+    ensures { result ≡ true → query.IsQuery bound.now }
+{
+    let (items, groups) = (bound.items.items(), bound.groups.items());
+    if bound.grouped {
+        (!groups.is_empty() || has_aggregate(items) || has_aggregate(keys))
+            && are_of_group(groups, items)
+            && are_of_group(groups, keys)
+    } else {
+        groups.is_empty() && !has_aggregate(items) && !has_aggregate(keys)
+    }
+}
+
+/// Whether a bound form is one of a query.
+pub fn is_query(alloc: Global, bound: &Bound) -> Result<bool, NoMemory>
+    ensures { IfOk result (λ right. right ≡ true → query.IsQuery bound.now) }
+{
+    let keys = items_of(alloc, bound.keys.items())?;
+    Ok(is_grouped_right(bound, keys.as_slice()))
 }

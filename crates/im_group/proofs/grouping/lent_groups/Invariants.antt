@@ -1,6 +1,6 @@
 use Rattle.std.proofs.Common.{map, take}
 use Rattle.im_group.specs.Partials.{keyed, kept}
-use Rattle.im_group.specs.Steps.{GroupsAre}
+use Rattle.im_group.specs.inner.Steps.{GroupsAre}
 use Rattle.im_group.proofs.grouping.lent_groups.Given as goal
 
 abbrev pub invariant-loop-row : goal.invariant-loop-row

@@ -1,7 +1,7 @@
 use Rattle.std.proofs.Common.{[], map, arith, ap, ◌∙◌}
 use Rattle.im_group.specs.Tallies.{all_taken}
 use Rattle.im_group.specs.Partials.{keyed}
-use Rattle.im_group.specs.Steps.{placed}
+use Rattle.im_group.specs.inner.Steps.{placed}
 use Rattle.im_group.proofs.Few.{all_few}
 use Rattle.im_group.proofs.Agreement.{lent_keys_tie}
 use Rattle.im_group.proofs.Held.{keyed-insert_entry}
@@ -14,5 +14,6 @@ pub returns : goal.returns
 returns c =
     let taken = c.in_ok-take.ensures ∙ ap (λ ts. all_taken c.args.wanted.now ts c.args.row.now) c.in_ok-tallies.ensures in
     ap (keyed (λ k. map (λ v. v.now) k.items)) c.in_ok-insert.ensures.entries
-    ∙ (keyed-insert_entry _ (λ k. map (λ v. v.now) k.items) (λ x y. lent_keys_tie x.items y.items) c.args.groups.now.entries c.in_ok-from_slice.field-0 c.take.new.self
+    ∙ (keyed-insert_entry _ (λ k. map (λ v. v.now) k.items)
+    (λ x y. lent_keys_tie x.items y.items) c.args.groups.now.entries c.in_ok-from_slice.field-0 c.take.new.self
     ∙ (λ i. placed (keyed (λ k. map (λ v. v.now) k.items) c.args.groups.now.entries) (map (λ v. v.now) (c.in_ok-from_slice.ensures.items i)) (taken i)))

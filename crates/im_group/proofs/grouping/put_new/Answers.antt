@@ -8,5 +8,6 @@ use Rattle.im_group.proofs.grouping.put_new.Goals as goal
 pub returns : goal.returns
 returns c =
     ap (keyed (λ k. k.items)) c.in_ok-insert.ensures.entries
-    ∙ (keyed-insert_entry (λ x y. pointwise same_value x.items y.items) (λ k. k.items) (λ x y. keys_tie x.items y.items) c.args.groups.now.entries c.args.key c.args.tallies
+    ∙ (keyed-insert_entry (λ x y. pointwise same_value x.items y.items) (λ k. k.items)
+    (λ x y. keys_tie x.items y.items) c.args.groups.now.entries c.args.key c.args.tallies
     ∙ placed_new (keyed (λ k. k.items) c.args.groups.now.entries) c.args.key.items c.args.tallies c.requires)

@@ -1,7 +1,8 @@
 use Rattle.std.proofs.Common.{◌≡◌, map, ap, ◌∙◌, arith}
 use Rattle.std.specs.List.{range_with_len}
 use Rattle.im_names.specs.Lookups.{number_of}
-use Rattle.im_names.specs.Queries.{is_listed, lone_faults, marked_faults}
+use Rattle.im_syntax.specs.BoundQuery.{is_listed}
+use Rattle.im_names.specs.Queries.{lone_faults, marked_faults}
 use Rattle.im_names.proofs.FaultLemmas.{same_ok, same_err}
 use Rattle.im_names.proofs.GroupLemmas.{all_marks, marks_serve}
 use Rattle.im_names.proofs.queries.check_grouped.Goals as goal

@@ -2,10 +2,15 @@ use Rattle.std.proofs.Common.{List, length, map, take, ap, ◌∙◌}
 use Rattle.std.proofs.lemmas.Result.{IfOk-weaker}
 use Rattle.im_group.specs.Partials.{Numbered, Groups, Parts, held}
 use Rattle.im_group.specs.Answers.{records, in_order, record_order}
+use Rattle.im_group.proofs.QueryLemmas.{part-keyed}
 use Rattle.im_group.proofs.partial.Partial.finish.Goals as goal
 
 abbrev parts_of : List Numbered → Groups → Parts
 parts_of rows groups = record { rows = rows; groups = groups }
+
+pub records_of-requires-clause-keyed : goal.records_of-requires-clause-keyed
+records_of-requires-clause-keyed c =
+    part-keyed c.args.bound.now c.args.self c.self.inside.groups.entries c.requires.part (ap (λ (p : Parts). p.groups) c.self.view_is)
 
 pub returns : goal.returns
 returns c =

@@ -5,7 +5,9 @@ use Rattle.im_group.proofs.partial.Partial.merge.Goals as goal
 
 pub join_groups-requires : goal.join_groups-requires
 join_groups-requires c = record {
-  few = can_merge-held (λ k. k.items) c.args.self.now c.args.other c.self.inside.groups.entries c.other.inside.groups.entries (ap (λ p. p.groups) c.self.view_is) (ap (λ p. p.groups) c.other.view_is) c.requires.few;
+  few =
+      can_merge-held (λ k. k.items) c.args.self.now c.args.other c.self.inside.groups.entries c.other.inside.groups.entries
+      (ap (λ p. p.groups) c.self.view_is) (ap (λ p. p.groups) c.other.view_is) c.requires.few;
 }
 
 pub returns-clause-merged : goal.returns-clause-merged

@@ -4,7 +4,9 @@ use Rattle.im_group.proofs.Prefixes.{all_passed}
 use Rattle.im_group.proofs.tests.fits.columns_fit.Goals as goal
 
 pub loop-column-preserved : goal.loop-column-preserved
-loop-column-preserved c = All-more (HasColumn c.args.row.now) c.args.columns.now c.loop-column.column-index _ c.loop-column-test.true c.loop-column.invariant (c.has_column.ensures c.if-not-has_column.false)
+loop-column-preserved c =
+    All-more (HasColumn c.args.row.now) c.args.columns.now c.loop-column.column-index _ c.loop-column-test.true c.loop-column.invariant
+    (c.has_column.ensures c.if-not-has_column.false)
 
 pub returns : goal.returns
 returns c _ = all_passed (HasColumn c.args.row.now) c.args.columns.now c.loop-column.column-index c.loop-column-test.false c.loop-column.invariant

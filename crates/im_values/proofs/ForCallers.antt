@@ -1,0 +1,63 @@
+-- What callers know of the order of values: it is a total order, and only equal values tie in it.
+use Rattle.std.proofs.Common.{◌≡◌, refl, ap}
+use Rattle.std.specs.Cmp.{IsTotalOrder, int_cmp_total}
+use Rattle.std.specs.FinMap.{int_cmp-IsAntisymmetric, slice_cmp-IsAntisymmetric, nat_cmp-IsAntisymmetric}
+use Rattle.std.specs.Cmp.Lexicographic.{nat_list_cmp_total}
+use Rattle.std.specs.Ordering.{ordering_reverse}
+use Rattle.std.specs.declared.cmp.Ordering.TheVariants.{Less, Equal}
+use Rattle.im_values.specs.declared.value.Value.{Value}
+use Rattle.im_values.specs.declared.value.Value.TheVariants.{Int, Text, Null}
+use Rattle.im_values.specs.Order.{order}
+
+order-antisymm : (x y : Value) → order x y ≡ ordering_reverse (order y x)
+order-antisymm (Int a) (Int b) = int_cmp_total.antisymm a b
+order-antisymm (Int a) (Text b) = refl
+order-antisymm (Int a) Null = refl
+order-antisymm (Text a) (Int b) = refl
+order-antisymm (Text a) (Text b) = nat_list_cmp_total.antisymm a b
+order-antisymm (Text a) Null = refl
+order-antisymm Null (Int b) = refl
+order-antisymm Null (Text b) = refl
+order-antisymm Null Null = refl
+
+null-last : (z : Value) → order Null z ≡ Less → ⊥
+null-last (Int c) q = cc
+null-last (Text c) q = cc
+null-last Null q = cc
+
+order-trans : (x y z : Value) → order x y ≡ Less → order y z ≡ Less → order x z ≡ Less
+order-trans (Int a) (Int b) (Int c) p q = int_cmp_total.trans a b c p q
+order-trans (Int a) (Int b) (Text c) p q = refl
+order-trans (Int a) (Int b) Null p q = refl
+order-trans (Int a) (Text b) (Int c) p q = cc
+order-trans (Int a) (Text b) (Text c) p q = refl
+order-trans (Int a) (Text b) Null p q = refl
+order-trans (Int a) Null z p q = absurd (null-last z q)
+order-trans (Text a) (Int b) z p q = cc
+order-trans (Text a) (Text b) (Int c) p q = cc
+order-trans (Text a) (Text b) (Text c) p q = nat_list_cmp_total.trans a b c p q
+order-trans (Text a) (Text b) Null p q = refl
+order-trans (Text a) Null z p q = absurd (null-last z q)
+order-trans Null (Int b) z p q = cc
+order-trans Null (Text b) z p q = cc
+order-trans Null Null z p q = cc
+
+-- only equal values tie
+pub order_same : (x y : Value) → order x y ≡ Equal → x ≡ y
+order_same (Int a) (Int b) e = ap Int (int_cmp-IsAntisymmetric a b e)
+order_same (Int a) (Text b) e = cc
+order_same (Int a) Null e = cc
+order_same (Text a) (Int b) e = cc
+order_same (Text a) (Text b) e = ap Text (slice_cmp-IsAntisymmetric nat_cmp-IsAntisymmetric a b e)
+order_same (Text a) Null e = cc
+order_same Null (Int b) e = cc
+order_same Null (Text b) e = cc
+order_same Null Null e = refl
+
+-- the order of values is a total order
+pub order_total : IsTotalOrder order
+order_total = record {
+  antisymm = order-antisymm;
+  trans = order-trans;
+  congr = λ x y z e. ap (λ v. order v z) (order_same x y e);
+}
