@@ -18,8 +18,8 @@ pub struct Pass<V: Logged> {
 
 impl<V: Logged> Model for Pass<V> {
     ghost use Rattle.im_turn.specs.Passes.{PassState};
-    ghost use Rattle.im_turn.specs.Views.{state_of};
-    ghost use Rattle.im_turn.specs.Steps.{IsSettled};
+    ghost use Rattle.im_turn.specs.inner.Views.{state_of};
+    ghost use Rattle.im_turn.specs.inner.Steps.{IsSettled};
 
     ghost Value = { PassState V.Item };
 
