@@ -33,6 +33,7 @@ impl<V: Logged> Pass<V> {
     pub fn recall(&self)
         ensures { KnowsOwn V.who self.now }
     {
+        // Naming the seat brings what always holds of it to the proof.
         let _ = &self.seat;
     }
 }
