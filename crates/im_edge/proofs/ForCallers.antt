@@ -1,21 +1,12 @@
--- Laws for callers: what calls in a row do to a source, to a sink and to a count of faults.
-use Rattle.std.proofs.Common.{◌≡◌, ℕ, ◌+◌, ◌-◌, ◌<◌, ◌≤◌, min, List, [], ◌++◌, None, Some, IfSome, length, take, drop, refl, ap, sym, ◌∙◌, append_assoc, append-nil, arith}
-use Rattle.std.proofs.lemmas.List.{take_rest, take-append-le, take_min}
-use Rattle.std.proofs.Math.Seq.{take-add, take-append-add, take-length}
+-- Laws for callers: what calls in a row do to a source and to a sink.
+use Rattle.std.proofs.Common.{◌≡◌, ℕ, ◌+◌, ◌-◌, List, [], ◌++◌, None, Some, IfSome, length, take, drop, refl, ap, sym, ◌∙◌, append_assoc, append-nil}
+use Rattle.std.proofs.lemmas.List.{take_rest}
+use Rattle.std.proofs.Math.Seq.{take-add}
 use Rattle.std.specs.Prelude.{Option}
 use Rattle.std.specs.Io.KnownBytes.{prepend_known, append_known}
-use Rattle.im_edge.specs.Faults.{last_count, Rose}
 use Rattle.im_edge.specs.Reading.{Gave}
 use Rattle.im_edge.specs.Source.{IsSpent}
-use Rattle.im_edge.specs.Writing.{Took, TookFront, TookPart}
-
--- a count that rose in one of several calls rose in all of them
-pub Rose-wider : (a b c d : ℕ) → a ≤ b → Rose b c → c ≤ d → Rose a d
-Rose-wider a b c d early rose late = omega arith
-
--- a count that rose is higher than before, unless its counter stands at the last value
-pub Rose-higher : (a b : ℕ) → Rose a b → b < last_count → a < b
-Rose-higher a b rose more = omega arith
+use Rattle.im_edge.specs.Writing.{Took}
 
 -- before any byte came
 pub Gave-nil : (a : Option (List ℕ)) → Gave a a []
@@ -48,31 +39,3 @@ pub Took-more : (a b c : Option (List ℕ)) (text : List ℕ) (done count : ℕ)
 Took-more a b c text done count p q =
     let rest : take (length text - done) (drop done text) ≡ drop done text = take_rest text done in
     rw take-add (Took-append a b c (take done text) (take count (drop done text)) p (rw rest at q))
-
--- nothing is a front of every text
-pub TookFront-nil : (a : Option (List ℕ)) (text : List ℕ) → TookFront a a text
-TookFront-nil a text = record { count = 0; took = Took-nil a }
-
--- a whole text is a front of it
-pub TookFront-whole : (a b : Option (List ℕ)) (text : List ℕ) → Took a b text → TookFront a b text
-TookFront-whole a b text p = record { count = length text; took = rw take-length p }
-
--- a part of a text is a front of it
-pub TookFront-part : (a b : Option (List ℕ)) (text : List ℕ) → TookPart a b text → TookFront a b text
-TookFront-part a b text p = record { count = p.count; took = p.took }
-
--- a text and then a front of the next one are a front of both
-pub TookFront-after : (a b c : Option (List ℕ)) (xs ys : List ℕ) → Took a b xs → TookFront b c ys → TookFront a c (xs ++ ys)
-TookFront-after a b c xs ys p q = record {
-  count = length xs + q.count;
-  took = rw take-append-add (Took-append a b c xs (take q.count ys) p q.took);
-}
-
--- a front of a text is a front of each text that begins with it
-pub TookFront-longer : (a b : Option (List ℕ)) (xs ys : List ℕ) → TookFront a b xs → TookFront a b (xs ++ ys)
-TookFront-longer a b xs ys p =
-    let within : min p.count (length xs) ≤ length xs = omega arith in
-    record {
-      count = min p.count (length xs);
-      took = rw (take-append-le (min p.count (length xs)) xs ys within, take_min p.count xs) p.took;
-    }

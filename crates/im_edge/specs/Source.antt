@@ -10,7 +10,7 @@ IsInRoom (Bytes n) room = (0 < n) × (n ≤ room)
 IsInRoom End room = ⊤
 IsInRoom Failed room = ⊤
 
--- nothing is left, where the source tells
+-- nothing is left, where the source shows it
 abbrev pub IsSpent : Option (List ℕ) → Type 0
 IsSpent left = IfSome left (λ bytes. bytes ≡ [])
 

@@ -6,12 +6,7 @@ use Rattle.std.specs.Io.KnownBytes.{append_known}
 abbrev pub Took : Option (List ℕ) → Option (List ℕ) → List ℕ → Type 0
 Took before after text = after ≡ append_known before text
 
--- a front of the text, perhaps all of it, came behind what was taken before
-pub record TookFront (before after : Option (List ℕ)) (text : List ℕ) : Type 0 where
-  pub count : ℕ
-  pub took : Took before after (take count text)
-
--- a front of the text, and not all of it, came behind what was taken before
+-- a prefix of the text, and not all of it, came behind what was taken before
 pub record TookPart (before after : Option (List ℕ)) (text : List ℕ) : Type 0 where
   pub count : ℕ
   pub short : count < length text

@@ -24,7 +24,7 @@ impl Calls {
         }
     }
 
-    /// Counts one more call, and tells whether it is one of those that fail.
+    /// Counts one more call, and returns whether it is one of those that fail.
     pub fn begin(&mut self) -> bool
         ensures fails { result ≡ fails_next self.old.fails.items self.old.made }
         ensures counted { self.new ≡ record self.old { made = one_more self.old.made } }

@@ -2,12 +2,12 @@
 //!
 //! A `Source` hands out bytes and a `Sink` takes them, in pieces of whatever size they like.
 //! Contracts see of a source the bytes that are `left`, and of a sink those that it has `taken`,
-//! where they tell. Both count their `faults`, and a call fails only where the count rose, so a
+//! where they show them. Both count their `faults`, and a call fails only where the count rose, so a
 //! caller who answers with a fault has to have met one. A `Gate` is called round each step of a
 //! scan and each switch of a unit, so that a test can hold one of them.
 //!
 //! `MemSource` and `MemSink` are exact doubles in memory. `StdSource` and `StdSink` are the trusted
-//! edge: they adapt a reader and a writer of std, and tell no bytes. `read_all` and `write_all`
+//! edge: they adapt a reader and a writer of std, and show no bytes. `read_all` and `write_all`
 //! carry a whole text through any of them.
 //!
 //! Start with `source.rt` and `sink.rt`, and then the words of `specs/Source.antt` and

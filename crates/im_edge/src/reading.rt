@@ -36,7 +36,7 @@ impl From<AllocError> for ReadError {
 
 /// Reads a source to its end, and gives all its bytes, of which there may be at most `most`.
 ///
-/// It takes at most `most + 1` bytes: the one more tells that there are too many. After an error
+/// It takes at most `most + 1` bytes: the one more shows that there are too many. After an error
 /// the bytes that came are lost.
 pub fn read_all<S: Source>(alloc: Global, source: &mut S, most: usize) -> Result<Vec<u8>, ReadError>
     requires { most < usize.MAX }

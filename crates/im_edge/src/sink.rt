@@ -18,7 +18,7 @@ pub enum Put {
 /// POSIX's `write`. A device that takes nothing is a fault. After `Put::Failed` the sink stands
 /// where it stood, and may be asked again.
 pub trait Sink {
-    /// The bytes that the sink has taken so far, where it tells them.
+    /// The bytes that the sink has taken so far, where it shows them.
     ghost taken: { Self → Option (List ℕ) };
 
     /// How many faults the sink has met. A counter of 64 bits, which stays at its last value.

@@ -20,7 +20,7 @@ pub enum Got {
 /// `Got::End`, as with POSIX's `read`. After `Got::Failed` the source stands where it stood, and
 /// may be asked again.
 pub trait Source {
-    /// The bytes that are left, where the source tells them.
+    /// The bytes that are left, where the source shows them.
     ghost left: { Self → Option (List ℕ) };
 
     /// How many faults the source has met. A counter of 64 bits, which stays at its last value.

@@ -11,7 +11,7 @@ use thiserror::Error;
 #[error("write failed")]
 pub struct WriteFault;
 
-/// Writes a whole text. After an error the sink has taken a front of it, and never all of it.
+/// Writes a whole text. After an error the sink has taken a prefix of it, and never all of it.
 pub fn write_all<K: Sink>(sink: &mut K, text: &[u8]) -> Result<(), WriteFault>
     ensures ok { OnOk result (Took (K.taken sink.old) (K.taken sink.new) text.now) }
     ensures err { OnErr result (TookPart (K.taken sink.old) (K.taken sink.new) text.now) }

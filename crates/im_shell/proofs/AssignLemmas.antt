@@ -14,7 +14,8 @@ both true true e = (refl, refl)
 both true false e = cc
 both false b e = cc
 
-fits-set : (row : List Value) (columns : List Column) (index : ℕ) (value : Value) (column : Column) → fits row columns ≡ true → slice_get columns index ≡ Some column → may_stand column.kind value ≡ true → fits (slice_set row index value) columns ≡ true
+fits-set : (row : List Value) (columns : List Column) (index : ℕ) (value : Value) (column : Column) → fits row columns ≡ true →
+    slice_get columns index ≡ Some column → may_stand column.kind value ≡ true → fits (slice_set row index value) columns ≡ true
 fits-set [] [] index value column fit is stands = fit
 fits-set [] (c ∷ columns) index value column fit is stands = cc
 fits-set (v ∷ row) [] index value column fit is stands = cc
@@ -29,7 +30,8 @@ fits-set (v ∷ row) (c ∷ columns) (suc index) value column fit is stands =
     let rest = both (may_stand c.kind v) (fits row columns) fit in
     rw rest.0 (fits-set row columns index value column rest.1 is stands)
 
-pub fits-assigned : (columns : List Column) (sets : List (ℕ × Value)) (row : List Value) → fits row columns ≡ true → AllByRecursion (SetServes columns) sets → fits (assigned sets row) columns ≡ true
+pub fits-assigned : (columns : List Column) (sets : List (ℕ × Value)) (row : List Value) → fits row columns ≡ true →
+    AllByRecursion (SetServes columns) sets → fits (assigned sets row) columns ≡ true
 fits-assigned columns [] row fit all = fit
 fits-assigned columns (set ∷ sets) row fit all =
     fits-assigned columns sets (slice_set row set.0 set.1) (fits-set row columns set.0 set.1 all.0.column fit all.0.is_there all.0.stands) all.1

@@ -10,14 +10,15 @@ use Rattle.im_script.specs.declared.line.LineKind.{LineKind}
 use Rattle.im_script.specs.declared.line.LineKind.TheVariants as kind
 use Rattle.im_script.specs.Forms.{form_of}
 use Rattle.im_script.specs.Lines.{IsLine, HasKind, Says, SpeaksAs, NamesOneOf16, statement, bad_byte, bad_token, no_memory}
-use Rattle.im_shell.specs.Requests.{IsKnown, HasStatement}
+use Rattle.im_shell.specs.inner.Answers.{IsKnown, HasStatement}
 
 -- the statement of a line is one of the language
 abbrev OfLanguage : LineKind → Type 0
 OfLanguage (kind.Session who s) = IsStmt s
 OfLanguage k = Unit {0}
 
-says_known : (whose : Side) (before : ℕ) (line : List ℕ) (of : Stmt → LineKind) (k : LineKind) → ((s : Stmt) → IsStmtOf whose s → OfLanguage (of s)) → Says whose before line of k → OfLanguage k
+says_known : (whose : Side) (before : ℕ) (line : List ℕ) (of : Stmt → LineKind) (k : LineKind) →
+    ((s : Stmt) → IsStmtOf whose s → OfLanguage (of s)) → Says whose before line of k → OfLanguage k
 says_known whose before line of _ each (statement ts s lexes is same) = each s is
 says_known whose before line of _ each (bad_byte n bad) = tt
 says_known whose before line of _ each (bad_token ts n lexes place) = tt

@@ -8,7 +8,7 @@ use Rattle.im_history.specs.Cursors.{opened}
 use Rattle.im_history.specs.History.{History, replay}
 use Rattle.im_plan.specs.Alone.{Played}
 use Rattle.im_plan.proofs.AloneLaws.{line_alone}
-use Rattle.im_shell.specs.declared.reply.Reply.{Reply}
+use Rattle.im_replies.specs.declared.reply.Reply.{Reply}
 use Rattle.im_script.specs.declared.form.Form.{Form}
 use Rattle.im_script.specs.declared.form.Form.TheVariants as form
 use Rattle.im_script.specs.declared.line.Line.{Line}
@@ -16,9 +16,10 @@ use Rattle.im_script.specs.declared.line.LineKind.{LineKind}
 use Rattle.im_script.specs.declared.line.LineKind.TheVariants as kind
 use Rattle.im_script.specs.Forms.{lines_of, first_of, form_of, who_of}
 use Rattle.im_script.specs.Lines.{AreLines, IsLine, HasKind, no_memory}
-use Rattle.im_shell.specs.Requests.{Request, asked, request_of, with_request, requests_of, IsAnswer, IsAnswered, IsBetween, script_limits}
-use Rattle.im_shell.specs.Turns.{amends}
-use Rattle.im_shell.specs.Play.{play_request, replies, may_lack_in, text_put, IsPlayed, IsPlayedInPart, Sends, Plays, PlaysInPart, IsSoFar, PlaysNext}
+use Rattle.im_shell.specs.Requests.{Request, Demand, Nothing, Told, Asks, asked, demand_of, demands_of, script_limits}
+use Rattle.im_shell.specs.inner.Answers.{IsAnswer, IsAnswered, IsBetween}
+use Rattle.im_shell.specs.Play.{play_request, replies, may_lack_in, IsPlayed, IsPlayedInPart, Plays, PlaysInPart}
+use Rattle.im_shell.specs.inner.Going.{text_put, Sends, IsSoFar, PlaysNext}
 use Rattle.im_text.specs.Replies.{reply_text}
 use Rattle.im_shell.specs.Texts.{text_of}
 
@@ -27,12 +28,14 @@ pub OnErr-always : {T E P : Type 0} (r : Result T E) → P → OnErr r P
 OnErr-always (Ok value) p = tt
 OnErr-always (Err error) p = p
 
--- memory may lack in no line
-may_lack_in-nil : (h : History) (requests : List Request) → may_lack_in [] h requests ≡ true
+-- no line has to run out of memory
+may_lack_in-nil : (h : History) (demands : List Demand) → may_lack_in [] h demands ≡ true
 may_lack_in-nil h [] = refl
-may_lack_in-nil h (request ∷ requests) = may_lack_in-nil (play_request None h request).history requests
+may_lack_in-nil h (Nothing ∷ demands) = may_lack_in-nil h demands
+may_lack_in-nil h (Told number reply ∷ demands) = may_lack_in-nil h demands
+may_lack_in-nil h (Asks request ∷ demands) = may_lack_in-nil (play_request None h request).history demands
 
--- ---- any lines can be read: those with a statement at least so that memory lacked
+-- ---- any lines can be read: those with a statement at least so that their reading ran out of memory
 
 abbrev kind_by : Form → List ℕ → LineKind
 kind_by form.Long line = kind.Long (length line)
@@ -63,77 +66,114 @@ are_lines n (line ∷ lines) =
 -- ---- what the lines so far come to
 
 pub IsSoFar-start : (script : List ℕ) → IsSoFar script [] 1 [] script
-IsSoFar-start script = record { on = λ lines read lacked lawful. record { lines = lines; read = read; played = record { lacked = lacked; lawful = lawful; text_is = refl } } }
+IsSoFar-start script = record {
+  on = λ lines read lacked lawful. record
+      { lines = lines; read = read; played = record { lacked = lacked; lawful = lawful; text_is = refl } };
+}
 
--- a request has its line's number
-numbered : (n : ℕ) (request other : Request) → other.number ≡ n → Some other ≡ Some request → request.number ≡ n
-numbered n request other is same = cc
+-- what a line asks for has the line's number
+abbrev HasNumber : ℕ → Demand → Type 0
+HasNumber n Nothing = Unit {0}
+HasNumber n (Told number reply) = number ≡ n
+HasNumber n (Asks request) = request.number ≡ n
 
-asked-number : (n : ℕ) (k : LineKind) (request : Request) → asked n k ≡ Some request → request.number ≡ n
-asked-number n kind.Skip request is = absurd (cc)
-asked-number n kind.Race request is = absurd (cc)
-asked-number n (kind.Long length) request is = numbered n request _ refl is
-asked-number n (kind.Bad byte) request is = numbered n request _ refl is
-asked-number n (kind.Session who statement) request is = numbered n request _ refl is
-asked-number n (kind.Background statement) request is = numbered n request _ refl is
-asked-number n kind.NoMemory request is = numbered n request _ refl is
+asked-number : (n : ℕ) (k : LineKind) → HasNumber n (asked n k)
+asked-number n kind.Skip = tt
+asked-number n kind.Race = tt
+asked-number n (kind.Long length) = refl
+asked-number n (kind.Bad byte) = refl
+asked-number n (kind.Session who statement) = refl
+asked-number n (kind.Background statement) = refl
+asked-number n kind.NoMemory = refl
+
+-- the text of one more reply, and then that of the others
+one_more : (written : List ℕ) (n number : ℕ) (reply : Reply) (rest : List ℕ) → n ≡ number →
+    written ++ (reply_text n reply.body ++ rest) ≡ (written ++ reply_text number reply.body) ++ rest
+one_more written n number reply rest same =
+    ap (λ (n : ℕ). written ++ (reply_text n reply.body ++ rest)) same ∙ sym (append_assoc written (reply_text number reply.body) rest)
 
 module _ (script written : List ℕ) (number : ℕ) (h new : History) (rest behind bytes : List ℕ) (line : Line) where
-  -- whatever the lines behind the next one come to
-  onward : IsSoFar script written number h rest → lines_of rest ≡ bytes ∷ lines_of behind → IsLine number bytes line → (lines : List Line) → AreLines (number + 1) (lines_of behind) lines → (lacked : List (Option ℕ)) → may_lack_in lacked h (with_request (request_of line) (requests_of lines)) ≡ true → IsPlayed script (written ++ text_of (replies lacked h (with_request (request_of line) (requests_of lines))))
-  onward so_far lines_are read lines more = so_far.on (line ∷ lines) (subst (λ (l : List (List ℕ)). AreLines number l (line ∷ lines)) (sym lines_are) (read, more))
+  -- whatever the lines behind the next one come to, which asks for this
+  abbrev Onward : Demand → Type 0
+  Onward demand = (lines : List Line) → AreLines (number + 1) (lines_of behind) lines →
+      (lacked : List (Option ℕ)) → may_lack_in lacked h (demand ∷ demands_of lines) ≡ true →
+      IsPlayed script (written ++ text_of (replies lacked h (demand ∷ demands_of lines)))
 
-  -- the next line, played to this reply and this history, and then those behind it
-  abbrev Onward : List Line → List (Option ℕ) → ℕ → Played Reply → Type 0
-  Onward lines lacked n played =
-      may_lack_in lacked played.history (requests_of lines) ≡ true →
-      IsPlayed script (written ++ (reply_text n played.result.body ++ text_of (replies lacked played.history (requests_of lines))))
+  onward : IsSoFar script written number h rest → lines_of rest ≡ bytes ∷ lines_of behind → IsLine number bytes line → Onward (demand_of line)
+  onward so_far lines_are read lines more =
+      so_far.on (line ∷ lines) (subst (λ (l : List (List ℕ)). AreLines number l (line ∷ lines)) (sym lines_are) (read, more))
 
-  next_none : IsSoFar script written number h rest → lines_of rest ≡ bytes ∷ lines_of behind → IsLine number bytes line → request_of line ≡ None → new ≡ h → IsSoFar script (written ++ []) (number + 1) new behind
-  next_none so_far lines_are read none new_is = record {
-    on = λ lines more lacked lawful.
-        let whole : may_lack_in lacked h (requests_of lines) ≡ true → IsPlayed script (written ++ text_of (replies lacked h (requests_of lines))) = rw none at (onward so_far lines_are read lines more lacked) in
-        rw (new_is, append-nil written) (whole (rw new_is at lawful));
+  -- it asks for nothing
+  next_none : Onward Nothing → new ≡ h → IsSoFar script (written ++ []) (number + 1) new behind
+  next_none going new_is = record {
+    on = λ lines more lacked lawful. rw (new_is, append-nil written) (going lines more lacked (rw new_is at lawful));
   }
 
-  next_some : (request : Request) (reply : Reply) → IsSoFar script written number h rest → lines_of rest ≡ bytes ∷ lines_of behind → IsLine number bytes line → request_of line ≡ Some request → IsAnswer request h reply new → IsSoFar script (written ++ reply_text number reply.body) (number + 1) new behind
-  next_some request reply so_far lines_are read is answer =
-      let machine = line_alone request.who (amends request.who) h request.plan reply new answer.line in
-      let numbered : request.number ≡ number = asked-number line.number line.kind request is ∙ read.number in
+  -- its reply was told
+  next_told : (n : ℕ) (told reply : Reply) → Onward (Told n told) → n ≡ number → reply ≡ told → new ≡ h →
+      IsSoFar script (written ++ reply_text number reply.body) (number + 1) new behind
+  next_told n told reply going same reply_is new_is = record {
+    on = λ lines more lacked lawful.
+        rw (new_is, reply_is)
+        (subst (IsPlayed script) (one_more written n number told (text_of (replies lacked h (demands_of lines))) same)
+        (going lines more lacked (rw new_is at lawful)));
+  }
+
+  -- the next request, played to this reply and this history, and then the lines behind it
+  abbrev Goes_on : List Line → List (Option ℕ) → ℕ → Played Reply → Type 0
+  Goes_on lines lacked n played =
+      may_lack_in lacked played.history (demands_of lines) ≡ true →
+      IsPlayed script (written ++ (reply_text n played.result.body ++ text_of (replies lacked played.history (demands_of lines))))
+
+  -- it asks for a statement
+  next_asks : (request : Request) (reply : Reply) → Onward (Asks request) → request.number ≡ number → IsAnswer request h reply new →
+      IsSoFar script (written ++ reply_text number reply.body) (number + 1) new behind
+  next_asks request reply going same answer =
+      let machine = line_alone request.who request.amends h request.plan reply new answer.line in
       record {
         on = λ lines more lacked lawful.
-            let whole : may_lack_in (machine.lacked ∷ lacked) h (request ∷ requests_of lines) ≡ true → IsPlayed script (written ++ text_of (replies (machine.lacked ∷ lacked) h (request ∷ requests_of lines))) = rw is at (onward so_far lines_are read lines more (machine.lacked ∷ lacked)) in
-            let going : Onward lines lacked request.number (play_request machine.lacked h request) = λ may. whole (rw machine.lawful may) in
-            let played = subst (Onward lines lacked request.number) machine.same going lawful in
-            subst (IsPlayed script) (ap (λ (n : ℕ). written ++ (reply_text n reply.body ++ text_of (replies lacked new (requests_of lines)))) numbered ∙ sym (append_assoc written (reply_text number reply.body) (text_of (replies lacked new (requests_of lines))))) played;
+            let whole : Goes_on lines lacked request.number (play_request machine.lacked h request) =
+            λ may. going lines more (machine.lacked ∷ lacked) (rw machine.lawful may) in
+            subst (IsPlayed script) (one_more written request.number number reply (text_of (replies lacked new (demands_of lines))) same)
+            (subst (Goes_on lines lacked request.number) machine.same whole lawful);
       }
 
-  next_by : (request : Option Request) (reply : Option Reply) → IsSoFar script written number h rest → lines_of rest ≡ bytes ∷ lines_of behind → IsLine number bytes line → request_of line ≡ request → IsAnswered request h reply new → IsSoFar script (written ++ text_put number reply) (number + 1) new behind
-  next_by None None so_far lines_are read is answered = next_none so_far lines_are read is answered
-  next_by None (Some reply) so_far lines_are read is answered = absurd answered
-  next_by (Some request) None so_far lines_are read is answered = absurd answered
-  next_by (Some request) (Some reply) so_far lines_are read is answered = next_some request reply so_far lines_are read is answered
+  next_by : (demand : Demand) (reply : Option Reply) → Onward demand → HasNumber number demand → IsAnswered demand h reply new →
+      IsSoFar script (written ++ text_put number reply) (number + 1) new behind
+  next_by Nothing None going same answered = next_none going answered
+  next_by Nothing (Some reply) going same answered = absurd answered
+  next_by (Told n told) None going same answered = absurd answered
+  next_by (Told n told) (Some reply) going same answered = next_told n told reply going same answered.0 answered.1
+  next_by (Asks request) None going same answered = absurd answered
+  next_by (Asks request) (Some reply) going same answered = next_asks request reply going same answered
 
-  pub IsSoFar-next : (reply : Option Reply) → IsSoFar script written number h rest → lines_of rest ≡ bytes ∷ lines_of behind → IsLine number bytes line → IsAnswered (request_of line) h reply new → IsSoFar script (written ++ text_put number reply) (number + 1) new behind
-  IsSoFar-next reply so_far lines_are read answered = next_by (request_of line) reply so_far lines_are read refl answered
+  pub IsSoFar-next : (reply : Option Reply) → IsSoFar script written number h rest → lines_of rest ≡ bytes ∷ lines_of behind →
+      IsLine number bytes line → IsAnswered (demand_of line) h reply new →
+      IsSoFar script (written ++ text_put number reply) (number + 1) new behind
+  IsSoFar-next reply so_far lines_are read answered =
+      next_by (demand_of line) reply (onward so_far lines_are read)
+      (subst (λ (n : ℕ). HasNumber n (demand_of line)) read.number (asked-number line.number line.kind)) answered
 
 -- nothing has no lines
 lines_of-nil : lines_of [] ≡ []
 unfolding lines_of
 lines_of-nil = refl
 
-pub IsSoFar-end : (script written : List ℕ) (number : ℕ) (h : History) (rest : List ℕ) → IsSoFar script written number h rest → rest ≡ [] → IsPlayed script written
+pub IsSoFar-end : (script written : List ℕ) (number : ℕ) (h : History) (rest : List ℕ) → IsSoFar script written number h rest → rest ≡ [] →
+    IsPlayed script written
 IsSoFar-end script written number h rest so_far none =
     let no_lines : lines_of rest ≡ [] = ap lines_of none ∙ lines_of-nil in
     subst (IsPlayed script) (append-nil written) (so_far.on [] (subst (λ (l : List (List ℕ)). AreLines number l []) (sym no_lines) tt) [] refl)
 
--- a front of what was written is a front of what the script comes to
-pub IsSoFar-part : (script written : List ℕ) (number : ℕ) (h : History) (rest front more : List ℕ) → IsSoFar script written number h rest → written ≡ front ++ more → IsPlayedInPart script front
+-- a prefix of what was written is a prefix of what the script comes to
+pub IsSoFar-part : (script written : List ℕ) (number : ℕ) (h : History) (rest front more : List ℕ) → IsSoFar script written number h rest →
+    written ≡ front ++ more → IsPlayedInPart script front
 IsSoFar-part script written number h rest front more so_far split =
     let lines = some_lines number (lines_of rest) in
     record {
-      rest = more ++ text_of (replies [] h (requests_of lines));
-      played = subst (IsPlayed script) (ap (λ (text : List ℕ). text ++ text_of (replies [] h (requests_of lines))) split ∙ append_assoc front more _) (so_far.on lines (are_lines number (lines_of rest)) [] (may_lack_in-nil h (requests_of lines)));
+      rest = more ++ text_of (replies [] h (demands_of lines));
+      played = subst (IsPlayed script) (ap (λ (text : List ℕ). text ++ text_of (replies [] h (demands_of lines))) split ∙ append_assoc front more _)
+          (so_far.on lines (are_lines number (lines_of rest)) [] (may_lack_in-nil h (demands_of lines)));
     }
 
 -- ---- what was sent
@@ -173,22 +213,30 @@ IsGoing-start script taken waiting none = record {
 }
 
 -- the store in which nothing has happened
-pub IsGoing-start_at : (script : List ℕ) (taken : Option (List ℕ)) (waiting : List ℕ) (h : History) → h ≡ [] → waiting ≡ [] → IsGoing script taken taken 1 h script waiting
+pub IsGoing-start_at : (script : List ℕ) (taken : Option (List ℕ)) (waiting : List ℕ) (h : History) → h ≡ [] → waiting ≡ [] →
+    IsGoing script taken taken 1 h script waiting
 IsGoing-start_at script taken waiting h empty none = rw empty (IsGoing-start script taken waiting none)
 
 pub between-start : (s : Seen) → s ≡ record { limits = script_limits; log = [] } → IsBetween s
 unfolding opened replay
 between-start s is = rw is (record { limits = refl; closed = record { each = λ who. refl } })
 
-pub IsGoing-next : (script : List ℕ) (before now after : Option (List ℕ)) (number : ℕ) (h new : History) (rest behind line waiting middle new_waiting : List ℕ) → IsGoing script before now number h rest waiting → lines_of rest ≡ line ∷ lines_of behind → length behind + 1 ≤ length rest → PlaysNext line number h new waiting middle → Sends now after middle new_waiting → IsGoing script before after (number + 1) new behind new_waiting
+pub IsGoing-next : (script : List ℕ) (before now after : Option (List ℕ)) (number : ℕ) (h new : History)
+    (rest behind line waiting middle new_waiting : List ℕ) → IsGoing script before now number h rest waiting →
+    lines_of rest ≡ line ∷ lines_of behind → length behind + 1 ≤ length rest → PlaysNext line number h new waiting middle →
+    Sends now after middle new_waiting → IsGoing script before after (number + 1) new behind new_waiting
 IsGoing-next script before now after number h new rest behind line waiting middle new_waiting going lines_are shorter next sends = record {
   written = going.written ++ text_put number next.reply;
-  so_far = IsSoFar-next script going.written number h new rest behind line next.plays.line next.reply going.so_far lines_are next.plays.read.is_line next.plays.answers.answered;
-  sends = Sends-after before now after _ middle new_waiting (Sends-more before now going.written waiting (text_put number next.reply) middle going.sends next.text) sends;
+  so_far = IsSoFar-next script going.written number h new rest behind line next.plays.line next.reply going.so_far lines_are next.plays.read.is_line
+      next.plays.answers.answered;
+  sends = Sends-after before now after _ middle new_waiting
+      (Sends-more before now going.written waiting (text_put number next.reply) middle going.sends next.text) sends;
   numbered = omega (arith, going.numbered);
 }
 
-pub IsGoing-end : (script : List ℕ) (before now after : Option (List ℕ)) (number : ℕ) (h : History) (rest waiting new_waiting : List ℕ) → IsGoing script before now number h rest waiting → length rest ≤ 0 → Sends now after waiting new_waiting → new_waiting ≡ [] → Plays script before after
+pub IsGoing-end : (script : List ℕ) (before now after : Option (List ℕ)) (number : ℕ) (h : History) (rest waiting new_waiting : List ℕ) →
+    IsGoing script before now number h rest waiting → length rest ≤ 0 → Sends now after waiting new_waiting → new_waiting ≡ [] →
+    Plays script before after
 IsGoing-end script before now after number h rest waiting new_waiting going over sends none =
     let all = Sends-after before now after going.written waiting new_waiting going.sends sends in
     record {
@@ -201,8 +249,9 @@ IsGoing-end script before now after number h rest waiting new_waiting going over
     empty [] e = refl
     empty (x ∷ xs) e = absurd (omega arith)
 
--- where memory lacks the sink took a front of the text
-pub IsGoing-part : (script : List ℕ) (before now : Option (List ℕ)) (number : ℕ) (h : History) (rest waiting : List ℕ) → IsGoing script before now number h rest waiting → PlaysInPart script before now
+-- where memory runs out the sink took a prefix of the text
+pub IsGoing-part : (script : List ℕ) (before now : Option (List ℕ)) (number : ℕ) (h : History) (rest waiting : List ℕ) →
+    IsGoing script before now number h rest waiting → PlaysInPart script before now
 IsGoing-part script before now number h rest waiting going = record {
   text = going.sends.sent;
   played = IsSoFar-part script going.written number h rest going.sends.sent waiting going.so_far going.sends.split;
@@ -210,28 +259,33 @@ IsGoing-part script before now number h rest waiting going = record {
 }
 
 -- and where the sink met a fault
-pub IsGoing-fault : (script : List ℕ) (before now after : Option (List ℕ)) (number : ℕ) (h : History) (rest waiting : List ℕ) → IsGoing script before now number h rest waiting → TookPart now after waiting → PlaysInPart script before after
+pub IsGoing-fault : (script : List ℕ) (before now after : Option (List ℕ)) (number : ℕ) (h : History) (rest waiting : List ℕ) →
+    IsGoing script before now number h rest waiting → TookPart now after waiting → PlaysInPart script before after
 IsGoing-fault script before now after number h rest waiting going part = record {
   text = going.sends.sent ++ take part.count waiting;
   played = IsSoFar-part script going.written number h rest (going.sends.sent ++ take part.count waiting) (drop part.count waiting) going.so_far
-      (going.sends.split ∙ (ap (λ (t : List ℕ). going.sends.sent ++ t) (sym (take-append-drop part.count waiting)) ∙ sym (append_assoc going.sends.sent (take part.count waiting) (drop part.count waiting))));
+      (going.sends.split ∙ (ap (λ (t : List ℕ). going.sends.sent ++ t) (sym (take-append-drop part.count waiting))
+      ∙ sym (append_assoc going.sends.sent (take part.count waiting) (drop part.count waiting))));
   took = Took-append before now after going.sends.sent (take part.count waiting) going.sends.took part.took;
 }
 
 -- a fault right after a line
-pub IsGoing-stuck : (script : List ℕ) (before now after : Option (List ℕ)) (number : ℕ) (h new : History) (rest behind line waiting middle : List ℕ) → IsGoing script before now number h rest waiting → lines_of rest ≡ line ∷ lines_of behind → length behind + 1 ≤ length rest → PlaysNext line number h new waiting middle → TookPart now after middle → PlaysInPart script before after
+pub IsGoing-stuck : (script : List ℕ) (before now after : Option (List ℕ)) (number : ℕ) (h new : History)
+    (rest behind line waiting middle : List ℕ) → IsGoing script before now number h rest waiting → lines_of rest ≡ line ∷ lines_of behind →
+    length behind + 1 ≤ length rest → PlaysNext line number h new waiting middle → TookPart now after middle → PlaysInPart script before after
 IsGoing-stuck script before now after number h new rest behind line waiting middle going lines_are shorter next part =
     IsGoing-fault script before now after (number + 1) new behind middle
-    (IsGoing-next script before now now number h new rest behind line waiting middle middle going lines_are shorter next (record { sent = []; took = Took-nil now; split = refl }))
+    (IsGoing-next script before now now number h new rest behind line waiting middle middle going lines_are shorter next
+    (record { sent = []; took = Took-nil now; split = refl }))
     part
 
--- before its first byte a front of every script's text was written
+-- before its first byte a prefix of every script's text was written
 pub PlaysInPart-nil : (script : List ℕ) (taken now : Option (List ℕ)) → now ≡ taken → PlaysInPart script taken now
 PlaysInPart-nil script taken now same =
     subst (λ (after : Option (List ℕ)). PlaysInPart script taken after) (sym same)
     (record { text = []; played = IsSoFar-part script [] 1 [] script [] [] (IsSoFar-start script) refl; took = Took-nil taken })
 
--- what holds of every script holds of one that the source tells
+-- what holds of every script holds of one that the source shows
 pub unwritten-part : (left taken : Option (List ℕ)) → IfSome left (λ script. PlaysInPart script taken taken)
 unwritten-part None taken = tt
 unwritten-part (Some script) taken = PlaysInPart-nil script taken taken refl

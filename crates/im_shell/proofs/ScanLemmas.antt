@@ -21,7 +21,7 @@ use Rattle.im_history.specs.Rows.{Row, rows, row_after, seen, present, own_chang
 use Rattle.im_history.specs.Transactions.{pending}
 use Rattle.im_history.specs.Views.{view_at, seen_by}
 use Rattle.im_history.proofs.Laws.{opened-push}
-use Rattle.im_shell.specs.Scans.{IsOpening, seen_in, committed, changed, numbered, numbered_from}
+use Rattle.im_shell.specs.inner.Scans.{IsOpening, seen_in, committed, changed, numbered, numbered_from}
 
 -- ---- the opening
 
@@ -56,13 +56,17 @@ ranges a (suc n) m =
     ap (λ (l : List ℕ). a ∷ l) (ap (λ (first : ℕ). range_with_len (a + 1) n ++ range_with_len first m) past ∙ ranges (a + 1) n m)
     ∙ ap (range_with_len a) more
 
-pub committed-more : (h : History) (view : View) (extent : ℕ) → extent * view.per ≤ view.rows → committed h view (min (extent * view.per) view.rows) ++ map (λ fetched. fetched.1) (committed_in h view extent) ≡ committed h view (min ((extent + 1) * view.per) view.rows)
+pub committed-more : (h : History) (view : View) (extent : ℕ) → extent * view.per ≤ view.rows →
+    committed h view (min (extent * view.per) view.rows) ++ map (λ fetched. fetched.1) (committed_in h view extent)
+    ≡ committed h view (min ((extent + 1) * view.per) view.rows)
 committed-more h view extent within =
     let f : ℕ → Option Row = λ rid. rows h view.table view.scn rid in
     let n = min view.per (view.rows - extent * view.per) in
     let here : min (extent * view.per) view.rows ≡ extent * view.per = omega (arith, within) in
-    let next : extent * view.per + n ≡ min ((extent + 1) * view.per) view.rows = next_is (extent * view.per) view.per view.rows ((extent + 1) * view.per) within (mul-one extent view.per) in
-    ap (λ (l : List (Option Row)). committed h view (min (extent * view.per) view.rows) ++ l) (map-map (λ fetched. fetched.1) (λ rid. (rid, f rid)) (range_with_len (extent * view.per) n))
+    let next : extent * view.per + n ≡ min ((extent + 1) * view.per) view.rows =
+    next_is (extent * view.per) view.per view.rows ((extent + 1) * view.per) within (mul-one extent view.per) in
+    ap (λ (l : List (Option Row)). committed h view (min (extent * view.per) view.rows) ++ l)
+    (map-map (λ fetched. fetched.1) (λ rid. (rid, f rid)) (range_with_len (extent * view.per) n))
     ∙ (ap (λ (count : ℕ). committed h view count ++ map f (range_with_len (extent * view.per) n)) here
     ∙ (sym (map-append f (range_with_len 0 (extent * view.per)) (range_with_len (extent * view.per) n))
     ∙ (ap (map f) (ap (λ (first : ℕ). range_with_len 0 (extent * view.per) ++ range_with_len first n) (omega arith) ∙ ranges 0 (extent * view.per) n)
@@ -93,7 +97,8 @@ extent-within h who view extent o within =
     extents_is = ap (λ (v : View). v.extents) o.view_is ∙ sym (ap (λ (v : View). (v.rows + v.per - 1) / v.per) o.view_is)
 
 -- the rows of all extents
-pub committed-whole : (h : History) (who : ℕ) (view : View) (extent : ℕ) → IsOpening h who view → extent ≤ view.extents → view.extents ≤ extent → committed h view (min (extent * view.per) view.rows) ≡ committed h view view.rows
+pub committed-whole : (h : History) (who : ℕ) (view : View) (extent : ℕ) → IsOpening h who view → extent ≤ view.extents → view.extents ≤ extent →
+    committed h view (min (extent * view.per) view.rows) ≡ committed h view view.rows
 committed-whole h who view extent o below above =
     let extents_are : extent ≡ extents_for view.rows view.per = all in
     ap (λ (e : ℕ). committed h view (min (e * view.per) view.rows)) extents_are ∙ ap (committed h view) (extents-whole view.rows view.per o.cut)
@@ -110,10 +115,12 @@ pub length-changed : (slots : List (Option Row)) (own : List Change) → length 
 length-changed slots [] = refl
 length-changed slots (change ∷ own) = length-changed (slice_set slots change.rid change.row) own ∙ length-set slots change.rid change.row
 
-changed-at : (slots : List (Option Row)) (own : List Change) (table rid : ℕ) → All (λ change. change.table ≡ table) own → rid < length slots → get_or (changed slots own) rid None ≡ fold (row_after table rid) (get_or slots rid None) own
+changed-at : (slots : List (Option Row)) (own : List Change) (table rid : ℕ) → All (λ change. change.table ≡ table) own → rid < length slots →
+    get_or (changed slots own) rid None ≡ fold (row_after table rid) (get_or slots rid None) own
 changed-at slots [] table rid all within = refl
 changed-at slots (change ∷ own) table rid all within =
-    changed-at (slice_set slots change.rid change.row) own table rid (All-tail (λ (c : Change). c.table ≡ table) change own all) (let same = length-set slots change.rid change.row in omega (arith, same, within))
+    changed-at (slice_set slots change.rid change.row) own table rid (All-tail (λ (c : Change). c.table ≡ table) change own all)
+    (let same = length-set slots change.rid change.row in omega (arith, same, within))
     ∙ ap (λ (row : Option Row). fold (row_after table rid) row own) (one (change.rid == rid) refl)
   where
     same_table : (change.table == table) ≡ true
@@ -129,11 +136,13 @@ changed-at slots (change ∷ own) table rid all within =
 
 -- ---- those that there are
 
-pub numbered_from-present : (row_at : ℕ → Option Row) (first : ℕ) (slots : List (Option Row)) → ((i : ℕ) → i < length slots → get_or slots i None ≡ row_at (first + i)) → numbered_from first slots ≡ present row_at first (length slots)
+pub numbered_from-present : (row_at : ℕ → Option Row) (first : ℕ) (slots : List (Option Row)) →
+    ((i : ℕ) → i < length slots → get_or slots i None ≡ row_at (first + i)) → numbered_from first slots ≡ present row_at first (length slots)
 numbered_from-present row_at first [] each = refl
 numbered_from-present row_at first (slot ∷ slots) each =
     let head : slot ≡ row_at first = each 0 (omega arith) ∙ ap row_at (omega arith) in
-    ap (λ (l : List (ℕ × Row)). numbered first slot ++ l) (numbered_from-present row_at (first + 1) slots (λ i within. each (suc i) (omega (arith, within)) ∙ ap row_at (omega arith)))
+    ap (λ (l : List (ℕ × Row)). numbered first slot ++ l)
+    (numbered_from-present row_at (first + 1) slots (λ i within. each (suc i) (omega (arith, within)) ∙ ap row_at (omega arith)))
     ∙ by slot head
   where
     later : List (ℕ × Row)
@@ -144,7 +153,8 @@ numbered_from-present row_at first (slot ∷ slots) each =
     by (Some row) e = rw (← e) refl
 
 -- the rows that a view sees
-pub seen-numbered : (h : History) (who : ℕ) (view : View) (slots : List (Option Row)) → IsOpening h who view → slots ≡ committed h view view.rows → numbered_from 0 (changed slots view.own) ≡ seen_in h view
+pub seen-numbered : (h : History) (who : ℕ) (view : View) (slots : List (Option Row)) → IsOpening h who view → slots ≡ committed h view view.rows →
+    numbered_from 0 (changed slots view.own) ≡ seen_in h view
 unfolding seen
 seen-numbered h who view slots o slots_are =
     numbered_from-present (seen_by h view) 0 (changed slots view.own) each
@@ -166,7 +176,8 @@ seen-numbered h who view slots o slots_are =
     all_own table [] = All-nil _
     all_own table (change ∷ changes) = by (change.table == table) refl (all_own table changes)
       where
-        by : (b : Bool) → (change.table == table) ≡ b → All (λ c. c.table ≡ table) (filter (λ c. c.table == table) changes) → All (λ c. c.table ≡ table) (if b then change ∷ filter (λ c. c.table == table) changes else filter (λ c. c.table == table) changes)
+        by : (b : Bool) → (change.table == table) ≡ b → All (λ c. c.table ≡ table) (filter (λ c. c.table == table) changes) →
+            All (λ c. c.table ≡ table) (if b then change ∷ filter (λ c. c.table == table) changes else filter (λ c. c.table == table) changes)
         by true e rest = All-cons (λ (c : Change). c.table ≡ table) change _ (decided table change e) rest
         by false e rest = rest
 
@@ -174,7 +185,8 @@ seen-numbered h who view slots o slots_are =
     owns = rw (own_is, table_is) (all_own o.table (pending o.before who))
 
     first : (i : ℕ) → i < view.rows → get_or slots i None ≡ rows h view.table view.scn i
-    first i within = ap (λ (xs : List (Option Row)). get_or xs i None) slots_are ∙ get_or-map-range_with_len (λ rid. rows h view.table view.scn rid) 0 view.rows i i None within (omega arith)
+    first i within = ap (λ (xs : List (Option Row)). get_or xs i None) slots_are
+        ∙ get_or-map-range_with_len (λ rid. rows h view.table view.scn rid) 0 view.rows i i None within (omega arith)
 
     each : (i : ℕ) → i < length (changed slots view.own) → get_or (changed slots view.own) i None ≡ seen_by h view (0 + i)
     each i within =

@@ -20,14 +20,15 @@ use Rattle.im_names.specs.Fitting.{OfTable, QueryServes, FilterServes, UpdateSer
 use Rattle.im_syntax.specs.declared.bound.Bound.{Bound}
 use Rattle.im_syntax.specs.BoundFits.{BoundFits, FilterFits}
 use Rattle.im_syntax.specs.Condition.{CondOf}
-use Rattle.im_shell.specs.Scans.{IsOpening, EachSeen, MayAssign}
+use Rattle.im_shell.specs.inner.Scans.{IsOpening, EachSeen, MayAssign}
 use Rattle.im_shell.proofs.AssignLemmas.{fits-assigned}
 use Rattle.im_shell.proofs.OpeningLemmas.{each-opening, seen_by-opening}
 use Rattle.im_shell.proofs.StatementLemmas.{MadeOf, made_of}
 use Rattle.im_shell.proofs.WriteLemmas.{table_at-opening}
 
 -- each row that a session sees of a table fits its columns
-row-fits : (limits : Limits) (h : History) (who table rid : ℕ) (columns : List Column) (row : Row) → IsLegal limits h → MadeOf h table columns → seen_by h (view_at h who table) rid ≡ Some row → fits row columns ≡ true
+row-fits : (limits : Limits) (h : History) (who table rid : ℕ) (columns : List Column) (row : Row) → IsLegal limits h → MadeOf h table columns →
+    seen_by h (view_at h who table) rid ≡ Some row → fits row columns ≡ true
 row-fits limits h who table rid columns row legal m saw =
     ap (fits row) (sym m.schema) ∙ seen-fits limits h who table rid m.made row legal m.is saw
 
@@ -35,21 +36,28 @@ module _ (limits : Limits) (h : History) (who : ℕ) (view : View) (o : IsOpenin
   -- a query
   pub query-serves : (bound : Bound) → OfTable (tables o.before) o.table (QueryServes bound) → EachSeen (λ row. BoundFits row bound) h view
   query-serves bound of =
-      each-opening (λ row. BoundFits row bound) h who view o (λ rid row saw. of.is row (row-fits limits o.before who o.table rid of.columns row legal (made_of o.before o.table of.columns of.are_of) saw))
+      each-opening (λ row. BoundFits row bound) h who view o
+      (λ rid row saw. of.is.rows row (row-fits limits o.before who o.table rid of.columns row legal
+      (made_of o.before o.table of.columns of.are_of) saw))
 
   -- a condition
-  pub filter-serves : (filter : Option (CondOf ℕ Value)) (columns : List Column) → MadeOf o.before o.table columns → FilterServes filter columns → EachSeen (λ row. ForSome filter (FilterFits row)) h view
+  pub filter-serves : (filter : Option (CondOf ℕ Value)) (columns : List Column) → MadeOf o.before o.table columns → FilterServes filter columns →
+      EachSeen (λ row. ForSome filter (FilterFits row)) h view
   filter-serves filter columns m serves =
-      each-opening (λ row. ForSome filter (FilterFits row)) h who view o (λ rid row saw. serves row (row-fits limits o.before who o.table rid columns row legal m saw))
+      each-opening (λ row. ForSome filter (FilterFits row)) h who view o
+      (λ rid row saw. serves row (row-fits limits o.before who o.table rid columns row legal m saw))
 
-  pub delete-serves : (filter : Option (CondOf ℕ Value)) → OfTable (tables o.before) o.table (FilterServes filter) → EachSeen (λ row. ForSome filter (FilterFits row)) h view
+  pub delete-serves : (filter : Option (CondOf ℕ Value)) → OfTable (tables o.before) o.table (FilterServes filter) →
+      EachSeen (λ row. ForSome filter (FilterFits row)) h view
   delete-serves filter of = filter-serves filter of.columns (made_of o.before o.table of.columns of.are_of) of.is
 
   -- values that are assigned
-  pub update-serves : (filter : Option (CondOf ℕ Value)) (sets : List (ℕ × Value)) → OfTable (tables o.before) o.table (UpdateServes filter sets) → EachSeen (λ row. ForSome filter (FilterFits row)) h view
+  pub update-serves : (filter : Option (CondOf ℕ Value)) (sets : List (ℕ × Value)) → OfTable (tables o.before) o.table (UpdateServes filter sets) →
+      EachSeen (λ row. ForSome filter (FilterFits row)) h view
   update-serves filter sets of = filter-serves filter of.columns (made_of o.before o.table of.columns of.are_of) of.is.condition
 
-  pub sets-serve : (filter : Option (CondOf ℕ Value)) (sets : List (ℕ × Value)) → OfTable (tables o.before) o.table (UpdateServes filter sets) → MayAssign sets h view
+  pub sets-serve : (filter : Option (CondOf ℕ Value)) (sets : List (ℕ × Value)) → OfTable (tables o.before) o.table (UpdateServes filter sets) →
+      MayAssign sets h view
   sets-serve filter sets of =
       let m = made_of o.before o.table of.columns of.are_of in
       record {
@@ -57,5 +65,6 @@ module _ (limits : Limits) (h : History) (who : ℕ) (view : View) (o : IsOpenin
         is = table_at-opening h who view o ∙ m.is;
         each = λ rid row saw.
             ap (fits _) m.schema
-            ∙ fits-assigned of.columns sets row (row-fits limits o.before who o.table rid of.columns row legal m (sym (seen_by-opening h who rid view o) ∙ saw)) of.is.values;
+            ∙ fits-assigned of.columns sets row
+            (row-fits limits o.before who o.table rid of.columns row legal m (sym (seen_by-opening h who rid view o) ∙ saw)) of.is.values;
       }

@@ -32,10 +32,12 @@ use Rattle.im_syntax.specs.declared.statement.Stmt.{Stmt}
 use Rattle.im_syntax.specs.declared.statement.Stmt.TheVariants as stmt
 use Rattle.im_shell.specs.declared.player.NewTable.{NewTable}
 use Rattle.im_replies.specs.declared.body.Body.TheVariants.{Error}
-use Rattle.im_shell.specs.declared.reply.Reply.{Reply}
-use Rattle.im_shell.specs.Creations.{creation_of}
-use Rattle.im_shell.specs.Statements.{is_creation, is_definition, name_fault, name_reply, found_plan, named_plan, resolved_plan, looked_up, definition_plan}
-use Rattle.im_shell.specs.Turns.{memory_reply, IsRest}
+use Rattle.im_replies.specs.declared.reply.Reply.{Reply}
+use Rattle.im_shell.specs.inner.Creations.{creation_of}
+use Rattle.im_shell.specs.Statements.{is_creation, is_definition, name_reply, found_plan, named_plan, resolved_plan, looked_up, definition_plan}
+use Rattle.im_replies.specs.Causes.{name_fault}
+use Rattle.im_shell.specs.Turns.{memory_reply, settled_reply}
+use Rattle.im_shell.specs.inner.Answers.{IsRest}
 use Rattle.im_shell.proofs.PlanLemmas.{rest-end, rest-lacks, rest-look, rest-adds}
 
 -- ---- definitions
@@ -53,7 +55,8 @@ none-formed : {A : Type 0} (form : A → Resolved) → ((a : A) → is_creation 
 none-formed form e (Ok a) = e a
 none-formed form e (Err fault) = tt
 
-none-of_table : (o : Option TableInfo) (name : List ℕ) (on : TableInfo → Result Resolved NameFault) → ((table : TableInfo) → CreatesNone (on table)) → CreatesNone (of_table o name on)
+none-of_table : (o : Option TableInfo) (name : List ℕ) (on : TableInfo → Result Resolved NameFault) →
+    ((table : TableInfo) → CreatesNone (on table)) → CreatesNone (of_table o name on)
 none-of_table None name on each = tt
 none-of_table (Some table) name on each = each table
 
@@ -74,7 +77,8 @@ pub creates-none : (ts : List TableInfo) (s : Stmt) (r : Resolved) → is_defini
 creates-none ts s r other is = subst CreatesNone is (none-answer ts s other)
 
 -- a definition comes to a new table
-creates-unless : (fault : Option NameFault) (r other : Resolved) (table : NewTable) → creation_of r ≡ Some table → unless fault r ≡ Ok other → creation_of other ≡ None → ⊥
+creates-unless : (fault : Option NameFault) (r other : Resolved) (table : NewTable) → creation_of r ≡ Some table → unless fault r ≡ Ok other →
+    creation_of other ≡ None → ⊥
 creates-unless None r other table made is none = let same : r ≡ other = inj is in let bad : Some table ≡ None = sym made ∙ (ap creation_of same ∙ none) in cc
   where
     inj : {a b : Resolved} → ◌≡◌ {A = Result Resolved NameFault} (Ok a) (Ok b) → a ≡ b
@@ -87,20 +91,24 @@ creates ts _ r e is none = cc
 
 -- ---- names
 
-pub named-found : (who k : ℕ) (old new : Seen) (s : Stmt) (found : Look) (r : Resolved) (reply : Reply) → found ≡ look_at old.log who → answer found.tables s ≡ Ok r → IsRest who k old (resolved_plan old.limits who old.log r) reply new → IsRest who k old (named_plan old.limits who s old.log) reply new
+pub named-found : (who k : ℕ) (old new : Seen) (s : Stmt) (found : Look) (r : Resolved) (reply : Reply) → found ≡ look_at old.log who →
+    answer found.tables s ≡ Ok r → IsRest who k old (resolved_plan old.limits who old.log r) reply new →
+    IsRest who k old (named_plan old.limits who s old.log) reply new
 named-found who k old new s found r reply look_is is rest =
     rw (sym (ap (λ (l : Look). answer l.tables s) look_is) ∙ is) rest
 
--- what is told of a fault: that memory lacked, or it
+-- the reply for a fault of names: that memory ran out, or it
 data IsToldOf (k place : ℕ) (fault : NameFault) : Type 0 where
   of_memory : name_reply k place fault ≡ memory_reply k → IsToldOf k place fault
-  of_fault : name_reply k place fault ≡ record { place = Some place; body = Error (name_fault fault) } → IsToldOf k place fault
+  of_fault : name_reply k place fault ≡ settled_reply place (Error (name_fault fault)) → IsToldOf k place fault
 
 told_of : (k place : ℕ) (fault : NameFault) → IsToldOf k place fault
 told_of k place NoMemory = of_memory refl
 told_of k place _ = of_fault refl
 
-pub named-fault : (who k : ℕ) (old new : Seen) (s : Stmt) (found : Look) (fault : NameFault) → found ≡ look_at old.log who → opened old.log who ≡ [] → new ≡ old → (fault ≡ NoMemory) ⊎ (answer found.tables s ≡ Err fault) → IsRest who k old (named_plan old.limits who s old.log) (name_reply k found.place fault) new
+pub named-fault : (who k : ℕ) (old new : Seen) (s : Stmt) (found : Look) (fault : NameFault) → found ≡ look_at old.log who →
+    opened old.log who ≡ [] → new ≡ old → (fault ≡ NoMemory) ⊎ (answer found.tables s ≡ Err fault) →
+    IsRest who k old (named_plan old.limits who s old.log) (name_reply k found.place fault) new
 named-fault who k old new s found fault look_is none new_is cause = elim cause [
   | inl lacking ↦ rw (lacking, new_is) (rest-lacks who k old (named_plan old.limits who s old.log) old none refl)
   | inr is ↦ rw (sym (ap (λ (l : Look). answer l.tables s) look_is) ∙ is) (by (told_of k found.place fault))
@@ -108,7 +116,8 @@ named-fault who k old new s found fault look_is none new_is cause = elim cause [
   where
     by : IsToldOf k found.place fault → IsRest who k old (found_plan old.limits who old.log (Err fault)) (name_reply k found.place fault) new
     by (of_memory e) = rw (e, new_is) (rest-lacks who k old (found_plan old.limits who old.log (Err fault)) old none refl)
-    by (of_fault e) = rw (e, ap (λ (l : Look). l.place) look_is) (rest-end who k old (record { place = Some (length old.log); body = Error (name_fault fault) }) new new_is)
+    by (of_fault e) = rw (e, ap (λ (l : Look). l.place) look_is)
+        (rest-end who k old (settled_reply (length old.log) (Error (name_fault fault))) new new_is)
 
 -- ---- tables
 
@@ -147,7 +156,8 @@ may-insert h table rows of = record {
 
     all : (rs : List Row) → AllByRecursion (λ row. fits row of.columns ≡ true) rs → All (λ row. IsTrue (fits row m.made.schema)) rs
     all [] each = All-nil _
-    all (row ∷ rs) each = All-cons (λ (r : Row). IsTrue (fits r m.made.schema)) row rs (true_is (fits row m.made.schema) (ap (fits row) m.schema ∙ each.0)) (all rs each.1)
+    all (row ∷ rs) each = All-cons (λ (r : Row). IsTrue (fits r m.made.schema)) row rs
+        (true_is (fits row m.made.schema) (ap (fits row) m.schema ∙ each.0)) (all rs each.1)
 
 -- ---- the commit before a definition
 
@@ -158,7 +168,8 @@ itself who = grind (arith, nat_tests)
 pub idle-commit : (who : ℕ) (old new : Seen) → Adds old who what.Commit new → is_open new.log who ≡ false
 idle-commit who old new added =
     ap (λ (s : Seen). is_open s.log who) added
-    ∙ (ap is_some (begun-push old.log (record { who = who; what = what.Commit }) who) ∙ ap (λ (b : Bool). is_some (if b then None else begun old.log who)) (itself who))
+    ∙ (ap is_some (begun-push old.log (record { who = who; what = what.Commit }) who)
+    ∙ ap (λ (b : Bool). is_some (if b then None else begun old.log who)) (itself who))
 
 -- and no cursor, if none was
 pub closed-commit : (who : ℕ) (old new : Seen) → Adds old who what.Commit new → opened old.log who ≡ [] → opened new.log who ≡ []
@@ -171,11 +182,15 @@ closed-commit who old new added none =
     same false cursors = refl
 
 -- a definition that commits first
-pub definition-committed : (who : ℕ) (old middle new : Seen) (s : Stmt) (reply : Reply) → is_open old.log who ≡ true → Adds old who what.Commit middle → IsRest who 1 middle (looked_up middle.limits who s) reply new → IsRest who 0 old (definition_plan old.limits who s) reply new
+pub definition-committed : (who : ℕ) (old middle new : Seen) (s : Stmt) (reply : Reply) → is_open old.log who ≡ true →
+    Adds old who what.Commit middle → IsRest who 1 middle (looked_up middle.limits who s) reply new →
+    IsRest who 0 old (definition_plan old.limits who s) reply new
 definition-committed who old middle new s reply open_now added rest =
     rest-look who 0 old _ reply new
-    (rw open_now (rest-adds who 0 old what.Commit (λ at. looked_up old.limits who s) reply middle new added (subst (λ (l : Limits). IsRest who 1 middle (looked_up l who s) reply new) (ap (λ (t : Seen). t.limits) added) rest)))
+    (rw open_now (rest-adds who 0 old what.Commit (λ at. Some what.Commit) (λ at. looked_up old.limits who s) reply middle new refl added
+    (subst (λ (l : Limits). IsRest who 1 middle (looked_up l who s) reply new) (ap (λ (t : Seen). t.limits) added) rest)))
 
 -- a definition with no transaction open
-pub definition-alone : (who : ℕ) (old new : Seen) (s : Stmt) (reply : Reply) → is_open old.log who ≡ false → IsRest who 0 old (named_plan old.limits who s old.log) reply new → IsRest who 0 old (definition_plan old.limits who s) reply new
+pub definition-alone : (who : ℕ) (old new : Seen) (s : Stmt) (reply : Reply) → is_open old.log who ≡ false →
+    IsRest who 0 old (named_plan old.limits who s old.log) reply new → IsRest who 0 old (definition_plan old.limits who s) reply new
 definition-alone who old new s reply idle rest = rest-look who 0 old _ reply new (rw idle rest)

@@ -15,7 +15,7 @@ use Rattle.im_history.specs.Tables.{tables, table_at}
 use Rattle.im_history.specs.Transactions.{pending, pending_after}
 use Rattle.im_history.specs.Views.{seen_by}
 use Rattle.im_history.proofs.Laws.{tables-push, pending-push}
-use Rattle.im_shell.specs.Scans.{IsOpening, AreSeen, EachSeen, MayAssign, seen_in}
+use Rattle.im_shell.specs.inner.Scans.{IsOpening, AreSeen, EachSeen, MayAssign, seen_in}
 use Rattle.im_syntax.specs.Condition.{CondOf}
 use Rattle.im_values.specs.declared.value.Value.{Value}
 use Rattle.im_values.specs.Fits.{fits}
@@ -53,21 +53,28 @@ settles table rid (change ∷ changes) = by (touches table rid change) refl (set
     ]
 
 -- changes that were made once change nothing when they are made again
-twice : (table rid : ℕ) (changes : List Change) (x : Option Row) → fold (row_after table rid) (fold (row_after table rid) x changes) changes ≡ fold (row_after table rid) x changes
+twice : (table rid : ℕ) (changes : List Change) (x : Option Row) →
+    fold (row_after table rid) (fold (row_after table rid) x changes) changes ≡ fold (row_after table rid) x changes
 twice table rid changes x = elim (settles table rid changes) [
   | inl same ↦ same (fold (row_after table rid) x changes) x
   | inr stays ↦ stays (fold (row_after table rid) x changes)
 ]
 
 -- changes to other tables change nothing
-of_table : (table rid : ℕ) (changes : List Change) (x : Option Row) → fold (row_after table rid) x (filter (λ change. change.table == table) changes) ≡ fold (row_after table rid) x changes
+of_table : (table rid : ℕ) (changes : List Change) (x : Option Row) →
+    fold (row_after table rid) x (filter (λ change. change.table == table) changes) ≡ fold (row_after table rid) x changes
 of_table table rid [] x = refl
-of_table table rid (change ∷ changes) x = by (change.table == table) refl (of_table table rid changes (row_after table rid x change)) (of_table table rid changes x)
+of_table table rid (change ∷ changes) x = by (change.table == table) refl (of_table table rid changes (row_after table rid x change))
+    (of_table table rid changes x)
   where
     others : List Change
     others = filter (λ c. c.table == table) changes
 
-    by : (b : Bool) → (change.table == table) ≡ b → fold (row_after table rid) (row_after table rid x change) others ≡ fold (row_after table rid) (row_after table rid x change) changes → fold (row_after table rid) x others ≡ fold (row_after table rid) x changes → fold (row_after table rid) x (if b then change ∷ filter (λ c. c.table == table) changes else filter (λ c. c.table == table) changes) ≡ fold (row_after table rid) x (change ∷ changes)
+    by : (b : Bool) → (change.table == table) ≡ b →
+        fold (row_after table rid) (row_after table rid x change) others ≡ fold (row_after table rid) (row_after table rid x change) changes →
+        fold (row_after table rid) x others ≡ fold (row_after table rid) x changes →
+        fold (row_after table rid) x (if b then change ∷ filter (λ c. c.table == table) changes else filter (λ c. c.table == table) changes)
+        ≡ fold (row_after table rid) x (change ∷ changes)
     by true e after before = after
     by false e after before = before ∙ ap (λ (b : Bool). fold (row_after table rid) (if b && (change.rid == rid) then change.row else x) changes) (sym e)
 
@@ -113,15 +120,18 @@ exists-opening h who view o = record { made = o.exists.made; is = table_at-openi
 -- ---- rows that a view sees
 
 -- those of a stretch of row numbers
-present-seen : (h : History) (view : View) (low first count : ℕ) → low ≤ first → first + count ≡ view.rows → AreSeen h view low (present (seen_by h view) first count)
+present-seen : (h : History) (view : View) (low first count : ℕ) → low ≤ first → first + count ≡ view.rows →
+    AreSeen h view low (present (seen_by h view) first count)
 present-seen h view low first zero from whole = tt
 present-seen h view low first (suc count) from whole =
-    by (seen_by h view first) refl (present-seen h view low (first + 1) count (omega (arith, from)) (omega (arith, whole))) (present-seen h view (first + 1) (first + 1) count (omega arith) (omega (arith, whole)))
+    by (seen_by h view first) refl (present-seen h view low (first + 1) count (omega (arith, from)) (omega (arith, whole)))
+    (present-seen h view (first + 1) (first + 1) count (omega arith) (omega (arith, whole)))
   where
     later : List (ℕ × Row)
     later = present (seen_by h view) (first + 1) count
 
-    by : (o : Option Row) → seen_by h view first ≡ o → AreSeen h view low later → AreSeen h view (first + 1) later → AreSeen h view low (cons_option (option_map (λ row. (first, row)) o) later)
+    by : (o : Option Row) → seen_by h view first ≡ o → AreSeen h view low later → AreSeen h view (first + 1) later →
+        AreSeen h view low (cons_option (option_map (λ row. (first, row)) o) later)
     by None e lower higher = lower
     by (Some row) e lower higher = (from, omega (arith, whole), e, higher)
 
@@ -134,7 +144,8 @@ seen_in-are h view = present-seen h view 0 0 view.rows (omega arith) (omega arit
 abbrev pub to_row : ℕ → (ℕ × Row → Option Row) → ℕ × Row → Change
 to_row table put row = record { table = table; rid = row.0; row = put row }
 
-rising-seen : (h : History) (view : View) (low : ℕ) (table : ℕ) (put : ℕ × Row → Option Row) (rows : List (ℕ × Row)) → AreSeen h view low rows → AllAdjacentBelow (λ before after. before.rid < after.rid) (map (to_row table put) rows) (length (map (to_row table put) rows))
+rising-seen : (h : History) (view : View) (low : ℕ) (table : ℕ) (put : ℕ × Row → Option Row) (rows : List (ℕ × Row)) → AreSeen h view low rows →
+    AllAdjacentBelow (λ before after. before.rid < after.rid) (map (to_row table put) rows) (length (map (to_row table put) rows))
 rising-seen h view low table put [] are = λ k d within. absurd (omega (arith, within))
 rising-seen h view low table put (row ∷ []) are = λ k d within. absurd (omega (arith, within))
 rising-seen h view low table put (row ∷ next ∷ rows) are = rises (rising-seen h view (row.0 + 1) table put (next ∷ rows) are.3)
@@ -142,13 +153,17 @@ rising-seen h view low table put (row ∷ next ∷ rows) are = rises (rising-see
     changes : List Change
     changes = map (to_row table put) (next ∷ rows)
 
-    rises : AllAdjacentBelow (λ before after. before.rid < after.rid) changes (length changes) → (k : ℕ) (d : Change) → k + 1 < length (to_row table put row ∷ changes) → (get_or (to_row table put row ∷ changes) k d).rid < (get_or (to_row table put row ∷ changes) (k + 1) d).rid
+    rises : AllAdjacentBelow (λ before after. before.rid < after.rid) changes (length changes) → (k : ℕ) (d : Change) →
+        k + 1 < length (to_row table put row ∷ changes) →
+        (get_or (to_row table put row ∷ changes) k d).rid < (get_or (to_row table put row ∷ changes) (k + 1) d).rid
     rises rest zero d within = let after = are.3.0 in omega (arith, after)
     rises rest (suc k) d within =
         let past : suc k + 1 ≡ suc (k + 1) = omega arith in
         rw past (rest k d (omega (arith, within)))
 
-all-seen : (h : History) (view : View) (low : ℕ) (table : ℕ) (put : ℕ × Row → Option Row) (P : Change → Type 0) (rows : List (ℕ × Row)) → AreSeen h view low rows → ((row : ℕ × Row) → row.0 < view.rows → seen_by h view row.0 ≡ Some row.1 → P (to_row table put row)) → All P (map (to_row table put) rows)
+all-seen : (h : History) (view : View) (low : ℕ) (table : ℕ) (put : ℕ × Row → Option Row) (P : Change → Type 0) (rows : List (ℕ × Row)) →
+    AreSeen h view low rows → ((row : ℕ × Row) → row.0 < view.rows → seen_by h view row.0 ≡ Some row.1 → P (to_row table put row)) →
+    All P (map (to_row table put) rows)
 all-seen h view low table put P [] are each = All-nil _
 all-seen h view low table put P (row ∷ rows) are each =
     All-cons P (to_row table put row) _ (each row are.1 are.2) (all-seen h view (row.0 + 1) table put P rows are.3 each)
@@ -160,7 +175,9 @@ is_some-some o row e = rw e (the_true)
     the_true = search rules
 
 -- changes to rows that an opening sees may be written, where what they put fits the table
-pub may-write : (h : History) (who : ℕ) (view : View) (low : ℕ) (put : ℕ × Row → Option Row) (rows : List (ℕ × Row)) → (o : IsOpening h who view) → AreSeen h view low rows → ((made : TableInfo) → table_at h view.table ≡ Some made → (row : ℕ × Row) → seen_by h view row.0 ≡ Some row.1 → IsTrue (row_fits made.schema (put row))) → 1 ≤ length (map (to_row view.table put) rows) → MayWrite h who 0 (map (to_row view.table put) rows)
+pub may-write : (h : History) (who : ℕ) (view : View) (low : ℕ) (put : ℕ × Row → Option Row) (rows : List (ℕ × Row)) → (o : IsOpening h who view) →
+    AreSeen h view low rows → ((made : TableInfo) → table_at h view.table ≡ Some made → (row : ℕ × Row) → seen_by h view row.0 ≡ Some row.1 →
+    IsTrue (row_fits made.schema (put row))) → 1 ≤ length (map (to_row view.table put) rows) → MayWrite h who 0 (map (to_row view.table put) rows)
 may-write h who view low put rows o are fit some = record {
   opened = opening_cursor view;
   is = cursor_at-opening h who view o;
@@ -169,9 +186,12 @@ may-write h who view low put rows o are fit some = record {
   same = all-seen h view low view.table put (λ (c : Change). c.table ≡ view.table) rows are (λ row inside saw. refl);
   rising = rising-seen h view low view.table put rows are;
   inside = all-seen h view low view.table put (λ (c : Change). c.rid < view.rows) rows are (λ row inside saw. inside);
-  saw = all-seen h view low view.table put (λ (c : Change). IsTrue (is_some (seen_by h view c.rid))) rows are (λ row inside saw. is_some-some (seen_by h view row.0) row.1 saw);
-  stands = all-seen h view low view.table put (λ (c : Change). IsTrue (is_some (still_seen h who (opening_cursor view) c.rid))) rows are (λ row inside saw. is_some-some (still_seen h who (opening_cursor view) row.0) row.1 (still h who view row.0 o ∙ saw));
-  fit = all-seen h view low view.table put (λ (c : Change). IsTrue (row_fits exists.made.schema c.row)) rows are (λ row inside saw. fit exists.made exists.is row saw);
+  saw = all-seen h view low view.table put (λ (c : Change). IsTrue (is_some (seen_by h view c.rid))) rows are
+      (λ row inside saw. is_some-some (seen_by h view row.0) row.1 saw);
+  stands = all-seen h view low view.table put (λ (c : Change). IsTrue (is_some (still_seen h who (opening_cursor view) c.rid))) rows are
+      (λ row inside saw. is_some-some (still_seen h who (opening_cursor view) row.0) row.1 (still h who view row.0 o ∙ saw));
+  fit = all-seen h view low view.table put (λ (c : Change). IsTrue (row_fits exists.made.schema c.row)) rows are
+      (λ row inside saw. fit exists.made exists.is row saw);
 }
   where
     exists : Exists h view.table
@@ -182,7 +202,8 @@ seen-lower : (h : History) (view : View) (low least : ℕ) (rows : List (ℕ × 
 seen-lower h view low least [] le are = tt
 seen-lower h view low least (row ∷ rows) le are = (omega (arith, le, are.0), are.1, are.2, are.3)
 
-seen-kept : (h : History) (view : View) (low : ℕ) (test : ℕ × Row → Bool) (rows : List (ℕ × Row)) → AreSeen h view low rows → AreSeen h view low (filter test rows)
+seen-kept : (h : History) (view : View) (low : ℕ) (test : ℕ × Row → Bool) (rows : List (ℕ × Row)) → AreSeen h view low rows →
+    AreSeen h view low (filter test rows)
 seen-kept h view low test [] are = tt
 seen-kept h view low test (row ∷ rows) are = by (test row) (seen-kept h view (row.0 + 1) test rows are.3)
   where
@@ -191,17 +212,22 @@ seen-kept h view low test (row ∷ rows) are = by (test row) (seen-kept h view (
     by false rest = seen-lower h view (row.0 + 1) low (filter test rows) (omega (arith, are.0)) rest
 
 -- the kept ones of the rows that an opening sees may be taken away
-pub may-remove : (h : History) (who : ℕ) (view : View) (kept : Option (CondOf ℕ Value)) → IsOpening h who view → 1 ≤ length (removals view.table (kept_rows kept (seen_in h view))) → MayWrite h who 0 (removals view.table (kept_rows kept (seen_in h view)))
+pub may-remove : (h : History) (who : ℕ) (view : View) (kept : Option (CondOf ℕ Value)) → IsOpening h who view →
+    1 ≤ length (removals view.table (kept_rows kept (seen_in h view))) → MayWrite h who 0 (removals view.table (kept_rows kept (seen_in h view)))
 may-remove h who view kept o some =
-    may-write h who view 0 (λ row. None) (kept_rows kept (seen_in h view)) o (seen-kept h view 0 (λ row. keeps kept row.1) (seen_in h view) (seen_in-are h view)) (λ made is row saw. fits_none) some
+    may-write h who view 0 (λ row. None) (kept_rows kept (seen_in h view)) o
+    (seen-kept h view 0 (λ row. keeps kept row.1) (seen_in h view) (seen_in-are h view)) (λ made is row saw. fits_none) some
   where
     fits_none : IsTrue true
     fits_none = search rules
 
 -- and values assigned to their columns
-pub may-revise : (h : History) (who : ℕ) (view : View) (kept : Option (CondOf ℕ Value)) (sets : List (ℕ × Value)) → IsOpening h who view → MayAssign sets h view → 1 ≤ length (revisions view.table sets (kept_rows kept (seen_in h view))) → MayWrite h who 0 (revisions view.table sets (kept_rows kept (seen_in h view)))
+pub may-revise : (h : History) (who : ℕ) (view : View) (kept : Option (CondOf ℕ Value)) (sets : List (ℕ × Value)) → IsOpening h who view →
+    MayAssign sets h view → 1 ≤ length (revisions view.table sets (kept_rows kept (seen_in h view))) →
+    MayWrite h who 0 (revisions view.table sets (kept_rows kept (seen_in h view)))
 may-revise h who view kept sets o may some =
-    may-write h who view 0 (λ row. Some (assigned sets row.1)) (kept_rows kept (seen_in h view)) o (seen-kept h view 0 (λ row. keeps kept row.1) (seen_in h view) (seen_in-are h view)) fit some
+    may-write h who view 0 (λ row. Some (assigned sets row.1)) (kept_rows kept (seen_in h view)) o
+    (seen-kept h view 0 (λ row. keeps kept row.1) (seen_in h view) (seen_in-are h view)) fit some
   where
     true_is : (b : Bool) → b ≡ true → IsTrue b
     true_is true e = search rules
@@ -210,12 +236,15 @@ may-revise h who view kept sets o may some =
     some-inj : {a b : TableInfo} → Some a ≡ Some b → a ≡ b
     some-inj e = cc
 
-    fit : (made : TableInfo) → table_at h view.table ≡ Some made → (row : ℕ × Row) → seen_by h view row.0 ≡ Some row.1 → IsTrue (row_fits made.schema (Some (assigned sets row.1)))
+    fit : (made : TableInfo) → table_at h view.table ≡ Some made → (row : ℕ × Row) → seen_by h view row.0 ≡ Some row.1 →
+        IsTrue (row_fits made.schema (Some (assigned sets row.1)))
     fit made is row saw =
-        true_is (fits (assigned sets row.1) made.schema) (ap (λ (t : TableInfo). fits (assigned sets row.1) t.schema) (some-inj (sym is ∙ may.is)) ∙ may.each row.0 row.1 saw)
+        true_is (fits (assigned sets row.1) made.schema)
+        (ap (λ (t : TableInfo). fits (assigned sets row.1) t.schema) (some-inj (sym is ∙ may.is)) ∙ may.each row.0 row.1 saw)
 
 -- what holds of each row that a view sees holds of the rows
-pub all-fit : (h : History) (view : View) (low : ℕ) (P : Row → Type 0) (rows : List (ℕ × Row)) → EachSeen P h view → AreSeen h view low rows → AllByRecursion (λ row. P row.1) rows
+pub all-fit : (h : History) (view : View) (low : ℕ) (P : Row → Type 0) (rows : List (ℕ × Row)) → EachSeen P h view → AreSeen h view low rows →
+    AllByRecursion (λ row. P row.1) rows
 all-fit h view low P [] each are = tt
 all-fit h view low P (row ∷ rows) each are = (each.each row.0 row.1 are.2, all-fit h view (row.0 + 1) P rows each are.3)
 

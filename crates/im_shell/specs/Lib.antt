@@ -1,9 +1,9 @@
 pub mod Assigned
 pub mod Built
-pub mod Creations
+pub mod Exits
 pub mod Play
 pub mod Requests
-pub mod Scans
 pub mod Statements
 pub mod Texts
 pub mod Turns
+pub mod inner

@@ -26,7 +26,7 @@ use Rattle.im_plan.specs.Plan.{Plan, Turn}
 use Rattle.im_syntax.specs.Condition.{CondOf}
 use Rattle.im_syntax.specs.declared.bound.Bound.{Bound}
 use Rattle.im_syntax.specs.declared.statement.Stmt.{Stmt}
-use Rattle.im_syntax.specs.declared.statement.Stmt.TheVariants.{Create}
+use Rattle.im_syntax.specs.declared.statement.Stmt.TheVariants as stmt
 use Rattle.im_shell.specs.Assigned.{assigned}
 use Rattle.im_shell.specs.Built.{is_built}
 use Rattle.im_shell.specs.declared.rewriting.Rewriting.{Rewriting}
@@ -35,8 +35,9 @@ use Rattle.im_replies.specs.declared.body.Body.{Body}
 use Rattle.im_replies.specs.declared.body.Body.TheVariants.{Created, Begun, Inserted, Updated, Deleted, Committed, RolledBack, Answer, Error}
 use Rattle.im_replies.specs.declared.fault.Fault.{Fault}
 use Rattle.im_replies.specs.declared.fault.Fault.TheVariants as fault
-use Rattle.im_shell.specs.declared.reply.Reply.{Reply}
-use Rattle.im_shell.specs.Turns.{answer_at, refusal, look, fault_of, creation_fault, unless_refused, or_refused, decide, memory_reply, scan, end_scan}
+use Rattle.im_replies.specs.declared.reply.Reply.{Reply}
+use Rattle.im_shell.specs.Turns.{answer_at, refusal, look, unless_refused, or_refused, decide, memory_reply, scan, end_scan, settled_reply}
+use Rattle.im_replies.specs.Causes.{fault_of, creation_fault}
 
 -- ---- statements of one entry
 
@@ -80,7 +81,7 @@ answering bound place scn rows = end_scan place (Answer scn (answer_of bound row
 
 -- SELECT
 abbrev pub select : ℕ → Bound → Plan Reply
-select who bound = scan bound.table (λ at. answering bound (length at) (snapshot at who) (seen_rows at who bound.table))
+select who bound = scan who bound.table (λ at. answering bound (length at) (snapshot at who) (seen_rows at who bound.table))
 
 -- what is answered once so many rows are written to
 abbrev pub written : Rewriting → ℕ → Body
@@ -115,7 +116,7 @@ removal limits who table filter place scn rows =
 -- DELETE
 abbrev pub delete : Limits → ℕ → ℕ → Option (CondOf ℕ Value) → Plan Reply
 delete limits who table filter =
-    scan table (λ at. removal limits who table filter (length at) (snapshot at who) (seen_rows at who table))
+    scan who table (λ at. removal limits who table filter (length at) (snapshot at who) (seen_rows at who table))
 
 -- changes that assign values to columns of these rows of a table
 abbrev pub revisions : ℕ → List (ℕ × Value) → List (ℕ × Row) → List Change
@@ -129,7 +130,7 @@ revision limits who table filter sets place scn rows =
 -- UPDATE
 abbrev pub update : Limits → ℕ → ℕ → Option (CondOf ℕ Value) → List (ℕ × Value) → Plan Reply
 update limits who table filter sets =
-    scan table (λ at. revision limits who table filter sets (length at) (snapshot at who) (seen_rows at who table))
+    scan who table (λ at. revision limits who table filter sets (length at) (snapshot at who) (seen_rows at who table))
 
 -- a statement that writes to rows is refused at its look in a READ ONLY transaction, before anything is scanned
 abbrev pub unless_read_only : ℕ → History → Plan Reply → Plan Reply
@@ -137,21 +138,10 @@ unless_read_only who at plan = if forbids_writing (mode at who) then answer_at a
 
 -- ---- names
 
--- what a statement is told of a fault of its names
-abbrev pub name_fault : NameFault → Fault
-name_fault (names.UnknownTable name) = fault.UnknownTable name
-name_fault (names.UnknownColumn name) = fault.UnknownColumn name
-name_fault (names.RepeatedColumn name) = fault.RepeatedColumn name
-name_fault (names.WrongCount got wanted) = fault.WrongCount got wanted
-name_fault (names.WrongKind column) = fault.WrongKind column
-name_fault (names.TooLong column length limit) = fault.TooLong column length limit
-name_fault (names.NotGrouped column) = fault.NotGrouped column
-name_fault names.NoMemory = fault.Memory 0
-
 -- the reply to a line that has this fault of its names, at this place, once it had made k entries
 abbrev pub name_reply : ℕ → ℕ → NameFault → Reply
 name_reply k place names.NoMemory = memory_reply k
-name_reply k place fault = record { place = Some place; body = Error (name_fault fault) }
+name_reply k place fault = settled_reply place (Error (name_fault fault))
 
 -- a statement whose names were found at this history
 abbrev pub resolved_plan : Limits → ℕ → History → Resolved → Plan Reply
@@ -163,7 +153,18 @@ resolved_plan limits who at (resolved.Delete table filter) = unless_read_only wh
 resolved_plan limits who at (resolved.SetMode mode) = set_mode who mode
 resolved_plan limits who at resolved.Commit = commit
 resolved_plan limits who at resolved.Rollback = roll_back who at
-resolved_plan limits who at _ = refusal fault.NotBuilt
+resolved_plan limits who at (resolved.Explain bound) = refusal fault.NotBuilt
+resolved_plan limits who at (resolved.Memory table priority) = refusal fault.NotBuilt
+resolved_plan limits who at (resolved.OpenFor cursor bound) = refusal fault.NotBuilt
+resolved_plan limits who at (resolved.Step cursor) = refusal fault.NotBuilt
+resolved_plan limits who at (resolved.Fetch cursor) = refusal fault.NotBuilt
+resolved_plan limits who at (resolved.Close cursor) = refusal fault.NotBuilt
+resolved_plan limits who at resolved.Run = refusal fault.NotBuilt
+resolved_plan limits who at resolved.Begin = refusal fault.NotBuilt
+resolved_plan limits who at resolved.Switch = refusal fault.NotBuilt
+resolved_plan limits who at resolved.Cancel = refusal fault.NotBuilt
+resolved_plan limits who at (resolved.Trickle credits) = refusal fault.NotBuilt
+resolved_plan limits who at (resolved.Evict table extent) = refusal fault.NotBuilt
 
 -- the names of a statement were looked up at this history: what it does, or their fault
 abbrev pub found_plan : Limits → ℕ → History → Result Resolved NameFault → Plan Reply
@@ -187,13 +188,52 @@ definition_plan limits who statement = look (λ at.
 
 -- a table is created
 abbrev pub is_creation : Resolved → Bool
+is_creation (resolved.Select bound) = false
+is_creation (resolved.Explain bound) = false
 is_creation (resolved.Create name schema grid memory) = true
-is_creation resolved = false
+is_creation (resolved.Memory table priority) = false
+is_creation (resolved.Insert table rows) = false
+is_creation (resolved.Update table filter sets) = false
+is_creation (resolved.Delete table filter) = false
+is_creation (resolved.SetMode mode) = false
+is_creation resolved.Commit = false
+is_creation resolved.Rollback = false
+is_creation (resolved.OpenFor cursor bound) = false
+is_creation (resolved.Step cursor) = false
+is_creation (resolved.Fetch cursor) = false
+is_creation (resolved.Close cursor) = false
+is_creation resolved.Run = false
+is_creation resolved.Begin = false
+is_creation resolved.Switch = false
+is_creation resolved.Cancel = false
+is_creation (resolved.Trickle credits) = false
+is_creation (resolved.Evict table extent) = false
 
 -- the statement defines a table
 abbrev pub is_definition : Stmt → Bool
-is_definition (Create name columns block extent memory) = true
-is_definition statement = false
+is_definition (stmt.Select query) = false
+is_definition (stmt.Explain query) = false
+is_definition (stmt.Create name columns block extent memory) = true
+is_definition (stmt.AlterMemory name memory) = false
+is_definition (stmt.AlterNoMemory name) = false
+is_definition (stmt.Insert name names tuples) = false
+is_definition (stmt.Update name sets cond) = false
+is_definition (stmt.Delete name cond) = false
+is_definition stmt.SetReadOnly = false
+is_definition stmt.SetSerializable = false
+is_definition stmt.SetCommitted = false
+is_definition stmt.Commit = false
+is_definition stmt.Rollback = false
+is_definition (stmt.OpenFor cursor query) = false
+is_definition (stmt.Step cursor) = false
+is_definition (stmt.Fetch cursor) = false
+is_definition (stmt.Close cursor) = false
+is_definition stmt.Run = false
+is_definition stmt.Begin = false
+is_definition stmt.Switch = false
+is_definition stmt.Cancel = false
+is_definition (stmt.Trickle credits) = false
+is_definition (stmt.Evict name extent) = false
 
 -- the plan of a statement of a session
 abbrev pub statement_plan : Limits → ℕ → Stmt → Plan Reply

@@ -1,7 +1,7 @@
 -- The text of the replies to lines.
 use Rattle.std.specs.Prelude.{ℕ, List, [], ◌∷◌, ◌++◌}
 use Rattle.im_text.specs.Replies.{reply_text}
-use Rattle.im_shell.specs.declared.reply.Reply.{Reply}
+use Rattle.im_replies.specs.declared.reply.Reply.{Reply}
 
 -- the replies to lines, each with its line's number
 abbrev pub text_of : List (ℕ × Reply) → List ℕ

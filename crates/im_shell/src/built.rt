@@ -19,7 +19,19 @@ pub fn is_built(statement: &Stmt) -> bool
         | Stmt::SetCommitted
         | Stmt::Commit
         | Stmt::Rollback => true,
-        _ => false,
+        Stmt::Explain(_)
+        | Stmt::AlterMemory { .. }
+        | Stmt::AlterNoMemory { .. }
+        | Stmt::OpenFor { .. }
+        | Stmt::Step(_)
+        | Stmt::Fetch(_)
+        | Stmt::Close(_)
+        | Stmt::Run
+        | Stmt::Begin
+        | Stmt::Switch
+        | Stmt::Cancel
+        | Stmt::Trickle(_)
+        | Stmt::Evict { .. } => false,
     }
 }
 
@@ -27,5 +39,29 @@ pub fn is_built(statement: &Stmt) -> bool
 pub fn is_definition(statement: &Stmt) -> bool
     ensures { result ≡ plan.is_definition statement.now }
 {
-    matches!(statement, Stmt::Create { .. })
+    match statement {
+        Stmt::Create { .. } => true,
+        Stmt::Insert { .. }
+        | Stmt::Update { .. }
+        | Stmt::Delete { .. }
+        | Stmt::Select(_)
+        | Stmt::SetReadOnly
+        | Stmt::SetSerializable
+        | Stmt::SetCommitted
+        | Stmt::Commit
+        | Stmt::Rollback
+        | Stmt::Explain(_)
+        | Stmt::AlterMemory { .. }
+        | Stmt::AlterNoMemory { .. }
+        | Stmt::OpenFor { .. }
+        | Stmt::Step(_)
+        | Stmt::Fetch(_)
+        | Stmt::Close(_)
+        | Stmt::Run
+        | Stmt::Begin
+        | Stmt::Switch
+        | Stmt::Cancel
+        | Stmt::Trickle(_)
+        | Stmt::Evict { .. } => false,
+    }
 }

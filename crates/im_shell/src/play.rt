@@ -2,32 +2,37 @@ ghost use Rattle.std.specs.Prelude.{◌≡◌, ◌<◌, ◌≤◌, [], ◌++◌,
 ghost use Rattle.im_edge.specs.Faults.{Rose};
 ghost use Rattle.im_edge.specs.Writing.{Took, TookPart};
 ghost use Rattle.im_shell.specs.declared.play.Stop.TheVariants as stop;
-ghost use Rattle.im_shell.specs.Play.{IsRead, text_put, Sends, Plays, PlaysBytes, PlaysInPart, PlaysNext};
-ghost use Rattle.im_shell.specs.Requests.{Answers, IsBetween, IsKnown, script_limits};
+ghost use Rattle.im_shell.specs.inner.Going.{IsRead, text_put, Sends, PlaysBytes, PlaysNext};
+ghost use Rattle.im_shell.specs.Play.{Plays, PlaysInPart};
+ghost use Rattle.im_shell.specs.inner.Answers.{Answers, IsBetween, IsKnown};
+ghost use Rattle.im_shell.specs.Requests.{script_limits};
 
 use crate::lines::first_line;
-use crate::refusals::{lacked, refusal};
-use crate::reply::Reply;
+use crate::refusals::out_of_memory;
 use crate::statement::play_statement;
 use crate::unit::NoUnit;
 use im_core::Core;
 use im_edge::{Sink, WriteFault, write_all};
 use im_history::Limits;
-use im_replies::Fault;
+use im_replies::{Fault, Reply};
 use im_script::{Line, LineKind, line_of};
+use im_values::limits::{MOST_CHANGES, MOST_WEIGHT};
 use im_values::{NoMemory, Steps};
 use std::alloc::Global;
 use std::sync::ledger::Ledger;
 use thiserror::Error;
 
+/// The bytes that column units may take together, as long as the words do not set it.
+pub const AREA: u64 = 67_108_864;
+
 /// The limits of the store that a script is played over.
 const LIMITS: Limits = Limits {
-    area: 67_108_864,
-    store: 536_870_912,
-    changes: 65_536,
+    area: AREA,
+    store: MOST_WEIGHT,
+    changes: MOST_CHANGES,
 };
 
-/// Replies are handed to the sink in pieces of this size, and a last one.
+/// Replies are handed to the sink once so many bytes wait, and at the end.
 const PIECE: usize = 65536;
 
 /// Why a script was not played to its end.
@@ -79,13 +84,16 @@ fn play_line<L: Ledger>(
 {
     match &line.kind {
         LineKind::Skip | LineKind::Race => None,
-        LineKind::Long(length) => Some(refusal(Fault::LineTooLong { length: *length })),
-        LineKind::Bad(byte) => Some(refusal(Fault::Syntax { byte: *byte })),
+        LineKind::Long(length) => Some(Reply::refusal(
+            alloc,
+            Fault::LineTooLong { length: *length },
+        )),
+        LineKind::Bad(byte) => Some(Reply::refusal(alloc, Fault::Syntax { byte: *byte })),
         LineKind::Session(who, statement) => {
             Some(play_statement(alloc, store, *who, statement, steps))
         }
-        LineKind::Background(_) => Some(refusal(Fault::NotBuilt)),
-        LineKind::NoMemory => Some(lacked(0)),
+        LineKind::Background(_) => Some(Reply::refusal(alloc, Fault::NotBuilt)),
+        LineKind::NoMemory => Some(out_of_memory(alloc, 0)),
     }
 }
 

@@ -5,62 +5,61 @@ ghost use Rattle.im_history.specs.Tables.{tables};
 ghost use Rattle.im_history.specs.Transactions.{is_open};
 ghost use Rattle.im_history.specs.Views.{look_at};
 ghost use Rattle.im_names.specs.Fitting.{Serves};
-ghost use Rattle.im_shell.specs.Creations as creations;
+ghost use Rattle.im_shell.specs.inner.Creations as creations;
 ghost use Rattle.im_shell.specs.Statements as plan;
-ghost use Rattle.im_shell.specs.Turns.{IsRest};
+ghost use Rattle.im_shell.specs.inner.Answers.{IsRest};
 
 use crate::query::select;
-use crate::refusals::{creation_refused, lacked, refusal, refused_reply, settled};
-use crate::reply::Reply;
-use crate::scan::NUMBERS;
+use crate::refusals::{creation_refused, out_of_memory, refused_reply};
 use crate::unit::NoUnit;
 use crate::writing::{delete, update};
 use im_core::Core;
 use im_history::{Look, Mode, Shape};
 use im_names::Resolved;
-use im_replies::{Body, Fault};
+use im_replies::{Body, Fault, Reply};
+use im_values::limits::NUMBERS;
 use im_values::{Name, Row, Schema, Steps};
 use std::alloc::Global;
 use std::sync::ledger::Ledger;
 
 /// Begins a transaction of a mode.
-fn set_mode(store: &mut Core<NoUnit>, who: u32, mode: Mode) -> Reply
+fn set_mode(alloc: Global, store: &mut Core<NoUnit>, who: u32, mode: Mode) -> Reply
     requires session { who < NUMBERS }
     requires closed { opened store.old.log who ≡ [] }
     ensures { IsRest who 0 store.old (plan.set_mode who mode) result store.new }
 {
     match store.begin(who, mode) {
-        Ok(begun) => settled(begun.place, Body::Begun { scn: begun.scn }),
-        Err(refused) => refused_reply(0, refused),
+        Ok(begun) => Reply::settled(alloc, begun.place, Body::Begun { scn: begun.scn }),
+        Err(refused) => refused_reply(alloc, 0, refused),
     }
 }
 
 /// Commits what a session has pending.
-fn commit(store: &mut Core<NoUnit>, who: u32) -> Reply
+fn commit(alloc: Global, store: &mut Core<NoUnit>, who: u32) -> Reply
     requires session { who < NUMBERS }
     requires closed { opened store.old.log who ≡ [] }
     ensures { IsRest who 0 store.old plan.commit result store.new }
 {
     match store.commit(who) {
-        Ok(done) => settled(done.place, Body::Committed { scn: done.scn }),
-        Err(refused) => refused_reply(0, refused),
+        Ok(done) => Reply::settled(alloc, done.place, Body::Committed { scn: done.scn }),
+        Err(refused) => refused_reply(alloc, 0, refused),
     }
 }
 
 /// Rolls back what a session has pending.
-fn roll_back(store: &mut Core<NoUnit>, who: u32, look: &Look) -> Reply
+fn roll_back(alloc: Global, store: &mut Core<NoUnit>, who: u32, look: &Look) -> Reply
     requires session { who < NUMBERS }
     requires look { look.now ≡ look_at store.old.log who }
     ensures { IsRest who 0 store.old (plan.roll_back who store.old.log) result store.new }
 {
     if look.begun.is_none() {
-        return settled(look.place, Body::RolledBack);
+        return Reply::settled(alloc, look.place, Body::RolledBack);
     }
-    settled(store.rollback(who), Body::RolledBack)
+    Reply::settled(alloc, store.rollback(who), Body::RolledBack)
 }
 
 /// Inserts rows into a table.
-fn insert(store: &mut Core<NoUnit>, who: u32, table: u32, rows: Vec<Row>) -> Reply
+fn insert(alloc: Global, store: &mut Core<NoUnit>, who: u32, table: u32, rows: Vec<Row>) -> Reply
     requires session { who < NUMBERS }
     requires closed { opened store.old.log who ≡ [] }
     requires may { MayInsert store.old.log table rows.items }
@@ -68,14 +67,15 @@ fn insert(store: &mut Core<NoUnit>, who: u32, table: u32, rows: Vec<Row>) -> Rep
 {
     let count = rows.len() as u64;
     match store.insert(who, table, rows) {
-        Ok(wrote) => settled(
+        Ok(wrote) => Reply::settled(
+            alloc,
             wrote.place,
             Body::Inserted {
                 rows: count,
                 first: wrote.first,
             },
         ),
-        Err(refused) => refused_reply(0, refused),
+        Err(refused) => refused_reply(alloc, 0, refused),
     }
 }
 
@@ -103,7 +103,25 @@ impl NewTable {
                 schema,
                 shape,
             }),
-            _ => None,
+            Resolved::Select(_)
+            | Resolved::Insert { .. }
+            | Resolved::Update { .. }
+            | Resolved::Delete { .. }
+            | Resolved::SetMode(_)
+            | Resolved::Commit
+            | Resolved::Rollback
+            | Resolved::Explain(_)
+            | Resolved::Memory { .. }
+            | Resolved::OpenFor { .. }
+            | Resolved::Step(_)
+            | Resolved::Fetch(_)
+            | Resolved::Close(_)
+            | Resolved::Run
+            | Resolved::Begin
+            | Resolved::Switch
+            | Resolved::Cancel
+            | Resolved::Trickle(_)
+            | Resolved::Evict { .. } => None,
         }
     }
 }
@@ -127,17 +145,18 @@ pub fn create(
         shape,
     } = table;
     let Ok(told) = name.copy(alloc) else {
-        return lacked(entries);
+        return out_of_memory(alloc, entries);
     };
     match store.create(who, name, schema, shape) {
-        Ok(made) => settled(
+        Ok(made) => Reply::settled(
+            alloc,
             made.place,
             Body::Created {
                 table: made.table,
                 scn: made.scn,
             },
         ),
-        Err(refused) => creation_refused(told, entries, refused),
+        Err(refused) => creation_refused(alloc, told, entries, refused),
     }
 }
 
@@ -160,7 +179,7 @@ pub fn play_resolved<L: Ledger>(
 {
     match resolved {
         Resolved::Select(bound) => select(alloc, store, who, bound, steps),
-        Resolved::Insert { table, rows } => insert(store, who, table, rows.into_items()),
+        Resolved::Insert { table, rows } => insert(alloc, store, who, table, rows.into_items()),
         Resolved::Update {
             table,
             filter,
@@ -169,9 +188,21 @@ pub fn play_resolved<L: Ledger>(
         Resolved::Delete { table, filter } => {
             delete(alloc, store, who, look, table, filter, steps)
         }
-        Resolved::SetMode(mode) => set_mode(store, who, mode),
-        Resolved::Commit => commit(store, who),
-        Resolved::Rollback => roll_back(store, who, look),
-        _ => refusal(Fault::NotBuilt),
+        Resolved::SetMode(mode) => set_mode(alloc, store, who, mode),
+        Resolved::Commit => commit(alloc, store, who),
+        Resolved::Rollback => roll_back(alloc, store, who, look),
+        Resolved::Create { .. }
+        | Resolved::Explain(_)
+        | Resolved::Memory { .. }
+        | Resolved::OpenFor { .. }
+        | Resolved::Step(_)
+        | Resolved::Fetch(_)
+        | Resolved::Close(_)
+        | Resolved::Run
+        | Resolved::Begin
+        | Resolved::Switch
+        | Resolved::Cancel
+        | Resolved::Trickle(_)
+        | Resolved::Evict { .. } => Reply::refusal(alloc, Fault::NotBuilt),
     }
 }

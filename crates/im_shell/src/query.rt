@@ -5,19 +5,20 @@ ghost use Rattle.im_history.specs.Legal.{IsLegal};
 ghost use Rattle.im_history.specs.Tables.{tables};
 ghost use Rattle.im_names.specs.Fitting.{OfTable, QueryServes};
 ghost use Rattle.im_syntax.specs.BoundFits.{BoundFits};
-ghost use Rattle.im_shell.specs.Scans as scans;
+ghost use Rattle.im_syntax.specs.BoundQuery.{IsQuery};
+ghost use Rattle.im_shell.specs.inner.Scans as scans;
 ghost use Rattle.im_shell.specs.Statements as plan;
-ghost use Rattle.im_shell.specs.Turns.{IsRest};
+ghost use Rattle.im_shell.specs.inner.Answers.{IsRest};
 
-use crate::refusals::{lacked, settled};
-use crate::reply::Reply;
-use crate::scan::{NUMBERS, seen_rows};
+use crate::refusals::{out_of_memory, refused_reply};
+use crate::scan::seen_rows;
 use crate::unit::NoUnit;
 use im_core::Core;
 use im_group::Partial;
 use im_history::View;
-use im_replies::{Body, Records};
+use im_replies::{Body, Records, Reply};
 use im_syntax::Bound;
+use im_values::limits::NUMBERS;
 use im_values::{NoMemory, Steps};
 use std::alloc::Global;
 use std::sync::ledger::Ledger;
@@ -36,12 +37,14 @@ pub fn select<L: Ledger>(
     requires serves { OfTable (tables store.old.log) bound.table (QueryServes bound) }
     ensures { IsRest who 0 store.old (plan.select who bound) result store.new }
 {
-    let Ok(view) = store.open_cursor(who, 0, bound.table) else {
-        return lacked(0);
-    };
-    let reply = answer_seen(alloc, store, who, view, &bound, steps);
-    store.shut(who, 0);
-    reply
+    match store.open_cursor(who, 0, bound.table) {
+        Ok(view) => {
+            let reply = answer_seen(alloc, store, who, view, &bound, steps);
+            store.shut(who, 0);
+            reply
+        }
+        Err(refused) => refused_reply(alloc, 0, refused),
+    }
 }
 
 /// Answers a query over the rows that the open cursor 0 of a session sees. The cursor is still open then.
@@ -55,6 +58,7 @@ fn answer_seen<L: Ledger>(
 ) -> Reply
     requires session { who < NUMBERS }
     requires opening { scans.IsOpening store.old.log who view }
+    requires query { IsQuery bound.now }
     requires fits { scans.EachSeen (λ row. BoundFits row bound.now) store.old.log view }
     ensures cursor { is_cursor_open store.new.log who 0 ≡ true }
     ensures rest { IsRest who 1 store.old
@@ -63,8 +67,8 @@ fn answer_seen<L: Ledger>(
 {
     let (place, scn) = (view.place, view.scn);
     match seen_answer(alloc, store, who, view, bound, steps) {
-        Ok(records) => settled(place, Body::Answer { scn, records }),
-        Err(NoMemory) => lacked(1),
+        Ok(records) => Reply::settled(alloc, place, Body::Answer { scn, records }),
+        Err(NoMemory) => out_of_memory(alloc, 1),
     }
 }
 
@@ -79,6 +83,7 @@ fn seen_answer<L: Ledger>(
 ) -> Result<Records, NoMemory>
     requires session { who < NUMBERS }
     requires opening { scans.IsOpening store.old.log who view }
+    requires query { IsQuery bound.now }
     requires fits { scans.EachSeen (λ row. BoundFits row bound.now) store.old.log view }
     ensures same { store.new ≡ store.old }
     ensures answer { IfOk result (λ records. records ≡ answer bound.now (scans.seen_in store.old.log view)) }

@@ -6,20 +6,21 @@ ghost use Rattle.im_group.specs.Partials.{keeps as row_is_kept};
 ghost use Rattle.im_history.specs.Cursors.{is_cursor_open};
 ghost use Rattle.im_history.specs.Legal.{MayWrite};
 ghost use Rattle.im_syntax.specs.BoundFits.{FilterFits};
-ghost use Rattle.im_shell.specs.Scans as scans;
+ghost use Rattle.im_shell.specs.inner.Scans as scans;
 ghost use Rattle.im_shell.specs.Statements as plan;
-ghost use Rattle.im_shell.specs.Turns.{IsRest};
+ghost use Rattle.im_shell.specs.inner.Answers.{IsRest};
 
 use crate::changes::{removals, revisions};
-use crate::refusals::{lacked, refused_reply, settled};
-use crate::reply::Reply;
+use crate::refusals::{out_of_memory, refused_reply};
 use crate::rewriting::Rewriting;
-use crate::scan::{NUMBERS, seen_rows};
+use crate::scan::seen_rows;
 use crate::unit::NoUnit;
 use im_core::Core;
 use im_eval::holds;
 use im_history::{Change, View};
+use im_replies::Reply;
 use im_syntax::Filter;
+use im_values::limits::NUMBERS;
 use im_values::{NoMemory, Row, Steps, Truth, Value};
 use std::alloc::Global;
 use std::sync::ledger::Ledger;
@@ -43,8 +44,8 @@ pub fn remove_seen<L: Ledger>(
 {
     let place = view.place;
     match removals_of(alloc, store, who, view, filter, steps) {
-        Ok(changes) => rewrite(store, who, place, changes, Rewriting::Deleting),
-        Err(NoMemory) => lacked(1),
+        Ok(changes) => rewrite(alloc, store, who, place, changes, Rewriting::Deleting),
+        Err(NoMemory) => out_of_memory(alloc, 1),
     }
 }
 
@@ -70,8 +71,8 @@ pub fn revise_seen<L: Ledger>(
 {
     let place = view.place;
     match revisions_of(alloc, store, who, view, filter, sets, steps) {
-        Ok(changes) => rewrite(store, who, place, changes, Rewriting::Updating),
-        Err(NoMemory) => lacked(1),
+        Ok(changes) => rewrite(alloc, store, who, place, changes, Rewriting::Updating),
+        Err(NoMemory) => out_of_memory(alloc, 1),
     }
 }
 
@@ -185,6 +186,7 @@ fn keeps(filter: &Option<Filter>, row: &Row) -> bool
 
 /// Writes changes to rows that the open cursor 0 of a session saw, and answers how many. The cursor is still open then.
 fn rewrite(
+    alloc: Global,
     store: &mut Core<NoUnit>,
     who: u32,
     opened_at: u64,
@@ -200,11 +202,11 @@ fn rewrite(
         result (scans.shut_by who store.new) }
 {
     if changes.is_empty() {
-        return settled(opened_at, rewriting.written(0));
+        return Reply::settled(alloc, opened_at, rewriting.written(0));
     }
     let rows = changes.len() as u64;
     match store.write(who, 0, changes) {
-        Ok(place) => settled(place, rewriting.written(rows)),
-        Err(refused) => refused_reply(1, refused),
+        Ok(place) => Reply::settled(alloc, place, rewriting.written(rows)),
+        Err(refused) => refused_reply(alloc, 1, refused),
     }
 }

@@ -1,16 +1,14 @@
 ghost use Rattle.std.specs.Prelude.{◌≡◌, ◌<◌, ◌≤◌, ◌++◌, length, map, IfOk, OnOk};
-ghost use Rattle.im_shell.specs.Scans as scans;
+ghost use Rattle.im_shell.specs.inner.Scans as scans;
 
 use crate::put_at::put_at;
 use crate::unit::NoUnit;
 use im_core::Core;
 use im_history::{Change, View};
+use im_values::limits::{MOST_ROWS, NUMBERS};
 use im_values::{NoMemory, Row, Steps};
 use std::alloc::Global;
 use std::sync::ledger::Ledger;
-
-/// Sessions and workers have numbers below this.
-pub const NUMBERS: u32 = 25;
 
 /// The rows that the open cursor 0 of a session sees, each with its number, in rising order.
 ///
@@ -84,7 +82,7 @@ fn change_rows(slots: &mut [Option<Row>], changes: Vec<Change>)
 
 /// The rows that there are, each with its number.
 fn numbered(alloc: Global, slots: Vec<Option<Row>>) -> Result<Vec<(u64, Row)>, NoMemory>
-    requires few { length slots.items ≤ 8388608 }
+    requires few { length slots.items ≤ MOST_ROWS }
     ensures { IfOk result (λ rows. rows.items ≡ scans.numbered_from 0 slots.items) }
 {
     let mut rows = Vec::new(alloc);

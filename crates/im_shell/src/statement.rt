@@ -4,20 +4,19 @@ ghost use Rattle.im_history.specs.Transactions.{is_open};
 ghost use Rattle.im_history.specs.Views.{look_at};
 ghost use Rattle.im_syntax.specs.Rules.{IsStmt};
 ghost use Rattle.im_shell.specs.Statements as plan;
-ghost use Rattle.im_shell.specs.Turns.{IsRest};
+ghost use Rattle.im_shell.specs.inner.Answers.{IsRest};
 
 use crate::built::{is_built, is_definition};
 use crate::player::{NewTable, create, play_resolved};
-use crate::refusals::{lacked, name_reply, refusal};
-use crate::reply::Reply;
-use crate::scan::NUMBERS;
+use crate::refusals::{name_reply, out_of_memory};
 use crate::unit::NoUnit;
 use im_core::Core;
 use im_history::Look;
 use im_names::resolve;
-use im_replies::Fault;
+use im_replies::{Fault, Reply};
 use im_syntax::Stmt;
 use im_values::Steps;
+use im_values::limits::NUMBERS;
 use std::alloc::Global;
 use std::sync::ledger::Ledger;
 
@@ -36,11 +35,11 @@ fn play_named<L: Ledger>(
     ensures { IsRest who 0 store.old (plan.looked_up store.old.limits who statement.now) result store.new }
 {
     let Ok(look) = store.look(who) else {
-        return lacked(0);
+        return out_of_memory(alloc, 0);
     };
     match resolve(alloc, statement, &look) {
         Ok(resolved) => play_resolved(alloc, store, who, &look, resolved, steps),
-        Err(fault) => name_reply(0, look.place, fault),
+        Err(fault) => name_reply(alloc, 0, look.place, fault),
     }
 }
 
@@ -65,9 +64,9 @@ fn define(
     match resolve(alloc, statement, look) {
         Ok(resolved) => match NewTable::of(resolved) {
             Some(table) => create(alloc, store, who, table, entries),
-            None => refusal(Fault::NotBuilt),
+            None => Reply::refusal(alloc, Fault::NotBuilt),
         },
-        Err(fault) => name_reply(entries, look.place, fault),
+        Err(fault) => name_reply(alloc, entries, look.place, fault),
     }
 }
 
@@ -80,14 +79,14 @@ fn play_definition(alloc: Global, store: &mut Core<NoUnit>, who: u32, statement:
     ensures { IsRest who 0 store.old (plan.definition_plan store.old.limits who statement.now) result store.new }
 {
     let Ok(look) = store.look(who) else {
-        return lacked(0);
+        return out_of_memory(alloc, 0);
     };
     if look.begun.is_none() {
         return define(alloc, store, who, statement, &look, 0);
     }
     match store.commit(who) {
         Ok(_) => define_later(alloc, store, who, statement),
-        Err(_) => lacked(0),
+        Err(_) => out_of_memory(alloc, 0),
     }
 }
 
@@ -103,7 +102,7 @@ fn define_later(alloc: Global, store: &mut Core<NoUnit>, who: u32, statement: &S
 {
     match store.look(who) {
         Ok(look) => define(alloc, store, who, statement, &look, 1),
-        Err(_) => lacked(1),
+        Err(_) => out_of_memory(alloc, 1),
     }
 }
 
@@ -121,7 +120,7 @@ pub fn play_statement<L: Ledger>(
     ensures { IsRest who 0 store.old (plan.statement_plan store.old.limits who statement.now) result store.new }
 {
     if !is_built(statement) {
-        return refusal(Fault::NotBuilt);
+        return Reply::refusal(alloc, Fault::NotBuilt);
     }
     if is_definition(statement) {
         play_definition(alloc, store, who, statement)

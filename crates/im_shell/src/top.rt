@@ -8,39 +8,21 @@ ghost use Rattle.im_words.specs.Command.{Refuses};
 ghost use Rattle.im_words.specs.Good.{IsGood};
 
 use crate::play::{Stop, play_script};
+use crate::status::Status;
 use im_edge::{Gate, ReadError, Sink, Source, read_all};
 use im_values::Steps;
+use im_values::limits::MOST_SCRIPT_BYTES;
 use im_words::{Word, WordsFault, read_words};
 use std::alloc::Global;
 use std::sync::Wait;
 use std::sync::ledger::Ledger;
 use std::thread::Threads;
 
-/// As many bytes may a script have.
-pub const MOST_BYTES: usize = 16_777_216;
-
-/// How a run ended.
-#[derive(Clone, Copy, Debug, PartialEq, Eq)]
-pub enum Status {
-    /// The whole script was played, and its replies were written.
-    Done,
-    /// The words ask for nothing that the program does. Nothing is read or written.
-    Usage,
-    /// The source met a fault. Nothing is written.
-    ReadFault,
-    /// The sink met a fault. It took a front of the text.
-    WriteFault,
-    /// There was no memory to go on. The sink took a front of the text.
-    NoMemory,
-    /// The script has more bytes than [`MOST_BYTES`]. Nothing is written.
-    ScriptTooLong,
-}
-
 /// Runs the program: reads a script from the source to its end, plays it line by line, and writes the replies to the
 /// sink.
 ///
-/// `words` are the program's name and those of its command (`im_words`). Want of memory inside a line is a reply of that line, and the script goes
-/// on; [`Status::NoMemory`] is want of memory in reading the script or in making a text.
+/// `words` are the program's name and those of its command (`im_words`). A line that runs out of memory has a reply that says
+/// so, and the script goes on; [`Status::NoMemory`] is for the reading of the script and the making of a text.
 pub fn run<R: Threads + Wait + Sync, S: Source, K: Sink, G: Gate + Sync, L: Ledger>(
     _rt: &R,
     alloc: Global,
@@ -50,7 +32,7 @@ pub fn run<R: Threads + Wait + Sync, S: Source, K: Sink, G: Gate + Sync, L: Ledg
     _gate: &G,
     steps: &mut Steps<L>,
 ) -> Status
-    // Where the source tells what it had left, that is the script.
+    // Where the source shows what it had left, that is the script.
     ensures done { result ≡ Status.Done → IfSome (S.left source.old) (λ script.
         Plays script (K.taken sink.old) (K.taken sink.new)) }
     ensures in_part { (result ≡ Status.WriteFault) ⊎ (result ≡ Status.NoMemory) → IfSome (S.left source.old) (λ script.
@@ -65,8 +47,8 @@ pub fn run<R: Threads + Wait + Sync, S: Source, K: Sink, G: Gate + Sync, L: Ledg
 
     ensures read_fault { result ≡ Status.ReadFault → Rose (S.faults source.old) (S.faults source.new) }
     ensures write_fault { result ≡ Status.WriteFault → Rose (K.faults sink.old) (K.faults sink.new) }
-    ensures too_long { result ≡ Status.ScriptTooLong → GaveCount (S.left source.old) (S.left source.new) (MOST_BYTES + 1) }
-    ensures not_too_long { ¬ (result ≡ Status.ScriptTooLong) → GaveAtMost (S.left source.old) (S.left source.new) MOST_BYTES }
+    ensures too_long { result ≡ Status.ScriptTooLong → GaveCount (S.left source.old) (S.left source.new) (MOST_SCRIPT_BYTES + 1) }
+    ensures not_too_long { ¬ (result ≡ Status.ScriptTooLong) → GaveAtMost (S.left source.old) (S.left source.new) MOST_SCRIPT_BYTES }
     ensures unwritten { (result ≡ Status.ReadFault) ⊎ (result ≡ Status.ScriptTooLong) → sink.new ≡ sink.old }
     ensures reads_later { S.faults source.old ≤ S.faults source.new }
     ensures writes_later { K.faults sink.old ≤ K.faults sink.new }
@@ -76,7 +58,7 @@ pub fn run<R: Threads + Wait + Sync, S: Source, K: Sink, G: Gate + Sync, L: Ledg
         Err(WordsFault::Usage) => return Status::Usage,
         Err(WordsFault::NoMemory) => return Status::NoMemory,
     }
-    let script = match read_all(alloc, source, MOST_BYTES) {
+    let script = match read_all(alloc, source, MOST_SCRIPT_BYTES) {
         Ok(script) => script,
         Err(ReadError::Fault) => return Status::ReadFault,
         Err(ReadError::TooLong) => return Status::ScriptTooLong,

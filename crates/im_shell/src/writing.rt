@@ -5,17 +5,16 @@ ghost use Rattle.im_history.specs.Tables.{tables};
 ghost use Rattle.im_history.specs.Views.{look_at};
 ghost use Rattle.im_names.specs.Fitting.{OfTable, FilterServes, UpdateServes};
 ghost use Rattle.im_shell.specs.Statements as plan;
-ghost use Rattle.im_shell.specs.Turns.{IsRest};
+ghost use Rattle.im_shell.specs.inner.Answers.{IsRest};
 
-use crate::refusals::{lacked, settled};
-use crate::reply::Reply;
+use crate::refusals::refused_reply;
 use crate::rewrite::{remove_seen, revise_seen};
-use crate::scan::NUMBERS;
 use crate::unit::NoUnit;
 use im_core::Core;
 use im_history::{Look, Mode};
-use im_replies::{Body, Fault};
+use im_replies::{Body, Fault, Reply};
 use im_syntax::Filter;
+use im_values::limits::NUMBERS;
 use im_values::{List, Steps, Value};
 use std::alloc::Global;
 use std::sync::ledger::Ledger;
@@ -39,7 +38,7 @@ pub fn delete<L: Ledger>(
         (plan.unless_read_only who store.old.log (plan.delete store.old.limits who table filter)) result store.new }
 {
     match look.mode {
-        Mode::ReadOnly => settled(look.place, Body::Error(Fault::ReadOnly)),
+        Mode::ReadOnly => Reply::settled(alloc, look.place, Body::Error(Fault::ReadOnly)),
         Mode::Committed | Mode::Serializable => {
             delete_rows(alloc, store, who, table, filter, steps)
         }
@@ -61,12 +60,14 @@ fn delete_rows<L: Ledger>(
     requires serves { OfTable (tables store.old.log) table (FilterServes filter) }
     ensures { IsRest who 0 store.old (plan.delete store.old.limits who table filter) result store.new }
 {
-    let Ok(view) = store.open_cursor(who, 0, table) else {
-        return lacked(0);
-    };
-    let reply = remove_seen(alloc, store, who, view, &filter, steps);
-    store.shut(who, 0);
-    reply
+    match store.open_cursor(who, 0, table) {
+        Ok(view) => {
+            let reply = remove_seen(alloc, store, who, view, &filter, steps);
+            store.shut(who, 0);
+            reply
+        }
+        Err(refused) => refused_reply(alloc, 0, refused),
+    }
 }
 
 /// Assigns values to columns of the rows of a table that a session sees and a condition keeps, unless its transaction is
@@ -90,7 +91,7 @@ pub fn update<L: Ledger>(
         (plan.unless_read_only who store.old.log (plan.update store.old.limits who table filter sets)) result store.new }
 {
     match look.mode {
-        Mode::ReadOnly => settled(look.place, Body::Error(Fault::ReadOnly)),
+        Mode::ReadOnly => Reply::settled(alloc, look.place, Body::Error(Fault::ReadOnly)),
         Mode::Committed | Mode::Serializable => {
             update_rows(alloc, store, who, table, filter, sets, steps)
         }
@@ -113,10 +114,12 @@ fn update_rows<L: Ledger>(
     requires serves { OfTable (tables store.old.log) table (UpdateServes filter sets) }
     ensures { IsRest who 0 store.old (plan.update store.old.limits who table filter sets) result store.new }
 {
-    let Ok(view) = store.open_cursor(who, 0, table) else {
-        return lacked(0);
-    };
-    let reply = revise_seen(alloc, store, who, view, &filter, sets.items(), steps);
-    store.shut(who, 0);
-    reply
+    match store.open_cursor(who, 0, table) {
+        Ok(view) => {
+            let reply = revise_seen(alloc, store, who, view, &filter, sets.items(), steps);
+            store.shut(who, 0);
+            reply
+        }
+        Err(refused) => refused_reply(alloc, 0, refused),
+    }
 }

@@ -8,8 +8,8 @@ use Rattle.atomic_table.specs.Table.{State, opening, Final, Seen}
 use Rattle.im_turn.specs.Logs.{entries_of, entries_since, Begins}
 use Rattle.im_turn.specs.Turns.{TurnId}
 use Rattle.im_turn.specs.Passes.{PassState, numbers_of}
-use Rattle.im_turn.specs.Views.{first_view, state_of}
-use Rattle.im_turn.specs.Rule.{Account, Fits, IsAt, HasEnded, IsHome, IsOut, OneHistory}
+use Rattle.im_turn.specs.inner.Views.{first_view, state_of}
+use Rattle.im_turn.specs.inner.Rule.{Account, Fits, IsAt, HasEnded, IsHome, IsOut, OneHistory}
 use Rattle.im_turn.specs.declared.view.View.{View}
 use Rattle.im_turn.specs.declared.view.Phase.TheVariants.{Idle}
 use Rattle.im_turn.proofs.LogLemmas.{begins_self}

@@ -6,9 +6,9 @@ use prog.Atomic.{either}
 use Rattle.atomic_table.specs.Table.{State, Act, keeps, takes as takes_slot, gives, Valid, rest, carried_after, stepped, Allows}
 use Rattle.atomic_table.proofs.Lists.{set_again}
 use Rattle.im_turn.specs.Logs.{entries_since, Begins, GrewByOwn, GrewByOthers}
-use Rattle.im_turn.specs.Views.{taken, loaded, added, returned}
-use Rattle.im_turn.specs.Rule.{Account, Fits, IsAt, Roster, IsHome, IsOut, OneHistory}
-use Rattle.im_turn.specs.Steps.{SeatState, IsFree, IsHolder, IsFilled, Took, takes, loads, adds, gives_back}
+use Rattle.im_turn.specs.inner.Views.{taken, loaded, added, returned}
+use Rattle.im_turn.specs.inner.Rule.{Account, Fits, IsAt, Roster, IsHome, IsOut, OneHistory}
+use Rattle.im_turn.specs.inner.Steps.{SeatState, IsFree, IsHolder, IsFilled, Took, takes, loads, adds, gives_back}
 use Rattle.im_turn.specs.declared.view.View.{View}
 use Rattle.im_turn.specs.declared.view.Phase.TheVariants.{Idle, Taken, Holding}
 use Rattle.im_turn.proofs.LogLemmas.{begins_self, begins_trans, begins_length, own_nothing, own_begins, own_adds, others_leave, others_alone}
@@ -50,7 +50,8 @@ module _ {Value Item : Type 0} (logs : Value → List Item) (who : Item → ℕ)
 
   -- the flag is down: the value is taken
   takes_home : (id : ℕ) (seat : SeatState Value Item) → IsFree who seat
-      → (s : State (Option Value) (View Item)) (h : OneHistory logs who fixed_of s) → IsAt s.views id seat.0 → IsHome logs fixed_of h.account.log h.account.fixed s
+      → (s : State (Option Value) (View Item)) (h : OneHistory logs who fixed_of s) → IsAt s.views id seat.0 →
+      IsHome logs fixed_of h.account.log h.account.fixed s
       → Goes s 1 id seat (either (slice_index s.words 1 == 0) 1 (slice_index s.words 1)) (takes logs who fixed_of seat (slice_index s.words 1))
   takes_home id seat free s h at home =
       let v = seat.0 in
@@ -209,7 +210,8 @@ module _ {Value Item : Type 0} (logs : Value → List Item) (who : Item → ℕ)
         record {
           account = with_log h.account later;
           roster = roster_moves who w later h.roster at refl grew' fits';
-          place = inr (out_moves w later out at is_busy live (inr (phase, refl)) (ap (λ (l : List ℕ). slice_set l 0 k) out.words ∙ ap (λ n. n ∷ 1 ∷ []) count) refl refl);
+          place = inr (out_moves w later out at is_busy live (inr (phase, refl))
+              (ap (λ (l : List ℕ). slice_set l 0 k) out.words ∙ ap (λ n. n ∷ 1 ∷ []) count) refl refl);
         },
         λ other e. ap (λ (l : List Item). (added l v, (0, Some value) ∷ [])) (same_log value other e),
       ))

@@ -26,7 +26,9 @@ module _ {Item : Type 0} where
       let both : after ≡ with_joined first top (olds ++ last) = step ∙ ap (λ (p : PassState Item). with_joined p top (p.olds ++ last)) so_far in
       let all : olds ++ last ≡ first.olds ++ map old_of (joined ++ other ∷ []) =
       append_assoc first.olds (map old_of joined) last ∙ ap (λ l. first.olds ++ l) (sym (map-append old_of joined (other ∷ []))) in
-      both ∙ (ap (λ l. with_joined first top l) all ∙ ap (λ (s : List Item). with_joined first s (first.olds ++ map old_of (joined ++ other ∷ []))) (sym (ap (λ (p : PassState Item). p.seen) both)))
+      both ∙ (ap (λ l. with_joined first top l) all
+      ∙ ap (λ (s : List Item). with_joined first s (first.olds ++ map old_of (joined ++ other ∷ [])))
+      (sym (ap (λ (p : PassState Item). p.seen) both)))
 
   -- and what that one has seen begins what is seen now
   pub begins_more : (before after : List Item) (joined : List (PassState Item)) (other : PassState Item)

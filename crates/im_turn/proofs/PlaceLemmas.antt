@@ -6,7 +6,7 @@ use native.Mathlib.Decide.{ℕ_discrete}
 use lib.ListN.{get_elem?}
 use Rattle.atomic_table.specs.Table.{State}
 use Rattle.atomic_table.proofs.Lists.{at_snoc, at_longer}
-use Rattle.im_turn.specs.Rule.{IsAt, IsHome, HasValue, IsOut}
+use Rattle.im_turn.specs.inner.Rule.{IsAt, IsHome, HasValue, IsOut}
 use Rattle.im_turn.specs.declared.view.View.{View}
 use Rattle.im_turn.specs.declared.view.Phase.TheVariants.{Idle, Taken, Holding}
 use Rattle.im_turn.proofs.RosterLemmas.{at_of_set, is_at_set, same_view, is_at_other}
@@ -55,7 +55,8 @@ module _ {Value Item : Type 0} where
       → IsOut log s → IsAt s.views seat v → v.phase ≡ Idle → w.phase ≡ Idle
       → t.words ≡ s.words → t.homes ≡ s.homes → t.views ≡ set s.views seat w → IsOut log t
   out_stays {log} {s} {t} {seat} {v} w out at idle stays words homes views =
-      let apart : out.holder ≢ seat = λ e. busy log v (subst (HasValue log) (same_view out.there (subst (λ (i : ℕ). IsAt s.views i v) (sym e) at)) out.has) idle in
+      let apart : out.holder ≢ seat = λ e. busy log v
+      (subst (HasValue log) (same_view out.there (subst (λ (i : ℕ). IsAt s.views i v) (sym e) at)) out.has) idle in
       record {
         holder = out.holder;
         view = out.view;
@@ -77,7 +78,11 @@ module _ {Value Item : Type 0} where
     view = out.view;
     words = words ∙ out.words;
     homes = homes ∙ out.homes;
-    there = record { there = ap (λ (l : List (View Item)). get_elem? l out.holder) views ∙ at_longer s.views (w ∷ []) out.holder out.view out.there.there; live = out.there.live };
+    there = record {
+      there = ap (λ (l : List (View Item)). get_elem? l out.holder) views
+          ∙ at_longer s.views (w ∷ []) out.holder out.view out.there.there;
+      live = out.there.live;
+    };
     has = out.has;
     others = λ other u there ne. ⊎_elim
         (λ (x : get_elem? s.views other ≡ some u). out.others other u record { there = x; live = there.live } ne)

@@ -4,7 +4,7 @@ use mathlib.Core.Option.{some, some-injective, some-ne-none}
 use lib.ListN.{get_elem?}
 use Rattle.atomic_table.proofs.Lists.{at_set, set_else}
 use Rattle.im_turn.specs.Logs.{GrewByOwn}
-use Rattle.im_turn.specs.Rule.{Account, Fits, IsAt, Roster}
+use Rattle.im_turn.specs.inner.Rule.{Account, Fits, IsAt, Roster}
 use Rattle.im_turn.specs.declared.view.View.{View}
 use Rattle.im_turn.proofs.LogLemmas.{begins_trans, begins_length, own_leaves, own_begins}
 

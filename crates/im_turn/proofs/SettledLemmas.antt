@@ -1,7 +1,7 @@
 -- A pass between two calls.
 use Rattle.std.proofs.Common.{◌≡◌, ℕ, [], ◌∷◌, true, false, None, ap, sym, ◌∙◌, ⊎_elim}
-use Rattle.im_turn.specs.Views.{is_holding}
-use Rattle.im_turn.specs.Steps.{SeatState, IsSettled, IsFree, IsHolder}
+use Rattle.im_turn.specs.inner.Views.{is_holding}
+use Rattle.im_turn.specs.inner.Steps.{SeatState, IsSettled, IsFree, IsHolder}
 use Rattle.im_turn.specs.declared.view.Phase.TheVariants.{Idle, Holding}
 
 module _ {Value Item : Type 0} (who : Item → ℕ) where

@@ -7,9 +7,9 @@ use lib.Seq.{set-get_or}
 use Rattle.atomic_table.specs.Table.{State, keeps, Allows, Splits, Joins}
 use Rattle.atomic_table.proofs.Lists.{set_else}
 use Rattle.im_turn.specs.Logs.{entries_of, entries_since, Begins, longer}
-use Rattle.im_turn.specs.Views.{Recalls, giving, newcomer, joined, compared, spent}
-use Rattle.im_turn.specs.Rule.{Account, Fits, IsAt, HasEnded, Roster, IsHome, HasValue, IsOut, OneHistory}
-use Rattle.im_turn.specs.Steps.{SeatState, recalls, Compares}
+use Rattle.im_turn.specs.inner.Views.{Recalls, giving, newcomer, joined, compared, spent}
+use Rattle.im_turn.specs.inner.Rule.{Account, Fits, IsAt, HasEnded, Roster, IsHome, HasValue, IsOut, OneHistory}
+use Rattle.im_turn.specs.inner.Steps.{SeatState, recalls, Compares}
 use Rattle.im_turn.specs.declared.view.View.{View}
 use Rattle.im_turn.specs.declared.view.Phase.{Phase}
 use Rattle.im_turn.specs.declared.view.Phase.TheVariants.{Idle, Taken, Holding}
@@ -98,7 +98,8 @@ module _ {Item : Type 0} (who : Item → ℕ) where
       let right : View Item = newcomer n v in
       let before = set views seat left in
       let later = with_given account n in
-      let not_first : (i : ℕ) (u : View Item) → i ≢ seat → IsAt views i u → ¬ (u.who ≡ 0) = λ i u ne there z. ne (r.apart i seat u v there at (z ∙ sym first)) in
+      let not_first : (i : ℕ) (u : View Item) → i ≢ seat → IsAt views i u →
+      ¬ (u.who ≡ 0) = λ i u ne there z. ne (r.apart i seat u v there at (z ∙ sym first)) in
       let not_new : (i : ℕ) (u : View Item) → IsAt views i u → ¬ (u.who ≡ n) = λ i u there e. ⊎_elim
       (λ (z : u.who ≡ 0). nz (sym e ∙ z))
       (λ (c : Contains account.gave u.who). new (subst (Contains account.gave) e c))
@@ -131,7 +132,8 @@ module _ {Item : Type 0} (who : Item → ℕ) where
             (λ (t : (j ≡ length before) × (right ≡ x)). s.0 ∙ sym t.0)
             (old j x b))
             (old i u a);
-        ended = λ k d lt. let was = r.ended k d lt in let o = get_or account.olds k d in record { all_own = was.all_own; given = Contains-append_left account.gave (n ∷ []) o.0 was.given };
+        ended = λ k d lt. let was = r.ended k d lt in let o =
+            get_or account.olds k d in record { all_own = was.all_own; given = Contains-append_left account.gave (n ∷ []) o.0 was.given };
         strangers = λ m z out. r.strangers m z (λ c. out (Contains-append_left account.gave (n ∷ []) m c));
       }
 

@@ -2,9 +2,9 @@
 ghost use Rattle.std.specs.Prelude.{◌≡◌, ◌++◌, [], ◌∷◌, true, false, drop, length};
 ghost use Rattle.im_turn.specs.Logs.{GrewByOthers, GrewByOwn};
 ghost use Rattle.im_turn.specs.Passes.{KnowsOwn};
-ghost use Rattle.im_turn.specs.Steps.{IsFilled, IsFree, IsHolder, Took};
+ghost use Rattle.im_turn.specs.inner.Steps.{IsFilled, IsFree, IsHolder, Took};
 ghost use Rattle.im_turn.specs.Turns.{IsSized};
-ghost use Rattle.im_turn.specs.Views.{taken, loaded, added, returned};
+ghost use Rattle.im_turn.specs.inner.Views.{taken, loaded, added, returned};
 
 use crate::logged::Logged;
 use crate::pass::{Pass, TurnSeat};

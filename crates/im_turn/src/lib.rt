@@ -9,7 +9,7 @@
 //! The main promise is that the log is one history. Each `take` finds what the pass had seen and then entries of others
 //! alone, and when the turn is closed, the log has the entries of each pass, whole and in order, and no others.
 //!
-//! Start with `Logged`, then read `take` and `give` in `hold.rt`, and the rule that each step keeps in `specs/Rule.antt`.
+//! Start with `Logged`, then read `take` and `give` in `hold.rt`, and the rule that each step keeps in `specs/inner/Rule.antt`.
 #![tactic(auto)]
 
 mod hold;

@@ -18,8 +18,8 @@ pub struct Pass<V: Logged> {
 
 impl<V: Logged> Model for Pass<V> {
     ghost use Rattle.im_turn.specs.Passes.{PassState};
-    ghost use Rattle.im_turn.specs.Views.{state_of};
-    ghost use Rattle.im_turn.specs.Steps.{IsSettled};
+    ghost use Rattle.im_turn.specs.inner.Views.{state_of};
+    ghost use Rattle.im_turn.specs.inner.Steps.{IsSettled};
 
     ghost Value = { PassState V.Item };
 
@@ -33,6 +33,7 @@ impl<V: Logged> Pass<V> {
     pub fn recall(&self)
         ensures { KnowsOwn V.who self.now }
     {
+        // Naming the seat brings what always holds of it to the proof.
         let _ = &self.seat;
     }
 }

@@ -1,7 +1,7 @@
 // The rule of the table, and the names of its steps.
-ghost use Rattle.im_turn.specs.Views.{first_view, giving, newcomer, joined, spent};
-ghost use Rattle.im_turn.specs.Rule.{OneHistory};
-ghost use Rattle.im_turn.specs.Steps.{takes, loads, adds, gives_back, recalls, Compares};
+ghost use Rattle.im_turn.specs.inner.Views.{first_view, giving, newcomer, joined, spent};
+ghost use Rattle.im_turn.specs.inner.Rule.{OneHistory};
+ghost use Rattle.im_turn.specs.inner.Steps.{takes, loads, adds, gives_back, recalls, Compares};
 
 use crate::logged::Logged;
 use crate::view::View;

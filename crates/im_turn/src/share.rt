@@ -3,7 +3,7 @@ ghost use Rattle.std.specs.Prelude.{◌≡◌, ◌≢◌, ◌<◌, ◌++◌, [],
 ghost use Rattle.im_turn.specs.Logs.{AreInLine, Begins, longer};
 ghost use Rattle.im_turn.specs.Passes.{KnowsOwn, new_pass};
 ghost use Rattle.im_turn.specs.Turns.{IsSized};
-ghost use Rattle.im_turn.specs.Views.{giving, newcomer};
+ghost use Rattle.im_turn.specs.inner.Views.{giving, newcomer};
 
 use crate::logged::Logged;
 use crate::pass::{Pass, TurnSeat};

@@ -67,13 +67,15 @@ module _ (p q : ModeNames) (are-p : AreModes p) (are-q : AreModes q) where
   after-same w word h plain = plain-same w word h
   after-same w word h refused = plain-same w word h
 
-  bundle-same : (k : ℕ) (flags : Text) (skip : ℕ) (so_far : Outcome) (h : Held) → bundle_met (rules p) k flags skip so_far h ≡ bundle_met (rules q) k flags skip so_far h
+  bundle-same : (k : ℕ) (flags : Text) (skip : ℕ) (so_far : Outcome) (h : Held) →
+      bundle_met (rules p) k flags skip so_far h ≡ bundle_met (rules q) k flags skip so_far h
   unfolding bundle_met
   bundle-same zero flags skip so_far h = refl
   bundle-same (suc k) flags skip so_far h = go (slice_get (chars flags) 0) refl skip (λ f s. bundle-same k f s so_far h)
     where
       go : (x : Option ℕ) → slice_get (chars flags) 0 ≡ x → (s : ℕ)
-          → ((f : Text) (n : ℕ) → bundle_met (rules p) k f n so_far h ≡ bundle_met (rules q) k f n so_far h) → bundle_met (rules p) (suc k) flags s so_far h ≡ bundle_met (rules q) (suc k) flags s so_far h
+          → ((f : Text) (n : ℕ) → bundle_met (rules p) k f n so_far h ≡ bundle_met (rules q) k f n so_far h) →
+          bundle_met (rules p) (suc k) flags s so_far h ≡ bundle_met (rules q) (suc k) flags s so_far h
       go None e s rec = rw e refl
       go (Some x) e zero rec = rw e refl
       go (Some x) e (suc s) rec = rw e (rec (drop (length (encode_utf8 x)) flags) s)
@@ -85,7 +87,8 @@ module _ (p q : ModeNames) (are-p : AreModes p) (are-q : AreModes q) where
   short-same w word None h = plain-same w word h
   short-same w word (Some flags) h = flagged-same w word _ _ (bundle-same (length flags) flags h.skip plain (record h { skip = 0 }))
 
-  other-same : (w : Waiting) (word : Text) (parts : Option (Text × Option Text)) (h : Held) → long_or_other (rules p) w word parts h ≡ long_or_other (rules q) w word parts h
+  other-same : (w : Waiting) (word : Text) (parts : Option (Text × Option Text)) (h : Held) →
+      long_or_other (rules p) w word parts h ≡ long_or_other (rules q) w word parts h
   other-same w word None h = short-same w word (short_of word) h
   other-same w word (Some u) h = flagged-same w word _ _ (long-same (arg_by_long (rules q) u.0) u.1 h)
 
@@ -153,7 +156,8 @@ module _ (p q : ModeNames) (are-p : AreModes p) (are-q : AreModes q) where
   settle-same : (h : Held) → settle_fault (rules p) false h ≡ settle_fault (rules q) false h
   settle-same h = pending h.pending
     where
-      pending : (u : Option (Text × List Text)) → settle_fault (rules p) false (record h { pending = u }) ≡ settle_fault (rules q) false (record h { pending = u })
+      pending : (u : Option (Text × List Text)) →
+          settle_fault (rules p) false (record h { pending = u }) ≡ settle_fault (rules q) false (record h { pending = u })
       pending None = refl
       pending (Some u) = go (bytes_eq (codes "mode") u.0) refl
         where
@@ -179,7 +183,8 @@ module _ (p q : ModeNames) (are-p : AreModes p) (are-q : AreModes q) where
   bundle-fault (suc k) flags skip h = go (slice_get (chars flags) 0) refl skip (λ f s. bundle-fault k f s h)
     where
       go : (x : Option ℕ) → slice_get (chars flags) 0 ≡ x → (s : ℕ)
-          → ((f : Text) (n : ℕ) → flags_fault (rules p) false k f n h ≡ flags_fault (rules q) false k f n h) → flags_fault (rules p) false (suc k) flags s h ≡ flags_fault (rules q) false (suc k) flags s h
+          → ((f : Text) (n : ℕ) → flags_fault (rules p) false k f n h ≡ flags_fault (rules q) false k f n h) →
+          flags_fault (rules p) false (suc k) flags s h ≡ flags_fault (rules q) false (suc k) flags s h
       go None e s rec = rw e refl
       go (Some x) e zero rec = rw e refl
       go (Some x) e (suc s) rec = rw e (rec (drop (length (encode_utf8 x)) flags) s)
@@ -189,7 +194,8 @@ module _ (p q : ModeNames) (are-p : AreModes p) (are-q : AreModes q) where
   short-fault None h = refl
   short-fault (Some flags) h = bundle-fault (length flags) flags h.skip (record h { skip = 0 })
 
-  flag-fault : (parts : Option (Text × Option Text)) (word : Text) (h : Held) → flag_word_fault (rules p) false parts word h ≡ flag_word_fault (rules q) false parts word h
+  flag-fault : (parts : Option (Text × Option Text)) (word : Text) (h : Held) →
+      flag_word_fault (rules p) false parts word h ≡ flag_word_fault (rules q) false parts word h
   flag-fault None word h = short-fault (short_of word) h
   flag-fault (Some u) word h = long-fault (arg_by_long (rules q) u.0) u.1 h
 
@@ -205,7 +211,8 @@ module _ (p q : ModeNames) (are-p : AreModes p) (are-q : AreModes q) where
   positional-fault : (h : Held) → positional_fault (rules p) false (full_mode p) h ≡ positional_fault (rules q) false (full_mode q) h
   positional-fault h = go (is_pending (full_mode p) h.pending) refl
     where
-      go : (t : Bool) → is_pending (full_mode p) h.pending ≡ t → positional_fault (rules p) false (full_mode p) h ≡ positional_fault (rules q) false (full_mode q) h
+      go : (t : Bool) → is_pending (full_mode p) h.pending ≡ t →
+          positional_fault (rules p) false (full_mode p) h ≡ positional_fault (rules q) false (full_mode q) h
       go true t = rw t (settle-same h)
       go false t = rw t (settle-same h)
 
@@ -248,11 +255,13 @@ module _ (p q : ModeNames) (are-p : AreModes p) (are-q : AreModes q) where
   end-same : (words : List Text) → (walk (rules p) [] nothing_held words).held ≡ (walk (rules q) [] nothing_held words).held
   end-same words = ap (λ (w : Walk). w.held) (walk-same (walk_from nothing_held) words)
 
-  rows-same : (words : List Text) → finished (rules p) (walk (rules p) [] nothing_held words).held ≡ finished (rules q) (walk (rules q) [] nothing_held words).held
+  rows-same : (words : List Text) → finished (rules p) (walk (rules p) [] nothing_held words).held
+      ≡ finished (rules q) (walk (rules q) [] nothing_held words).held
   rows-same words = finished-same (walk (rules p) [] nothing_held words).held ∙ ap (finished (rules q)) (end-same words)
 
   defaults-same : (h : Held) → defaults_fault (settled (rules p) h).rows (rules p) ≡ defaults_fault (settled (rules q) h).rows (rules q)
-  defaults-same h = no_default_fault (settled (rules p) h).rows (rules p) (rules_plain p) ∙ sym (no_default_fault (settled (rules q) h).rows (rules q) (rules_plain q))
+  defaults-same h = no_default_fault (settled (rules p) h).rows (rules p) (rules_plain p)
+      ∙ sym (no_default_fault (settled (rules q) h).rows (rules q) (rules_plain q))
 
   after-words : (h k : Held) → h ≡ k → (rows all : List Row) → rows ≡ all → check_fault (shape p) rows false ≡ check_fault (shape q) all false
   after-words h k same rows all is = ap (λ r. check_fault (shape q) r false) is

@@ -75,7 +75,8 @@ module _ (names : ModeNames) where
       go true b = subst (λ x. is_unsigned_in (least_of x) (most_of x) t ≡ true) (one_name s r same)
           (subst (λ u. is_unsigned_in (least_of s) (most_of s) u ≡ true) (same_text v t is) b)
       go false b =
-          let refused = (or_none (value_kinds false (parsers.Unsigned (least_of s) (most_of s)) v) (values_kinds false (parsers.Unsigned (least_of s) (most_of s)) vs) none).0 in
+          let refused = (or_none (value_kinds false (parsers.Unsigned (least_of s) (most_of s)) v)
+          (values_kinds false (parsers.Unsigned (least_of s) (most_of s)) vs) none).0 in
           absurd (some_kind (rw b at refused))
 
   setting-used : (s : Setting) (values : List Text) (rows : List Row) → use_fault false (full s) values rows ≡ [] → Pass rows → Pass (used (full s) values rows)
@@ -84,7 +85,8 @@ module _ (names : ModeNames) where
     where
       go : (b : Bool) → has_row (name_of s) rows ≡ b → (vs : List Text) → use_fault false (full s) vs rows ≡ [] → Pass (used (full s) vs rows)
       go true b vs none =
-          let again = (or_none (repeat_fault false (name_of s) rows) (values_kinds false (parsers.Unsigned (least_of s) (most_of s)) (values_or_missing (full s) vs))
+          let again = (or_none (repeat_fault false (name_of s) rows)
+          (values_kinds false (parsers.Unsigned (least_of s) (most_of s)) (values_or_missing (full s) vs))
           (or_none (range_kinds 1 1 (length vs)) (set_fault false (full s) (values_or_missing (full s) vs) rows) none).1).0 in
           absurd (some_kind (rw b at again))
       go false b [] none = subst Pass (sym (no_row (name_of s) (more_values CommandLine []) (set_row (name_of s) [] ∷ []) rows b))
@@ -101,11 +103,13 @@ module _ (names : ModeNames) where
       let bad : false ≡ true = sym (not_setting r) ∙ same in
       cc
 
-  mode-used : (values : List Text) (rows : List Row) → use_fault false (full_mode names) values rows ≡ [] → Pass rows → Pass (used (full_mode names) values rows)
+  mode-used : (values : List Text) (rows : List Row) → use_fault false (full_mode names) values rows ≡ [] → Pass rows →
+      Pass (used (full_mode names) values rows)
   unfolding set_row
   mode-used values rows none all = go (has_row (codes "mode") rows) refl values none
     where
-      go : (b : Bool) → has_row (codes "mode") rows ≡ b → (vs : List Text) → use_fault false (full_mode names) vs rows ≡ [] → Pass (used (full_mode names) vs rows)
+      go : (b : Bool) → has_row (codes "mode") rows ≡ b → (vs : List Text) → use_fault false (full_mode names) vs rows ≡ [] →
+          Pass (used (full_mode names) vs rows)
       go true b vs none =
           let again = (or_none (repeat_fault false (codes "mode") rows) (values_kinds false (parsers.Names names) (values_or_missing (full_mode names) vs))
           (or_none (range_kinds 1 1 (length vs)) (set_fault false (full_mode names) (values_or_missing (full_mode names) vs) rows) none).1).0 in
@@ -131,7 +135,8 @@ module _ (names : ModeNames) where
       pending None none = all
       pending (Some u) none = go (arg_by_id (rules names) u.0) refl (found-ours (λ a. bytes_eq a.id u.0) (rules names) all-ours)
         where
-          go : (found : Option Rule) → arg_by_id (rules names) u.0 ≡ found → IfSome (arg_by_id (rules names) u.0) Ours → Pass (settled_rows (rules names) (Some u) h.rows)
+          go : (found : Option Rule) → arg_by_id (rules names) u.0 ≡ found → IfSome (arg_by_id (rules names) u.0) Ours →
+              Pass (settled_rows (rules names) (Some u) h.rows)
           go None is ours = rw is all
           go (Some a) is ours =
               rw is (our-use a u.1 h.rows (rw is at ours) (rw is at none) all)
@@ -142,7 +147,8 @@ module _ (names : ModeNames) where
       let parts = or_none (settle_fault (rules names) false h) (use_fault false a values (settled_rows (rules names) h.pending h.rows)) none in
       our-use a values (settled_rows (rules names) h.pending h.rows) ours parts.1 (settled-pass h parts.0 all)
 
-  option-pass : (a : Rule) (v : Option Text) (h : Held) → Ours a → option_fault (rules names) false a v h ≡ [] → Pass h.rows → Pass (option_met (rules names) a v h).0.rows
+  option-pass : (a : Rule) (v : Option Text) (h : Held) → Ours a → option_fault (rules names) false a v h ≡ [] → Pass h.rows →
+      Pass (option_met (rules names) a v h).0.rows
   option-pass a None h ours none all = settled-pass h none all
   option-pass a (Some v) h ours none all = react-pass a (v ∷ []) h ours none all
 

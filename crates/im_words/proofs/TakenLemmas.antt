@@ -74,7 +74,16 @@ level_passes : (names : ModeNames) (ws : List Text) (end : Held) (rows : List Ro
     → Settles names end rows → is_given (codes "mode") rows ≡ true
     → level_fault (shape names) [] nothing_held ws false [] ≡ []
 level_passes names ws end rows fault is settles given =
-    rw (fault, is, settles.fault, settles.kept, no_default_fault rows (rules names) (rules_plain names), no_defaults rows (rules names) (rules_plain names), given) refl
+    rw (
+      fault,
+      is,
+      settles.fault,
+      settles.kept,
+      no_default_fault rows (rules names) (rules_plain names),
+      no_defaults rows (rules names)
+          (rules_plain names),
+      given,
+    ) refl
 
 rows_kept : (names : ModeNames) (ws : List Text) (end : Held) (rows : List Row) → (walk (rules names) [] nothing_held ws).held ≡ end
     → Settles names end rows → finished (rules names) (walk (rules names) [] nothing_held ws).held ≡ rows

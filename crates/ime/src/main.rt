@@ -51,30 +51,15 @@ fn play<R: Input + Print + Threads + Wait + Sync, L: Ledger>(
     )
 }
 
-/// What a status is told by: the exit status, and a line on standard error where the program did not end well.
-fn told(status: Status) -> (u8, &'static str) {
-    match status {
-        Status::Done => (0, ""),
-        Status::Usage => (
-            1,
-            "ime: usage: ime run [--area N] [--workers N] [--turns N] [--rows N] [--seed N]",
-        ),
-        Status::ReadFault => (2, "ime: read failed"),
-        Status::WriteFault => (3, "ime: write failed"),
-        Status::NoMemory => (4, "ime: no memory"),
-        Status::ScriptTooLong => (5, "ime: script too long"),
-    }
-}
-
 fn main(rt: HostRuntime) -> ExitCode {
     let alloc = rt.alloc();
     let status = match words(alloc, &rt) {
         Ok(words) => play::<HostRuntime, Brand>(&rt, alloc, words.as_slice(), Blank::new(1)),
         Err(NoMemory) => Status::NoMemory,
     };
-    let (code, line) = told(status);
-    if code != 0 {
+    if let Some(line) = status.line() {
+        // A line that cannot be written changes nothing: the exit status says the same.
         let _ = rt.eprintln(line);
     }
-    ExitCode::from(code)
+    ExitCode::from(status.code())
 }

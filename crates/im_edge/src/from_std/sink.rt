@@ -1,9 +1,10 @@
 ghost use Rattle.std.specs.Prelude.{◌≡◌, ◌<◌, ◌≤◌, None, length, take, IfOk, OnErr};
 ghost use Rattle.std.specs.Io.KnownBytes.{Appends, Keeps};
 ghost use Rattle.im_edge.specs.Faults.{Rose};
-ghost use Rattle.im_edge.specs.FromStd.{HandsOn};
+ghost use Rattle.im_edge.specs.FromStd.{HandsOn, faults_after_write};
 ghost use Rattle.im_edge.specs.Sink.{IsInPiece, Writes, IfWriteFailed};
 
+use super::retry::lasting;
 use crate::sink::{Put, Sink};
 use std::io;
 use std::io::{ErrorKind, Write};
@@ -12,8 +13,8 @@ use std::marker::Model;
 /// A sink over a writer of std, as standard output: `StdSink::new(rt.stdout())`.
 ///
 /// Each piece goes straight to the writer, with no buffer between. A write of the system that a
-/// signal broke off is tried again; any other error is a fault, and so is a writer that takes
-/// nothing.
+/// signal broke off is made again (`lasting` says which those are); any other error is one fault,
+/// and so is a writer that takes nothing.
 #[derive(Drop)]
 pub struct StdSink<W> {
     writer: W,
@@ -48,6 +49,7 @@ impl<W: Write> Sink for StdSink<W> {
         ensures handed_on { HandsOn result piece.now (W.contents self.old.adapted) (W.contents self.new.adapted) }
         ensures count { IsInPiece result (length piece.now) }
         ensures content { Writes result piece.now None None }
+        ensures counted { self.new.faults ≡ faults_after_write result self.old.faults }
         ensures cause { IfWriteFailed result (Rose self.old.faults self.new.faults) }
         ensures later { self.old.faults ≤ self.new.faults }
     {
@@ -61,7 +63,7 @@ impl<W: Write> Sink for StdSink<W> {
     }
 }
 
-/// One write, which is tried again where a signal broke it off.
+/// One write, which is made again where a signal broke it off.
 fn write_once<W: Write>(writer: &mut W, piece: &[u8]) -> io::Result<usize>
     ensures count { IfOk result (λ count. count ≤ length piece.now) }
     ensures took { IfOk result (λ count. Appends (W.contents writer.old) (W.contents writer.new) (take count piece.now)) }
@@ -71,7 +73,7 @@ fn write_once<W: Write>(writer: &mut W, piece: &[u8]) -> io::Result<usize>
         match writer.write(piece) {
             Ok(count) => return Ok(count),
             Err(error) => {
-                if error.kind() != ErrorKind::Interrupted {
+                if let Some(error) = lasting(error) {
                     return Err(error);
                 }
             }

@@ -1,9 +1,10 @@
 ghost use Rattle.std.specs.Prelude.{◌≡◌, ◌<◌, ◌≤◌, None, length, take, IfOk, OnErr};
 ghost use Rattle.std.specs.Io.KnownBytes.{Consumes, IsAtEnd, Keeps};
 ghost use Rattle.im_edge.specs.Faults.{Rose};
-ghost use Rattle.im_edge.specs.FromStd.{PassesOn};
+ghost use Rattle.im_edge.specs.FromStd.{PassesOn, faults_after_read};
 ghost use Rattle.im_edge.specs.Source.{IsInRoom, Reads, IfReadFailed};
 
+use super::retry::lasting;
 use crate::source::{Got, Source};
 use std::io;
 use std::io::{ErrorKind, Read};
@@ -11,7 +12,8 @@ use std::marker::Model;
 
 /// A source over a reader of std, as standard input: `StdSource::new(rt.reader())`.
 ///
-/// A read of the system that a signal broke off is tried again; any other error is a fault.
+/// A read of the system that a signal broke off is made again (`lasting` says which those are); any other error is one
+/// fault.
 #[derive(Drop)]
 pub struct StdSource<R> {
     reader: R,
@@ -45,6 +47,7 @@ impl<R: Read> Source for StdSource<R> {
         ensures passed_on { PassesOn result buf.new (R.remaining self.old.adapted) (R.remaining self.new.adapted) }
         ensures count { IsInRoom result (length buf.old) }
         ensures content { Reads result buf.new None None }
+        ensures counted { self.new.faults ≡ faults_after_read result self.old.faults }
         ensures cause { IfReadFailed result (Rose self.old.faults self.new.faults) }
         ensures later { self.old.faults ≤ self.new.faults }
     {
@@ -59,7 +62,7 @@ impl<R: Read> Source for StdSource<R> {
     }
 }
 
-/// One read, which is tried again where a signal broke it off.
+/// One read, which is made again where a signal broke it off.
 fn read_once<R: Read>(reader: &mut R, buf: &mut [u8]) -> io::Result<usize>
     ensures count { IfOk result (λ count. count ≤ length buf.old) }
     ensures came { IfOk result (λ count. Consumes (R.remaining reader.old) (R.remaining reader.new) (take count buf.new)) }
@@ -70,7 +73,7 @@ fn read_once<R: Read>(reader: &mut R, buf: &mut [u8]) -> io::Result<usize>
         match reader.read(buf) {
             Ok(count) => return Ok(count),
             Err(error) => {
-                if error.kind() != ErrorKind::Interrupted {
+                if let Some(error) = lasting(error) {
                     return Err(error);
                 }
             }

@@ -9,5 +9,6 @@ returns c =
     let values = c.as_mut_slice.ensures.value in
     let made = c.in_ok-assign.ensures ∙ ap (assigned c.args.sets.now) values in
     c.of.ensures
-    ∙ (written_back c.into_values-values.result.len c.assign.new.values c.into_values-values.result.items c.into_values-values.result.ok.0 (ap length made ∙ length-assigned c.args.sets.now c.into_values-values.result.items)
+    ∙ (written_back c.into_values-values.result.len c.assign.new.values c.into_values-values.result.items c.into_values-values.result.ok.0
+    (ap length made ∙ length-assigned c.args.sets.now c.into_values-values.result.items)
     ∙ (made ∙ ap (assigned c.args.sets.now) c.into_values-values.ensures))

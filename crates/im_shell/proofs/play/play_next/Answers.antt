@@ -1,5 +1,5 @@
 use Rattle.std.proofs.lemmas.Result.{on_ok_weaker}
-use Rattle.im_shell.specs.Play.{PlaysNext}
+use Rattle.im_shell.specs.inner.Going.{PlaysNext}
 use Rattle.im_shell.proofs.play.play_next.Goals as goal
 
 pub returns-clause-ok : goal.returns-clause-ok

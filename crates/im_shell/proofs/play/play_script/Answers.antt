@@ -15,11 +15,13 @@ returns-in_err-play_next-clause-err g c = OnErr-always _ (IsGoing-part _ _ _ _ _
 
 pub returns-in_err-flush_piece-clause-err : goal.returns-in_err-flush_piece-clause-err
 returns-in_err-flush_piece-clause-err g c =
-    OnErr-always _ (IsGoing-stuck _ _ _ _ _ _ _ _ _ _ _ _ c.loop-rest.invariant.going c.first_line.ensures.lines c.first_line.ensures.shorter c.in_ok-play_next.ensures.ok c.in_err-flush_piece.ensures.err)
+    OnErr-always _ (IsGoing-stuck _ _ _ _ _ _ _ _ _ _ _ _ c.loop-rest.invariant.going c.first_line.ensures.lines c.first_line.ensures.shorter
+    c.in_ok-play_next.ensures.ok c.in_err-flush_piece.ensures.err)
 
 pub loop-rest-preserved : goal.loop-rest-preserved
 loop-rest-preserved g c = record {
-  going = IsGoing-next _ _ _ _ _ _ _ _ _ _ _ _ _ c.loop-rest.invariant.going c.first_line.ensures.lines c.first_line.ensures.shorter c.in_ok-play_next.ensures.ok c.in_ok-flush_piece.ensures.ok;
+  going = IsGoing-next _ _ _ _ _ _ _ _ _ _ _ _ _ c.loop-rest.invariant.going c.first_line.ensures.lines c.first_line.ensures.shorter
+      c.in_ok-play_next.ensures.ok c.in_ok-flush_piece.ensures.ok;
   between = c.play_next.ensures.between;
   later = omega (arith, c.loop-rest.invariant.later, c.flush_piece.ensures.later);
 }

@@ -1,5 +1,5 @@
 use Rattle.std.proofs.Common.{◌≤◌, length}
-use Rattle.im_shell.specs.Requests.{IsBetween}
+use Rattle.im_shell.specs.inner.Answers.{IsBetween}
 use Rattle.im_shell.proofs.PlayLemmas.{IsGoing}
 use Rattle.im_shell.proofs.play.play_script.Given as goal
 

@@ -10,4 +10,5 @@ use Rattle.im_shell.proofs.player.play_resolved.Goals as goal
 pub insert-requires-clause-may : goal.insert-requires-clause-may
 insert-requires-clause-may g c =
     subst (λ (rows : List Row). MayInsert c.args.store.now.log c.in-Insert.table rows) (sym c.into_items.ensures)
-    (may-insert c.args.store.now.log c.in-Insert.table c.in-Insert.rows (subst (λ (r : Resolved). Serves (tables c.args.store.now.log) r) c.in-Insert.is c.requires.serves))
+    (may-insert c.args.store.now.log c.in-Insert.table c.in-Insert.rows
+    (subst (λ (r : Resolved). Serves (tables c.args.store.now.log) r) c.in-Insert.is c.requires.serves))

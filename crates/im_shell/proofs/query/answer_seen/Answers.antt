@@ -3,7 +3,7 @@ use Rattle.im_core.specs.Seen.{Seen}
 use Rattle.im_group.specs.Answers.{answer}
 use Rattle.im_history.specs.Cursors.{is_cursor_open}
 use Rattle.im_replies.specs.declared.body.Body.TheVariants.{Answer}
-use Rattle.im_shell.specs.Scans.{seen_in}
+use Rattle.im_shell.specs.inner.Scans.{seen_in}
 use Rattle.im_shell.specs.Statements.{answering}
 use Rattle.im_shell.proofs.OpeningLemmas.{opening-open}
 use Rattle.im_shell.proofs.PlanLemmas.{scan-ended, rest-lacks_open}
@@ -16,7 +16,8 @@ returns-in-Ok-clause-cursor g c =
 pub returns-in-Ok-clause-rest : goal.returns-in-Ok-clause-rest
 returns-in-Ok-clause-rest g c =
     rw (c.settled.ensures, c.in-Ok.ensures.answer)
-    (scan-ended c.args.who 1 c.args.store.now _ c.args.view.place (Answer c.args.view.scn (answer c.args.bound.now (seen_in c.args.store.now.log c.args.view))) c.in-Ok.ensures.same)
+    (scan-ended c.args.who 1 c.args.store.now _ c.args.view.place
+    (Answer c.args.view.scn (answer c.args.bound.now (seen_in c.args.store.now.log c.args.view))) c.in-Ok.ensures.same)
 
 pub returns-in-Err-clause-cursor : goal.returns-in-Err-clause-cursor
 returns-in-Err-clause-cursor g c =
@@ -24,5 +25,7 @@ returns-in-Err-clause-cursor g c =
 
 pub returns-in-Err-clause-rest : goal.returns-in-Err-clause-rest
 returns-in-Err-clause-rest g c =
-    rw c.lacked.ensures
-    (rest-lacks_open c.args.who 1 c.args.store.now (answering c.args.bound.now c.args.view.place c.args.view.scn (seen_in c.args.store.now.log c.args.view)) _ (opening-open c.args.store.now.log c.args.who c.args.view c.requires.opening) c.in-Err.ensures.same)
+    rw c.out_of_memory.ensures
+    (rest-lacks_open c.args.who 1 c.args.store.now
+    (answering c.args.bound.now c.args.view.place c.args.view.scn
+    (seen_in c.args.store.now.log c.args.view)) _ (opening-open c.args.store.now.log c.args.who c.args.view c.requires.opening) c.in-Err.ensures.same)

@@ -10,9 +10,13 @@ use Rattle.im_shell.proofs.query.seen_answer.Goals as goal
 pub of_rows-requires : goal.of_rows-requires
 of_rows-requires g c = record {
   fits =
-      subst (λ (rows : List (ℕ × Row)). AllByRecursion (λ row. BoundFits row.1 c.args.bound.now) rows) (sym (c.as_slice.ensures.value ∙ c.in_ok-rows.ensures.rows))
+      subst (λ (rows : List (ℕ × Row)). AllByRecursion (λ row. BoundFits row.1 c.args.bound.now) rows)
+      (sym (c.as_slice.ensures.value ∙ c.in_ok-rows.ensures.rows))
       (all-seen_in c.args.store.now.log c.args.view (λ row. BoundFits row c.args.bound.now) c.requires.fits);
 }
+
+pub finish-requires-clause-part : goal.finish-requires-clause-part
+finish-requires-clause-part g c = record { rows = c.as_slice.result.now; is = c.in_ok-partial.ensures }
 
 pub returns-clause-answer : goal.returns-clause-answer
 returns-clause-answer g c =

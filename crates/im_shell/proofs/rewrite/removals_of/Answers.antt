@@ -3,7 +3,7 @@ use Rattle.std.proofs.lemmas.Result.{IfOk-weaker}
 use Rattle.im_history.specs.declared.change.Change.{Change}
 use Rattle.im_history.specs.Legal.{MayWrite}
 use Rattle.im_history.specs.Rows.{Row}
-use Rattle.im_shell.specs.Scans.{seen_in}
+use Rattle.im_shell.specs.inner.Scans.{seen_in}
 use Rattle.im_shell.specs.Statements.{removals, kept_rows}
 use Rattle.im_shell.proofs.WriteLemmas.{may-remove}
 use Rattle.im_shell.proofs.rewrite.removals_of.Goals as goal

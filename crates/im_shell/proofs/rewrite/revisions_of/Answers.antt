@@ -3,7 +3,7 @@ use Rattle.std.proofs.lemmas.Result.{IfOk-weaker}
 use Rattle.im_history.specs.declared.change.Change.{Change}
 use Rattle.im_history.specs.Legal.{MayWrite}
 use Rattle.im_history.specs.Rows.{Row}
-use Rattle.im_shell.specs.Scans.{seen_in}
+use Rattle.im_shell.specs.inner.Scans.{seen_in}
 use Rattle.im_shell.specs.Statements.{revisions, kept_rows}
 use Rattle.im_shell.proofs.WriteLemmas.{may-revise}
 use Rattle.im_shell.proofs.rewrite.revisions_of.Goals as goal
@@ -20,5 +20,6 @@ returns-clause-may g c =
     (λ changes e some.
     let are = e ∙ ap (λ (rows : List (ℕ × Row)). revisions c.args.view.table c.args.sets.now rows) c.in_ok-rows.ensures.rows in
     subst (λ (cs : List Change). MayWrite c.args.store.now.log c.args.who 0 cs) (sym are)
-    (may-revise c.args.store.now.log c.args.who c.args.view c.args.filter.now c.args.sets.now c.requires.opening c.requires.assigns (subst (λ (cs : List Change). 1 ≤ length cs) are some)))
+    (may-revise c.args.store.now.log c.args.who c.args.view c.args.filter.now c.args.sets.now c.requires.opening c.requires.assigns
+    (subst (λ (cs : List Change). 1 ≤ length cs) are some)))
     c.revisions.ensures

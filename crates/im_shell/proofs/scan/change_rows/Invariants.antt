@@ -1,5 +1,5 @@
 use Rattle.std.proofs.Common.{◌≡◌}
-use Rattle.im_shell.specs.Scans.{changed}
+use Rattle.im_shell.specs.inner.Scans.{changed}
 use Rattle.im_shell.proofs.scan.change_rows.Given as goal
 
 -- what is left makes of the rows so far what all changes make of the first ones

@@ -8,7 +8,9 @@ use Rattle.im_shell.proofs.scan.committed_rows.Goals as goal
 
 pub pin-requires-clause-within : goal.pin-requires-clause-within
 pin-requires-clause-within g c =
-    subst (λ (v : View). c.loop-extent.extent < v.extents) (sym (ap (λ (s : Seen). cursor_view s.log c.args.who 0) c.loop-extent.invariant.same ∙ view-opening _ _ _ c.requires.opening)) c.loop-extent-test.true
+    subst (λ (v : View). c.loop-extent.extent < v.extents)
+    (sym (ap (λ (s : Seen). cursor_view s.log c.args.who 0) c.loop-extent.invariant.same
+    ∙ view-opening _ _ _ c.requires.opening)) c.loop-extent-test.true
 
 pub loop-extent-preserved : goal.loop-extent-preserved
 loop-extent-preserved g c =
@@ -23,10 +25,13 @@ loop-extent-preserved g c =
       slots =
           c.in_ok-put_rows.ensures
           ∙ (ap (λ (rows : List (ℕ × Option Row)). c.loop-extent.slots.items ++ map (λ row. row.1) rows) fetched
-          ∙ (ap (λ (slots : List (Option Row)). slots ++ map (λ row. row.1) (committed_in c.args.store.now.log c.args.view.now c.loop-extent.extent)) c.loop-extent.invariant.slots
-          ∙ committed-more c.args.store.now.log c.args.view.now c.loop-extent.extent (extent-within c.args.store.now.log c.args.who c.args.view.now c.loop-extent.extent c.requires.opening c.loop-extent-test.true)));
+          ∙ (ap (λ (slots : List (Option Row)). slots ++ map (λ row. row.1) (committed_in c.args.store.now.log c.args.view.now c.loop-extent.extent))
+          c.loop-extent.invariant.slots
+          ∙ committed-more c.args.store.now.log c.args.view.now c.loop-extent.extent
+          (extent-within c.args.store.now.log c.args.who c.args.view.now c.loop-extent.extent c.requires.opening c.loop-extent-test.true)));
     }
 
 pub returns-clause-slots : goal.returns-clause-slots
 returns-clause-slots g c =
-    c.loop-extent.invariant.slots ∙ committed-whole c.args.store.now.log c.args.who c.args.view.now c.loop-extent.extent c.requires.opening c.loop-extent.auto.extent-end c.loop-extent-test.false
+    c.loop-extent.invariant.slots ∙ committed-whole c.args.store.now.log c.args.who c.args.view.now c.loop-extent.extent c.requires.opening
+    c.loop-extent.auto.extent-end c.loop-extent-test.false

@@ -1,5 +1,5 @@
 use Rattle.std.proofs.Common.{◌≡◌, ◌*◌, min}
-use Rattle.im_shell.specs.Scans.{committed}
+use Rattle.im_shell.specs.inner.Scans.{committed}
 use Rattle.im_shell.proofs.scan.committed_rows.Given as goal
 
 -- the rows of the extents so far

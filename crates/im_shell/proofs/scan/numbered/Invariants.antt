@@ -1,5 +1,5 @@
 use Rattle.std.proofs.Common.{◌≡◌, ◌+◌, ◌++◌, length}
-use Rattle.im_shell.specs.Scans.{numbered_from}
+use Rattle.im_shell.specs.inner.Scans.{numbered_from}
 use Rattle.im_shell.proofs.scan.numbered.Given as goal
 
 -- the rows so far and those that are left are all of them

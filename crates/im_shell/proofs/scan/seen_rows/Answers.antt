@@ -3,7 +3,7 @@ use Rattle.std.proofs.lemmas.Result.{IfOk-weaker}
 use Rattle.std.proofs.lemmas.List.FromFn.{length-map-range_with_len}
 use Rattle.im_history.specs.declared.change.Change.{Change}
 use Rattle.im_history.specs.Rows.{rows}
-use Rattle.im_shell.specs.Scans.{changed, numbered_from}
+use Rattle.im_shell.specs.inner.Scans.{changed, numbered_from}
 use Rattle.im_shell.proofs.ScanLemmas.{seen-numbered, length-changed}
 use Rattle.im_shell.proofs.scan.seen_rows.Goals as goal
 
@@ -19,5 +19,7 @@ numbered-requires g c =
 pub returns-clause-rows : goal.returns-clause-rows
 returns-clause-rows g c =
     IfOk-weaker c.numbered.result _ _
-    (λ rows e. e ∙ (ap (numbered_from 0) (c.with_changes.ensures ∙ ap (λ (own : List Change). changed c.in_ok-slots.slots.items own) c.into_items.ensures) ∙ seen-numbered c.args.store.now.log c.args.who c.args.view c.in_ok-slots.slots.items c.requires.opening c.in_ok-slots.ensures.slots))
+    (λ rows e. e ∙ (ap (numbered_from 0) (c.with_changes.ensures
+    ∙ ap (λ (own : List Change). changed c.in_ok-slots.slots.items own)
+    c.into_items.ensures) ∙ seen-numbered c.args.store.now.log c.args.who c.args.view c.in_ok-slots.slots.items c.requires.opening c.in_ok-slots.ensures.slots))
     c.numbered.ensures

@@ -1,7 +1,7 @@
 use Rattle.std.proofs.Common.{◌≡◌, ◌∙◌, ◌∷◌, [], None, ap, arith, rules}
 use Rattle.im_turn.specs.Logs.{GrewByOthers}
-use Rattle.im_turn.specs.Steps.{SeatState}
-use Rattle.im_turn.specs.Views.{taken, loaded}
+use Rattle.im_turn.specs.inner.Steps.{SeatState}
+use Rattle.im_turn.specs.inner.Views.{taken, loaded}
 use Rattle.im_turn.proofs.HoldSteps.{loads_allowed, seen_all, slot_is, holder_after}
 use Rattle.im_turn.proofs.hold.fetch.Goals as goal
 
@@ -15,7 +15,8 @@ load-requires g c =
       search rules,
       omega arith,
       loads_allowed v.log v.who v.fixed c.args.shared.now.table_id.slots seat.id seat.me
-          (ap (λ (m : SeatState g.row.V.Denot g.row.V-Item.Denot). m.0.live) took.is ∙ free.live) (ap (λ (m : SeatState g.row.V.Denot g.row.V-Item.Denot). m.0.phase) took.is),
+          (ap (λ (m : SeatState g.row.V.Denot g.row.V-Item.Denot). m.0.live) took.is
+          ∙ free.live) (ap (λ (m : SeatState g.row.V.Denot g.row.V-Item.Denot). m.0.phase) took.is),
     )
 
 pub exchange-requires : goal.exchange-requires

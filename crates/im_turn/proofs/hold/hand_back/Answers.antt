@@ -7,5 +7,9 @@ store-requires g c =
     let v = g.V.Logged in
     let words = c.requires.sized.0 in
     let seat = c.args.seat.now in
-    let slots = c.args.shared.now.table_id.slots in
-    (c.requires.seat, omega arith, gives_at v.log v.who v.fixed slots seat.id seat.me c.args.value.now.value c.requires.filled c.requires.counted c.requires.fixed)
+    let slots = c.args.shared.now.table_id.slots in (
+      c.requires.seat,
+      omega arith,
+      gives_at v.log v.who v.fixed slots seat.id seat.me c.args.value.now.value c.requires.filled c.requires.counted
+          c.requires.fixed,
+    )

@@ -1,5 +1,5 @@
 use Rattle.std.proofs.Common.{◌≡◌, [], rules}
-use Rattle.im_turn.specs.Views.{added, returned}
+use Rattle.im_turn.specs.inner.Views.{added, returned}
 use Rattle.im_turn.proofs.HoldSteps.{free_after}
 use Rattle.im_turn.proofs.hold.restore.Goals as goal
 

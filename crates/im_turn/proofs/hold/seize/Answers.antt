@@ -1,5 +1,5 @@
 use Rattle.std.proofs.Common.{◌∙◌, sym, subst, arith}
-use Rattle.im_turn.specs.Steps.{IsFree}
+use Rattle.im_turn.specs.inner.Steps.{IsFree}
 use Rattle.im_turn.proofs.HoldSteps.{takes_allowed}
 use Rattle.im_turn.proofs.hold.seize.Goals as goal
 

@@ -9,5 +9,6 @@ split_seat-requires g c =
       c.requires.seat,
       omega arith,
       splits_allowed v.log v.who v.fixed c.args.seat.now.id c.args.seat.now.me.0 g.N.Numbered.number c.requires.live c.requires.first
-          (λ z. c.requires.not_first (c.requires.number ∙ z)) (λ h. c.requires.not_given (subst (Contains c.args.seat.now.me.0.gave) (sym c.requires.number) h)),
+          (λ z. c.requires.not_first (c.requires.number ∙ z)) (λ h. c.requires.not_given
+          (subst (Contains c.args.seat.now.me.0.gave) (sym c.requires.number) h)),
     )

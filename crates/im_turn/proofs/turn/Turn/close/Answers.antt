@@ -6,12 +6,14 @@ use Rattle.im_turn.proofs.turn.Turn.close.Goals as goal
 use Rattle.im_turn.proofs.turn.Turn.close.Goals.{After-free}
 
 -- the slot has the value
-at_end : (g : _) (c : After-free g) → (value : g.row.V.Denot) × (c.take-slot.result ≡ Some value) × IsWhole g.V.Logged.log g.V.Logged.who g.V.Logged.fixed c.args.pass value
+at_end : (g : _) (c : After-free g) → (value : g.row.V.Denot) ×
+    (c.take-slot.result ≡ Some value) × IsWhole g.V.Logged.log g.V.Logged.who g.V.Logged.fixed c.args.pass value
 at_end g c =
     let v = g.V.Logged in
     let seat = c.pass.inside.seat in
     let free = free_where_idle v.who seat.me c.pass.invariant (ap (λ (p : PassState g.row.V-Item.Denot). p.holding) c.pass.view_is ∙ c.requires.idle) in
-    closes_with v.log v.who v.fixed seat.table_id seat.id seat.me.0 _ _ c.take-slot.result c.args.pass c.close_with-closed.ensures.values.2 c.take-slot.ensures.value c.pass.view_is
+    closes_with v.log v.who v.fixed seat.table_id seat.id seat.me.0 _ _ c.take-slot.result c.args.pass c.close_with-closed.ensures.values.2
+    c.take-slot.ensures.value c.pass.view_is
     free.live free.idle c.requires.first c.requires.all_joined
 
 pub unreachable-requires : goal.unreachable-requires

@@ -1,6 +1,6 @@
 use Rattle.std.proofs.Common.{◌∙◌, ap, arith, rules}
 use Rattle.im_turn.specs.Passes.{PassState}
-use Rattle.im_turn.specs.Steps.{SeatState}
+use Rattle.im_turn.specs.inner.Steps.{SeatState}
 use Rattle.im_turn.proofs.ShareSteps.{joins_allowed, compares_allowed}
 use Rattle.im_turn.proofs.SettledLemmas.{free_where_idle}
 use Rattle.im_turn.proofs.turn.Turn.join.Goals as goal
@@ -12,7 +12,8 @@ join_seat-requires g c =
     let seat = c.pass.inside.seat in
     let other = c.other.inside.seat in
     let free = free_where_idle v.who seat.me c.pass.invariant (ap (λ (p : PassState g.row.V-Item.Denot). p.holding) c.pass.view_is ∙ c.requires.idle) in
-    let other_free = free_where_idle v.who other.me c.other.invariant (ap (λ (p : PassState g.row.V-Item.Denot). p.holding) c.other.view_is ∙ c.requires.other_idle) in
+    let other_free = free_where_idle v.who other.me c.other.invariant
+    (ap (λ (p : PassState g.row.V-Item.Denot). p.holding) c.other.view_is ∙ c.requires.other_idle) in
     let first = ap (λ (p : PassState g.row.V-Item.Denot). p.who) c.pass.view_is ∙ c.requires.first in (
       search rules,
       search rules,
@@ -33,5 +34,6 @@ load-requires g c =
       search rules,
       omega arith,
       compares_allowed v.log v.who v.fixed slots joined.id joined.me
-          (ap (λ (m : SeatState g.row.V.Denot g.row.V-Item.Denot). m.0.live) me ∙ free.live) (ap (λ (m : SeatState g.row.V.Denot g.row.V-Item.Denot). m.0.phase) me ∙ free.idle),
+          (ap (λ (m : SeatState g.row.V.Denot g.row.V-Item.Denot). m.0.live) me
+          ∙ free.live) (ap (λ (m : SeatState g.row.V.Denot g.row.V-Item.Denot). m.0.phase) me ∙ free.idle),
     )

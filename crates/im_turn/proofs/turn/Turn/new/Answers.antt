@@ -6,4 +6,5 @@ pub new-requires : goal.new-requires
 new-requires g c =
     let v = g.V.Logged in
     let pushed = c.push_reserved in
-    opens_at v.log v.who v.fixed c.args.v c.of-key.result.value c.entries.result c.in-Ok.slots.items pushed.new.self.items c.entries.ensures c.in-Ok.ensures.items pushed.ensures.items c.of-key.ensures
+    opens_at v.log v.who v.fixed c.args.v c.of-key.result.value c.entries.result c.in-Ok.slots.items pushed.new.self.items c.entries.ensures
+    c.in-Ok.ensures.items pushed.ensures.items c.of-key.ensures

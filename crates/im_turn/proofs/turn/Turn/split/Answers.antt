@@ -1,5 +1,5 @@
 use Rattle.std.proofs.Common.{◌∙◌, ap, arith, rules}
-use Rattle.im_turn.specs.Steps.{SeatState}
+use Rattle.im_turn.specs.inner.Steps.{SeatState}
 use Rattle.im_turn.proofs.ShareSteps.{recalls_allowed}
 use Rattle.im_turn.proofs.turn.Turn.split.Goals as goal
 
@@ -12,5 +12,6 @@ load-requires g c =
     let made = c.cut-seat.ensures.made.1 in (
       search rules,
       omega arith,
-      recalls_allowed v.log v.who v.fixed slots seat.id seat.me (ap (λ (m : SeatState g.row.V.Denot g.row.V-Item.Denot). m.0.live) made ∙ c.pass.invariant.live),
+      recalls_allowed v.log v.who v.fixed slots seat.id seat.me
+          (ap (λ (m : SeatState g.row.V.Denot g.row.V-Item.Denot). m.0.live) made ∙ c.pass.invariant.live),
     )

@@ -2,7 +2,7 @@
 use Rattle.std.specs.Prelude.{◌≡◌, ◌≢◌, ℕ, ◌⊎◌, List, [], ◌∷◌, true, Option, Some, None}
 use Rattle.atomic_table.specs.Table.{Me}
 use Rattle.im_turn.specs.Logs.{AreInLine, Begins, GrewByOthers}
-use Rattle.im_turn.specs.Views.{Recalls, taken, loaded, added, returned, compared}
+use Rattle.im_turn.specs.inner.Views.{Recalls, taken, loaded, added, returned, compared}
 use Rattle.im_turn.specs.declared.turn.TheConstants.{HOME}
 use Rattle.im_turn.specs.declared.view.View.{View}
 use Rattle.im_turn.specs.declared.view.Phase.TheVariants.{Idle, Holding}

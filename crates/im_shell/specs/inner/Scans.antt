@@ -2,6 +2,7 @@
 use Rattle.std.specs.Prelude.{◌≡◌, ℕ, true, ◌+◌, ◌<◌, ◌≤◌, List, [], ◌∷◌, ◌++◌, map, fold, slice_set, Option, Some, None}
 use Rattle.std.specs.List.{range_with_len}
 use Rattle.im_values.specs.declared.value.Value.{Value}
+use Rattle.im_values.specs.declared.limits.TheConstants.{MOST_ROWS}
 use Rattle.im_values.specs.Fits.{fits}
 use Rattle.im_core.specs.Seen.{Seen}
 use Rattle.im_history.specs.declared.change.Change.{Change}
@@ -25,9 +26,9 @@ pub record IsOpening (history : History) (who : ℕ) (view : View) : Type 0 wher
   pub is : history ≡ before ++ record { who = who; what = Open 0 table } ∷ []
   pub view_is : view ≡ view_at before who table
   pub cut : 1 ≤ view.per
-  pub few : view.rows ≤ 8388608
+  pub few : view.rows ≤ MOST_ROWS
 
--- the store once the session has shut cursor 0
+-- the store once the session has closed cursor 0
 abbrev pub shut_by : ℕ → Seen → Seen
 shut_by who seen = record seen { log = seen.log ++ record { who = who; what = Shut 0 } ∷ [] }
 

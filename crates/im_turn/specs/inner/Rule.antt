@@ -19,7 +19,7 @@ use mathlib.Core.Option.{none, some}
 use lib.ListN.{get_elem?}
 use Rattle.atomic_table.specs.Table.{State}
 use Rattle.im_turn.specs.Logs.{entries_since, Begins}
-use Rattle.im_turn.specs.Views.{Recalls}
+use Rattle.im_turn.specs.inner.Views.{Recalls}
 use Rattle.im_turn.specs.declared.turn.TheConstants.{HOME, OUT}
 use Rattle.im_turn.specs.declared.view.View.{View}
 use Rattle.im_turn.specs.declared.view.Phase.TheVariants.{Idle, Taken, Holding}

@@ -1,0 +1,4 @@
+pub mod Answers
+pub mod Creations
+pub mod Going
+pub mod Scans
