@@ -1,4 +1,4 @@
-use crate::{Keyword, Stmt, is_name, spell};
+use im_syntax::{Keyword, Stmt, is_name, spell};
 use std::test::Fail;
 
 #[test]

@@ -1,6 +1,6 @@
-use crate::{Line, LineKind, lines};
-use im_lex::tokens;
+use crate::texts::tokens_of;
 use im_parse::parse;
+use im_script::{Line, LineKind, lines};
 use im_syntax::{Token, spell};
 use std::alloc::Global;
 use std::test::Fail;
@@ -333,18 +333,6 @@ fn statement_part(line: &[u8]) -> &[u8] {
     }
 }
 
-/// The tokens of a statement, without their places.
-fn written(alloc: Global, statement: &[u8]) -> Result<Vec<Token>, Fail> {
-    let Ok(lexed) = tokens(alloc, statement) else {
-        return Err(Fail::from("a byte is bad"));
-    };
-    let mut found = Vec::new(alloc);
-    for (token, _) in lexed {
-        found.push(token)?;
-    }
-    Ok(found)
-}
-
 /// Whether the tokens are those of a statement that is spelled so.
 fn is_spelled_again(alloc: Global, tokens: &[Token]) -> Result<bool, Fail> {
     match parse(alloc, tokens) {
@@ -359,7 +347,7 @@ fn each_form_is_read_and_spelled_again(rt: HostRuntime) -> Result<(), Fail> {
     for line in FORMS {
         let (kind, _) = one(alloc, line)?;
         assert!(rt; kind == b's' || kind == b'b');
-        let tokens = written(alloc, statement_part(line))?;
+        let tokens = tokens_of(alloc, statement_part(line))?;
         assert!(rt; is_spelled_again(alloc, &tokens)?);
     }
     Ok(())

@@ -1,4 +1,4 @@
-use crate::{LexFault, tokens};
+use im_lex::{LexFault, tokens};
 use std::test::Fail;
 
 /// The number of tokens, or the bytes before the first bad one.

@@ -2,7 +2,7 @@ ghost use Rattle.std.specs.Prelude.{◌==◌, ◌||◌, if◌then◌else◌, Som
 ghost use Rattle.std.specs.Char.{is_ascii_digit};
 ghost use Rattle.im_readers.specs.Reading.{one};
 
-use crate::{Halt, Part, list, list_up_to};
+use im_readers::{Halt, Part, list, list_up_to};
 use std::alloc::Global;
 use std::test::Fail;
 
