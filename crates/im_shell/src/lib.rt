@@ -30,5 +30,3 @@ mod writing;
 pub use im_words::Word;
 pub use top::{MOST_BYTES, Status, run};
 
-#[cfg(test)]
-mod tests;

@@ -1,11 +1,7 @@
 ghost use Rattle.std.specs.Prelude.{◌≡◌, ◌<◌};
 
-mod queries;
-mod scripts;
-
-use crate::tests::scripts::{CHANGES_BEFORE_THE_LIMIT, PLAYED, TWO_ROWS};
-use crate::{Status, Word, run};
 use im_edge::{MemSink, MemSource, OpenGate};
+use im_shell::{Status, Word, run};
 use im_values::Steps;
 use std::alloc::Global;
 use std::marker::Brand;
@@ -14,6 +10,21 @@ use std::sync::Wait;
 use std::sync::ledger::{Blank, Ledger};
 use std::test::Fail;
 use std::thread::Threads;
+
+/// A script of two rows, which is played with faults.
+const TWO_ROWS: &str =
+    "1> CREATE TABLE T (K NUMBER)\n1> INSERT INTO T VALUES (10)\n1> INSERT INTO T VALUES (20)\n\
+    1> COMMIT\n1> SELECT COUNT(*) FROM T";
+
+const TWO_ROWS_TEXT: &str =
+    "1,created,1,1\n2,inserted,1,0\n3,inserted,1,1\n4,committed,2\n5,answer,2,1\n5,row,2\n";
+
+/// A script whose last line goes on with more rows, up to the most changes that a transaction may have and past them.
+const CHANGES_BEFORE_THE_LIMIT: &str =
+    "1> CREATE TABLE T (K NUMBER)\n1> INSERT INTO T VALUES (1), (2)\n1> INSERT INTO T VALUES (3)";
+
+/// A comment of sixteen bytes.
+const SIXTEEN: &str = "-- fifteen here\n";
 
 /// A script, in which pieces it is read and written, which calls fail, and what comes of it.
 #[derive(Clone, Copy)]
@@ -102,14 +113,6 @@ fn check<R: Abort + Threads + Wait + Sync>(
     Ok(())
 }
 
-#[test]
-fn scripts_come_to_the_text_of_their_replies(rt: HostRuntime) -> Result<(), Fail> {
-    for (script, text) in &PLAYED {
-        check(&rt, rt.alloc(), &["ime", "run"], &plain(script, text))?;
-    }
-    Ok(())
-}
-
 /// A text followed by so many copies of a piece.
 fn followed_by(alloc: Global, text: &str, piece: &str, count: usize) -> Result<String, Fail> {
     let mut text = String::from_str(alloc, text)?;
@@ -150,6 +153,17 @@ fn what_passes_a_limit_is_told_with_its_values(rt: HostRuntime) -> Result<(), Fa
 }
 
 #[test]
+fn a_script_that_is_too_long_is_not_played(rt: HostRuntime) -> Result<(), Fail> {
+    let script = followed_by(rt.alloc(), "", SIXTEEN, 1_048_577)?;
+    let case = Case {
+        read_piece: 65_536,
+        status: Status::ScriptTooLong,
+        ..plain(script.as_str(), "")
+    };
+    check(&rt, rt.alloc(), &["ime", "run"], &case)
+}
+
+#[test]
 fn a_table_past_the_sixty_fourth_is_refused(rt: HostRuntime) -> Result<(), Fail> {
     let alloc = rt.alloc();
     let mut script = String::new(alloc);
@@ -171,6 +185,7 @@ fn a_table_past_the_sixty_fourth_is_refused(rt: HostRuntime) -> Result<(), Fail>
 #[test]
 fn a_fault_of_the_source_or_the_sink_ends_a_run(rt: HostRuntime) -> Result<(), Fail> {
     let cases = [
+        plain(TWO_ROWS, TWO_ROWS_TEXT),
         Case {
             read_piece: 4,
             read_fails: 2,
