@@ -11,8 +11,6 @@
 
 mod bits;
 mod size;
-#[cfg(test)]
-mod tests;
 
 pub use bits::Bits;
 pub use size::{MOST_WIDTH, words_for};

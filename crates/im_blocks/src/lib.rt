@@ -12,7 +12,5 @@
 #![tactic(auto)]
 
 mod blocks;
-#[cfg(test)]
-mod tests;
 
 pub use blocks::Blocks;

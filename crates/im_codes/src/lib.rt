@@ -10,8 +10,6 @@
 mod dict;
 mod run;
 mod runs;
-#[cfg(test)]
-mod tests;
 
 pub use dict::Dict;
 pub use run::Run;

@@ -2,7 +2,6 @@ mod BeginLemmas
 mod CountLemmas
 mod FetchLemmas
 mod HoldsLemmas
-mod OpeningLemmas
 mod RefusalLemmas
 mod RewriteLemmas
 mod TaskLemmas

@@ -27,5 +27,3 @@ pub use answers::{Begun, Committed, Evicted, Made, Offer, Pin, Switched, Wrote};
 pub use fetched::Fetched;
 pub use store::Core;
 
-#[cfg(test)]
-mod tests;

@@ -1,6 +1,5 @@
 mod AgreementLemmas
 mod AgreesLemmas
-mod BeforeLemmas
 mod BeginLemmas
 mod BuildLemmas
 pub mod CountLaws

@@ -19,8 +19,6 @@ mod noting;
 mod shelf;
 mod shelves;
 mod slot;
-#[cfg(test)]
-mod tests;
 
 pub use agreement::agreement_is_kept;
 pub use directory::Directory;

@@ -21,8 +21,6 @@ mod gate;
 mod reading;
 mod sink;
 mod source;
-#[cfg(test)]
-mod tests;
 mod writing;
 
 pub use from_memory::{MemSink, MemSource};

@@ -12,5 +12,3 @@ mod truth;
 
 pub use truth::holds;
 
-#[cfg(test)]
-mod tests;

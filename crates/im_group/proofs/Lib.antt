@@ -12,6 +12,5 @@ mod GroupSteps
 mod KeySort
 mod Merging
 mod Parts
-mod Prefixes
 mod QueryLemmas
 pub mod ForCallers

@@ -21,5 +21,3 @@ mod tally;
 pub use cell::Cell;
 pub use partial::Partial;
 
-#[cfg(test)]
-mod tests;

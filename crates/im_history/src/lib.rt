@@ -35,5 +35,3 @@ pub use unit::UnitLike;
 pub use view::View;
 pub use who::{Who, callers_have_numbers};
 
-#[cfg(test)]
-mod tests;

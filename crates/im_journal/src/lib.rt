@@ -10,8 +10,6 @@
 
 mod first_notes;
 mod journal;
-#[cfg(test)]
-mod tests;
 
 pub use first_notes::first_notes_suffice;
 pub use journal::Journal;

@@ -17,5 +17,3 @@ mod lexing;
 pub use bytes::{begins_comment, behind, is_blank};
 pub use lexing::{LexFault, tokens};
 
-#[cfg(test)]
-mod tests;

@@ -26,7 +26,3 @@ pub use fault::NameFault;
 pub use resolved::Resolved;
 pub use statements::resolve;
 
-#[cfg(test)]
-mod samples;
-#[cfg(test)]
-mod tests;

@@ -24,5 +24,3 @@ mod values;
 
 pub use parsing::{ParseFault, one_spelling, parse, parse_for};
 
-#[cfg(test)]
-mod tests;

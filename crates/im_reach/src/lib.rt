@@ -14,5 +14,3 @@ mod sole;
 pub use reach::Reach;
 pub use sole::Sole;
 
-#[cfg(test)]
-mod tests;

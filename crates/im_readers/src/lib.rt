@@ -19,5 +19,3 @@ pub use halt::Halt;
 pub use lists::{list, list_up_to};
 pub use part::Part;
 
-#[cfg(test)]
-mod tests;

@@ -25,6 +25,3 @@ pub use records::Records;
 pub use reply::Reply;
 pub use served::{How, Served};
 pub use task::{Built, Ending};
-
-#[cfg(test)]
-mod tests;

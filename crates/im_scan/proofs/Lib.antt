@@ -1,5 +1,4 @@
 mod SlotLemmas
-mod TestLemmas
 mod FitLemmas
 mod PartLemmas
 mod PinLemmas

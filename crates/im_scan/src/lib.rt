@@ -24,5 +24,3 @@ pub use merging::parts_are_one_answer;
 pub use parts::part;
 pub use pinned::{face, how};
 
-#[cfg(test)]
-mod tests;

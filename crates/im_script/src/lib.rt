@@ -21,5 +21,3 @@ pub use line::{Line, LineKind};
 pub use reading::line_of;
 pub use script::{lines, one_kind};
 
-#[cfg(test)]
-mod tests;

@@ -31,5 +31,3 @@ pub use im_words::Word;
 pub use status::Status;
 pub use top::run;
 
-#[cfg(test)]
-mod tests;

@@ -41,5 +41,3 @@ pub use table::{ColumnPart, KindWord, MemoryPart};
 pub use token::{Sign, Token};
 pub use word::{is_name, is_word, is_word_byte};
 
-#[cfg(test)]
-mod tests;

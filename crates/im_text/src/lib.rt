@@ -19,5 +19,3 @@ mod tasks;
 
 pub use replies::reply;
 
-#[cfg(test)]
-mod tests;

@@ -17,8 +17,6 @@ mod logged;
 mod pass;
 mod rule;
 mod share;
-#[cfg(test)]
-mod tests;
 mod turn;
 mod view;
 

@@ -16,8 +16,6 @@ mod cursor;
 mod locks;
 mod session;
 mod sessions;
-#[cfg(test)]
-mod tests;
 
 pub use agreement::agreement_is_kept;
 pub use cursor::Cursor;

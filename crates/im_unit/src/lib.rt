@@ -14,5 +14,3 @@ mod unit;
 
 pub use unit::ColumnUnit;
 
-#[cfg(test)]
-mod tests;

@@ -31,5 +31,3 @@ pub use steps::Steps;
 pub use truth::Truth;
 pub use value::Value;
 
-#[cfg(test)]
-mod tests;

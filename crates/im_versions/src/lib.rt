@@ -8,8 +8,6 @@
 #![tactic(auto)]
 
 mod chain;
-#[cfg(test)]
-mod tests;
 mod version;
 
 pub use chain::Chain;

@@ -15,8 +15,6 @@ mod fault;
 mod mode;
 mod read;
 mod setting;
-#[cfg(test)]
-mod tests;
 mod word;
 
 pub use asked::Asked;

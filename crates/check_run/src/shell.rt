@@ -1,0 +1,218 @@
+ghost use Rattle.std.specs.Prelude.{◌≡◌, ◌<◌};
+
+use im_edge::{MemSink, MemSource, OpenGate};
+use im_shell::{Status, Word, run};
+use im_values::Steps;
+use std::alloc::Global;
+use std::marker::Brand;
+use std::process::Abort;
+use std::sync::Wait;
+use std::sync::ledger::{Blank, Ledger};
+use std::test::Fail;
+use std::thread::Threads;
+
+/// A script of two rows, which is played with faults.
+const TWO_ROWS: &str =
+    "1> CREATE TABLE T (K NUMBER)\n1> INSERT INTO T VALUES (10)\n1> INSERT INTO T VALUES (20)\n\
+    1> COMMIT\n1> SELECT COUNT(*) FROM T";
+
+const TWO_ROWS_TEXT: &str =
+    "1,created,1,1\n2,inserted,1,0\n3,inserted,1,1\n4,committed,2\n5,answer,2,1\n5,row,2\n";
+
+/// A script whose last line goes on with more rows, up to the most changes that a transaction may have and past them.
+const CHANGES_BEFORE_THE_LIMIT: &str =
+    "1> CREATE TABLE T (K NUMBER)\n1> INSERT INTO T VALUES (1), (2)\n1> INSERT INTO T VALUES (3)";
+
+/// A comment of sixteen bytes.
+const SIXTEEN: &str = "-- fifteen here\n";
+
+/// A script, in which pieces it is read and written, which calls fail, and what comes of it.
+#[derive(Clone, Copy)]
+struct Case<'a> {
+    script: &'a str,
+    read_piece: usize,
+    read_fails: u64,
+    write_piece: usize,
+    write_fails: u64,
+    status: Status,
+    text: &'a str,
+}
+
+/// A script that meets no fault.
+fn plain<'a>(script: &'a str, text: &'a str) -> Case<'a> {
+    Case {
+        script,
+        read_piece: 7,
+        read_fails: 0,
+        write_piece: 5,
+        write_fails: 0,
+        status: Status::Done,
+        text,
+    }
+}
+
+fn one_call(alloc: Global, number: u64) -> Result<Vec<u64>, Fail> {
+    let mut calls = Vec::new(alloc);
+    if number > 0 {
+        calls.push(number)?;
+    }
+    Ok(calls)
+}
+
+fn words(alloc: Global, texts: &[&str]) -> Result<Vec<Word>, Fail> {
+    let mut words = Vec::new(alloc);
+    for text in texts {
+        words.push(Word::of(String::from_str(alloc, text)?))?;
+    }
+    Ok(words)
+}
+
+/// Runs a case, and answers its status and the text that was taken.
+fn outcome<R: Threads + Wait + Sync, L: Ledger>(
+    rt: &R,
+    alloc: Global,
+    command: &[&str],
+    case: &Case,
+    blank: Blank,
+) -> Result<(Status, Vec<u8>), Fail>
+    requires name { blank.name ≡ L.name }
+    requires parts { blank.parts ≡ L.parts }
+    requires some { 0 < blank.parts }
+    requires read { 0 < case.now.read_piece }
+    requires write { 0 < case.now.write_piece }
+{
+    let script = Vec::from_slice(alloc, case.script.as_bytes())?;
+    let mut source = MemSource::new(script, case.read_piece, one_call(alloc, case.read_fails)?);
+    let mut sink = MemSink::new(alloc, case.write_piece, one_call(alloc, case.write_fails)?);
+    sink.push_room(65536)?;
+    let words = words(alloc, command)?;
+    let mut steps = Steps::<L>::new(blank);
+    let status = run(
+        rt,
+        alloc,
+        words.as_slice(),
+        &mut source,
+        &mut sink,
+        &OpenGate,
+        &mut steps,
+    );
+    Ok((status, Vec::from_slice(alloc, sink.taken())?))
+}
+
+/// Runs a command on a case, and compares its status and text.
+fn check<R: Abort + Threads + Wait + Sync>(
+    rt: &R,
+    alloc: Global,
+    command: &[&str],
+    case: &Case,
+) -> Result<(), Fail> {
+    assert!(rt; case.read_piece > 0 && case.write_piece > 0);
+    let (status, text) = outcome::<R, Brand>(rt, alloc, command, case, Blank::new(1))?;
+    assert_eq!(rt; status, case.status);
+    assert_eq!(rt; text.as_slice(), case.text.as_bytes());
+    Ok(())
+}
+
+/// A text followed by so many copies of a piece.
+fn followed_by(alloc: Global, text: &str, piece: &str, count: usize) -> Result<String, Fail> {
+    let mut text = String::from_str(alloc, text)?;
+    for _ in 0..count {
+        text.push_str(piece)?;
+    }
+    Ok(text)
+}
+
+#[test]
+fn what_passes_a_limit_is_told_with_its_values(rt: HostRuntime) -> Result<(), Fail> {
+    let alloc = rt.alloc();
+    let cases = [
+        // A line may have 1,048,576 bytes.
+        (
+            followed_by(alloc, "--", "-", 1_048_575)?,
+            "1,error,02,line-too-long,1048577\n",
+        ),
+        (followed_by(alloc, "--", "-", 1_048_574)?, ""),
+        // A transaction may have 65,536 changes, and a refused statement keeps none.
+        (
+            followed_by(alloc, CHANGES_BEFORE_THE_LIMIT, ", (0)", 65_534)?,
+            "1,created,1,1\n2,inserted,2,0\n3,error,17,too-many-changes,65535,65534\n",
+        ),
+        (
+            followed_by(alloc, CHANGES_BEFORE_THE_LIMIT, ", (0)", 65_533)?,
+            "1,created,1,1\n2,inserted,2,0\n3,inserted,65534,2\n",
+        ),
+    ];
+    for (script, text) in &cases {
+        let case = Case {
+            read_piece: 4096,
+            ..plain(script.as_str(), text)
+        };
+        check(&rt, alloc, &["ime", "run"], &case)?;
+    }
+    Ok(())
+}
+
+#[test]
+fn a_script_that_is_too_long_is_not_played(rt: HostRuntime) -> Result<(), Fail> {
+    let script = followed_by(rt.alloc(), "", SIXTEEN, 1_048_577)?;
+    let case = Case {
+        read_piece: 65_536,
+        status: Status::ScriptTooLong,
+        ..plain(script.as_str(), "")
+    };
+    check(&rt, rt.alloc(), &["ime", "run"], &case)
+}
+
+#[test]
+fn a_table_past_the_sixty_fourth_is_refused(rt: HostRuntime) -> Result<(), Fail> {
+    let alloc = rt.alloc();
+    let mut script = String::new(alloc);
+    let mut text = String::new(alloc);
+    for number in 1..65 {
+        script.push_str(&format!(in alloc; "1> CREATE TABLE T{number} (K NUMBER)\n")?)?;
+        text.push_str(&format!(in alloc; "{number},created,{number},{number}\n")?)?;
+    }
+    script.push_str("1> CREATE TABLE T (K NUMBER)\n1> COMMIT\n")?;
+    text.push_str("65,error,08,too-many-tables,64\n66,committed,65\n")?;
+    check(
+        &rt,
+        alloc,
+        &["ime", "run"],
+        &plain(script.as_str(), text.as_str()),
+    )
+}
+
+#[test]
+fn a_fault_of_the_source_or_the_sink_ends_a_run(rt: HostRuntime) -> Result<(), Fail> {
+    let cases = [
+        plain(TWO_ROWS, TWO_ROWS_TEXT),
+        Case {
+            read_piece: 4,
+            read_fails: 2,
+            status: Status::ReadFault,
+            ..plain(TWO_ROWS, "")
+        },
+        Case {
+            write_fails: 3,
+            status: Status::WriteFault,
+            ..plain(TWO_ROWS, "1,created,")
+        },
+    ];
+    for case in &cases {
+        check(&rt, rt.alloc(), &["ime", "run"], case)?;
+    }
+    Ok(())
+}
+
+#[test]
+fn wrong_words_are_told(rt: HostRuntime) -> Result<(), Fail> {
+    let commands: [&[&str]; 4] = [&[], &["ime"], &["ime", "walk"], &["ime", "run", "run"]];
+    for command in commands {
+        let case = Case {
+            status: Status::Usage,
+            ..plain(TWO_ROWS, "")
+        };
+        check(&rt, rt.alloc(), command, &case)?;
+    }
+    Ok(())
+}

@@ -1,5 +1,0 @@
-use Rattle.im_shell.proofs.tests.check.Given as goal
-
--- the ledger of each count is the blank's
-abbrev pub ghosts-outcome : goal.ghosts-outcome
-ghosts-outcome g a = record { name = a.blank.name; parts = a.blank.parts }
