@@ -39,7 +39,7 @@ pub const MOST_ROWS: u64 = MOST_WEIGHT / CHANGE_WEIGHT;
 /// The most levels of NOT and parentheses in a condition.
 pub const MOST_LEVELS: u32 = 64;
 
-/// The most letters, digits and underscores of a word.
+/// The most bytes of a word.
 pub const MOST_WORD_BYTES: usize = 128;
 
 /// The most bytes of a line without its end.
