@@ -37,7 +37,7 @@ use Rattle.im_replies.specs.declared.fault.Fault.{Fault}
 use Rattle.im_replies.specs.declared.fault.Fault.TheVariants as fault
 use Rattle.im_replies.specs.declared.reply.Reply.{Reply}
 use Rattle.im_shell.specs.Turns.{answer_at, refusal, look, unless_refused, or_refused, decide, memory_reply, scan, end_scan, settled_reply}
-use Rattle.im_replies.specs.Causes.{fault_of, creation_fault}
+use Rattle.im_replies.specs.Causes.{creation_fault, fault_of, name_fault}
 
 -- ---- statements of one entry
 

@@ -10,10 +10,10 @@ pin-requires-clause-within g c =
 
 pub write-written-requires-clause-may : goal.write-written-requires-clause-may
 write-written-requires-clause-may g c =
-    may-update _ c.open_cursor.new.self c.pin.new.self c.args.who c.args.rid c.in-Ok.row c.in_ok-view.view c.as_slice.result.now c.in-Ok-change.changes.items
+    may-update _ c.open_cursor.new.self c.pin.new.self c.args.who c.args.rid c.in-Ok.row c.in_ok-view.view c.items.result.now c.in-Ok-change.changes.items
     c.in_ok-pin.pin.fetched
     (record { added = c.in_ok-view.ensures.ok; allowed = c.in_ok-view.ensures.allowed; view_is = c.in_ok-view.ensures.view })
-    c.as_slice.ensures (sym c.is_empty.ensures ∙ c.if-not-is_empty.false)
+    c.items.ensures (sym c.is_empty.ensures ∙ c.if-not-is_empty.false)
     (rw c.in_ok-takes.ensures.same (rw c.if-not-branch.false at c.in_ok-takes.ensures.takes)) c.in_ok-pin.ensures.same c.in_ok-pin.ensures.fetched
     c.if-not-stands.ensures c.in-Ok-change.ensures
 
