@@ -92,9 +92,9 @@ pub own-offer : (limits : Limits) (old new : Seen) (who table extent : ℕ) (tri
     → IsOffer old who table extent trickle (offer.Task task) new → IsOwn new.log who task
 own-offer limits old new who table extent trickle task legal began = record {
   held = held;
-  is = ap (λ (s : Seen). held_at s.log task.id) (began.1).1 ∙ (ap (λ (t : Task). held_at grown t.id) (began.1).0 ∙ at_next);
+  is = ap (λ (s : Seen). held_at s.log task.id) began.2 ∙ (ap (λ (t : Task). held_at grown t.id) began.1 ∙ at_next);
   mine = refl;
-  same = sym (began.1).0;
+  same = sym began.1;
 }
   where
     n : ℕ
