@@ -1,6 +1,6 @@
-use im_replies::{Body, Fault, Records, Reply};
 use im_group::Cell;
 use im_history::Why;
+use im_replies::{Body, Fault, Records, Reply};
 use std::test::Fail;
 
 #[test]

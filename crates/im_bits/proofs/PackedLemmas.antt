@@ -30,9 +30,9 @@ word_of-push width [] code = rw (zero-mul (2 ^ width), zero-mul width) (omega ar
 word_of-push width (first ∷ codes) code =
     let more = word_of-push width codes code in
     let power : 2 ^ (length (first ∷ codes) * width) ≡ 2 ^ (length codes * width) * 2 ^ width =
-        ap (λ k. 2 ^ k) (omega (arith, suc-mul (length codes) width)) ∙ pow-add 2 (length codes * width) width in
+    ap (λ k. 2 ^ k) (omega (arith, suc-mul (length codes) width)) ∙ pow-add 2 (length codes * width) width in
     rw (more, power, add-mul (word_of width codes) (code * 2 ^ (length codes * width)) (2 ^ width), mul_assoc code (2 ^ (length codes * width)) (2 ^ width))
-        (omega arith)
+    (omega arith)
 
 -- a word of fitting codes has no more bits than they have
 pub word_of-below : (width : ℕ) (codes : List ℕ) → All (λ code. code < 2 ^ width) codes → word_of width codes < 2 ^ (length codes * width)
@@ -41,7 +41,7 @@ word_of-below width (code ∷ codes) fit =
     let rest = word_of-below width codes (All-tail (λ c. c < 2 ^ width) code codes fit) in
     let here = All-head (λ c. c < 2 ^ width) code codes fit in
     let power : 2 ^ (length (code ∷ codes) * width) ≡ 2 ^ width * 2 ^ (length codes * width) = ap (λ k. 2 ^ k) (omega (arith, suc-mul (length codes) width))
-        ∙ pow-add 2 width (length codes * width) in
+    ∙ pow-add 2 width (length codes * width) in
     rw power (omega (arith, mul-add-lt (word_of width codes) (2 ^ width) code (2 ^ (length codes * width)) rest here))
 
 -- the field at a place of a word is the code at that place
@@ -56,8 +56,13 @@ field-word_of width (code ∷ codes) (suc j) fit =
     let rest = field-word_of width codes j (All-tail (λ c. c < 2 ^ width) code codes fit) in
     let place : suc j * width ≡ width + j * width = omega (arith, suc-mul j width) in
     let up : (code + word_of width codes * 2 ^ width) / 2 ^ (suc j * width) ≡ word_of width codes / 2 ^ (j * width) =
-    rw (place, add_comm code (word_of width codes * 2 ^ width), ← shr-shr (word_of width codes * 2 ^ width + code) width (j * width), shr_high
-        (word_of width codes) width code here) refl in
+    rw (
+      place,
+      add_comm code (word_of width codes * 2 ^ width),
+      ← shr-shr (word_of width codes * 2 ^ width + code) width (j * width),
+      shr_high
+          (word_of width codes) width code here,
+    ) refl in
     rw up rest
 
 pub words_for-is : (n width : ℕ) → 0 < width → words_for n width ≡ div_ceil n (codes_per_word width)
@@ -117,10 +122,19 @@ word_of-more width codes i word code inside few fit so_far is =
     let above : width + i * width ≤ 64 = omega (arith, few, mul-le-mul_right width inside, add-mul i 1 width, suc-mul i width) in
     let whole : code * 2 ^ (i * width) % 18446744073709551616 ≡ code * 2 ^ (i * width) = shl_whole code width (i * width) 64 fits above in
     let below : word < 2 ^ (i * width) =
-        rw so_far (rw (length-take-le i codes (omega arith)) at (word_of-below width (take i codes) (All-take (λ c. c < 2 ^ width) i codes fit))) in
+    rw so_far (rw (length-take-le i codes (omega arith)) at (word_of-below width (take i codes) (All-take (λ c. c < 2 ^ width) i codes fit))) in
     let more = word_of-push width (take i codes) code in
-    rw (whole, or_comm word (code * 2 ^ (i * width)), or_shifted code (i * width) word below, take_more codes i 0 inside, ← is, more, length-take-le i codes
-        (omega arith), ← so_far) (omega arith)
+    rw (
+      whole,
+      or_comm word (code * 2 ^ (i * width)),
+      or_shifted code (i * width) word below,
+      take_more codes i 0 inside,
+      ← is,
+      more,
+      length-take-le i codes
+          (omega arith),
+      ← so_far,
+    ) (omega arith)
 
 -- the code at a place is found in its word
 pub code_in-words_of : (width : ℕ) (codes : List ℕ) (i : ℕ) → 0 < width → width ≤ 32 → All (λ code. code < 2 ^ width) codes → i < length codes →
@@ -164,7 +178,7 @@ pub get-inside : (width : ℕ) (words : List ℕ) (n : ℕ) (codes : List ℕ) (
     words ≡ words_of width (codes_in width words n) → 0 < width → width ≤ 32 → i < length codes → share ≡ codes_per_word width → i / share < length words
 get-inside width words n codes i share is canonical some most inside per =
     let count : length words ≡ words_for (length codes) width = ap length canonical
-        ∙ (length-words_of width (codes_in width words n) ∙ ap (λ l. words_for (length l) width) is) in
+    ∙ (length-words_of width (codes_in width words n) ∙ ap (λ l. words_for (length l) width) is) in
     rw (count, per) (place-inside width (length codes) i some most inside)
 
 -- the field that is read is the code
@@ -175,8 +189,8 @@ get-code width words n codes i share word result is inside per there read field 
     let within : i < n = omega (arith, length-codes_in width words n, ap length is, inside) in
     let at_zero = get_or_read words (i / share) word there read 0 in
     field ∙ (ap (λ w. w / 2 ^ (i % share * width) % 2 ^ width) at_zero
-        ∙ (ap (λ s. slice_index words (i / s) / 2 ^ (i % s * width) % 2 ^ width) per
-        ∙ (sym (get_or-codes_in width words n i 0 within) ∙ ap (λ l. slice_index l i) is)))
+    ∙ (ap (λ s. slice_index words (i / s) / 2 ^ (i % s * width) % 2 ^ width) per
+    ∙ (sym (get_or-codes_in width words n i 0 within) ∙ ap (λ l. slice_index l i) is)))
 
 -- one more word
 pub words_of-more : (width : ℕ) (codes : List ℕ) (k count : ℕ) (words : List ℕ) (word : ℕ) → count ≡ words_for (length codes) width → k < count →

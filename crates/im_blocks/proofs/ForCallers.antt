@@ -98,7 +98,7 @@ pub rows_at_kept : (h : History) (blocks : List (List Versions)) → IsKept h bl
     rows_at blocks table first count n ≡ map (λ rid. (rid, rows h table n rid)) (range_with_len first count)
 rows_at_kept h blocks kept table first count n =
     map_same (λ rid. (rid, row_at (versions_at blocks table rid) n)) (λ rid. (rid, rows h table n rid))
-        (λ rid. ap (λ (row : Option Row). (rid, row)) (rows_kept h blocks kept table rid n))
+    (λ rid. ap (λ (row : Option Row). (rid, row)) (rows_kept h blocks kept table rid n))
     (range_with_len first count)
 
 newest_step : (h : History) (versions : List Version) (who : ℕ) (what : What) (table rid so_far : ℕ) → newest_scn versions ≡ so_far →

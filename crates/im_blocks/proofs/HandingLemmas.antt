@@ -33,7 +33,7 @@ taken false its this scn change same = refl
 -- the chain of the change has taken its row, and each other is as it was
 pub chain_of-after : (scn : ℕ) (change : Change) (blocks : List (List Versions)) (table rid : ℕ) → HasCell blocks change.table change.rid
     → chain_of (blocks_after scn change blocks) table rid ≡ (if is_to table rid change then chain_after scn change.row
-        (chain_of blocks table rid) else chain_of blocks table rid)
+    (chain_of blocks table rid) else chain_of blocks table rid)
 chain_of-after scn change blocks table rid there =
     cell_at-with_cell no_chain blocks change.table change.rid (chain_after scn change.row (chain_of blocks change.table change.rid)) table rid (inl there)
     ∙ taken (is_to table rid change) (chain_of blocks change.table change.rid) (chain_of blocks table rid) scn change
@@ -49,8 +49,8 @@ step_versions false (Some later) old now scn change before is = is
 step_versions true None old now scn change before is =
     let same : now.versions ≡ old = is ∙ append-nil old in
     let differs : (newest_scn now.versions == scn) ≡ false =
-        ne_eqb (newest_scn now.versions) scn (λ e. let here : newest_scn now.versions ≡ newest_scn old =
-        ap newest_scn same in absurd (omega (arith, e, here, before))) in
+    ne_eqb (newest_scn now.versions) scn (λ e. let here : newest_scn now.versions ≡ newest_scn old =
+    ap newest_scn same in absurd (omega (arith, e, here, before))) in
     rw differs (ap (λ (v : List Version). v ++ record { scn = scn; row = change.row } ∷ []) same)
 step_versions true (Some later) old now scn change before is =
     let newest : newest_scn now.versions ≡ scn = ap newest_scn is ∙ newest_scn-version_of old scn (Some later) in
@@ -91,11 +91,11 @@ has_room : (old : List (List Versions)) (left done changes : List Change) (chang
 has_room old left done changes change whole room =
     let long : length (left ++ change ∷ []) ≡ length left + 1 = length_push left change in
     let at : get_or ((left ++ change ∷ []) ++ done) (length left) change ≡ change =
-        get_or_append_left (left ++ change ∷ []) done change (length left) (omega (arith, long)) ∙ get_or_push left change change (length left) refl in
+    get_or_append_left (left ++ change ∷ []) done change (length left) (omega (arith, long)) ∙ get_or_push left change change (length left) refl in
     let longer : length ((left ++ change ∷ []) ++ done) ≡ length (left ++ change ∷ []) + length done = length-append (left ++ change ∷ []) done in
     let inside : length left < length ((left ++ change ∷ []) ++ done) = omega (arith, long, longer) in
     let all : All (λ (c : Change). 0 < (chain_of old c.table c.rid).spare) ((left ++ change ∷ []) ++ done) =
-        subst (λ (l : List Change). All (λ (c : Change). 0 < (chain_of old c.table c.rid).spare) l) whole room.each in
+    subst (λ (l : List Change). All (λ (c : Change). 0 < (chain_of old c.table c.rid).spare) l) whole room.each in
     subst (λ (c : Change). 0 < (chain_of old c.table c.rid).spare) at (all (length left) change inside)
 
 -- so its chain can take its row
@@ -107,14 +107,14 @@ MayTake-next old now scn left changes change room before handed =
     let earlier : newest_scn (versions_at old table rid) < scn = before.each table rid in
     let last : Option Change = last_change handed.done table rid in
     let newest : newest_scn (versions_at now table rid) ≡ (if is_some last then scn else newest_scn (versions_at old table rid)) =
-        ap newest_scn (handed.versions table rid) ∙ newest_scn-version_of (versions_at old table rid) scn last in
+    ap newest_scn (handed.versions table rid) ∙ newest_scn-version_of (versions_at old table rid) scn last in
     record {
       some = omega (arith, earlier);
       below = rw newest (newest_by (is_some last) (newest_scn (versions_at old table rid)) scn earlier);
       room = λ (lower : newest_scn (versions_at now table rid) < scn).
           ⊎_elim (λ (touched : is_some last ≡ true).
           let is : newest_scn (versions_at now table rid) ≡ scn = newest
-              ∙ ap (λ (b : Bool). if b then scn else newest_scn (versions_at old table rid)) touched in
+          ∙ ap (λ (b : Bool). if b then scn else newest_scn (versions_at old table rid)) touched in
           absurd (omega (arith, is, lower)))
           (λ (untouched : is_some last ≡ false).
           let same : (chain_of now table rid).spare ≡ (chain_of old table rid).spare = handed.spare table rid (not_some last untouched) in
@@ -139,12 +139,12 @@ Handed-next old now scn left changes change room before handed =
       versions = λ table rid.
           ap (λ (c : Versions). c.versions) (chain_of-after scn change now table rid there)
           ∙ (step_versions (is_to table rid change) (last_change handed.done table rid) (versions_at old table rid) (chain_of now table rid) scn change
-              (before.each table rid) (handed.versions table rid)
+          (before.each table rid) (handed.versions table rid)
           ∙ ap (λ (last : Option Change). versions_at old table rid ++ version_of scn last) (sym (last_change-cons change handed.done table rid)));
       spare = λ table rid none.
           let both =
-              option_or_none (last_change handed.done table rid) (is_to table rid change) change (sym (last_change-cons change handed.done table rid)
-              ∙ none) in
+          option_or_none (last_change handed.done table rid) (is_to table rid change) change (sym (last_change-cons change handed.done table rid)
+          ∙ none) in
           ap (λ (c : Versions). c.spare) (chain_of-after scn change now table rid there)
           ∙ (ap (λ (b : Bool). (if b then chain_after scn change.row (chain_of now table rid) else chain_of now table rid).spare) both.1
           ∙ handed.spare table rid both.0);

@@ -46,7 +46,7 @@ SameVersions-with_cell blocks table rid chain has versions room =
           subst (λ (k : ℕ). (chain_of blocks k r).spare ≤ (chain_of new k r).spare) (sym is.0)
           (subst (λ (k : ℕ). (chain_of blocks table k).spare ≤ (chain_of new table k).spare) (sym is.1) (omega (arith, here_spare, room))))
           (λ (apart : t ≡ table → r ≡ rid → ⊥). let now =
-              ap (λ (c : Versions). c.spare) (cell_at-with_cell_other no_chain blocks table rid chain t r apart) in omega (arith, now))
+          ap (λ (c : Versions). c.spare) (cell_at-with_cell_other no_chain blocks table rid chain t r apart) in omega (arith, now))
           (same_cell table rid t r);
     }
 

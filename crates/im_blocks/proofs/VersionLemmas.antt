@@ -107,7 +107,7 @@ row_at-versions_from versions scn n (changes ∷ later) table rid =
     let one_more : n + 1 - scn ≡ suc (n + 1 - (scn + 1)) = omega arith in
     ap (λ (row : Option Row). left_by_all row (take (n + 1 - (scn + 1)) later) table rid)
     (row_at-version_by versions scn n changes table rid ∙ ap (λ (b : Bool). if b then fold (row_after table rid)
-        (row_at versions n) changes else row_at versions n) (le-leb scn n from))
+    (row_at versions n) changes else row_at versions n) (le-leb scn n from))
     ∙ (sym (fold-append (row_after table rid) (row_at versions n) changes (flat_map (λ c. c) (take (n + 1 - (scn + 1)) later)))
     ∙ ap (λ (k : ℕ). left_by_all (row_at versions n) (take k (changes ∷ later)) table rid) (sym one_more)))
     (cases_lt n scn))
@@ -121,9 +121,9 @@ versions_from-append scn [] later table rid =
 versions_from-append scn (changes ∷ commits) later table rid =
     let same : scn + 1 + length commits ≡ scn + suc (length commits) = omega arith in
     ap (λ (v : List Version). version_by scn changes table rid ++ v) (versions_from-append (scn + 1) commits later table rid
-        ∙ ap (λ (k : ℕ). versions_from (scn + 1) commits table rid ++ versions_from k later table rid) same)
+    ∙ ap (λ (k : ℕ). versions_from (scn + 1) commits table rid ++ versions_from k later table rid) same)
     ∙ sym (append_assoc (version_by scn changes table rid) (versions_from (scn + 1) commits table rid)
-        (versions_from (scn + suc (length commits)) later table rid))
+    (versions_from (scn + suc (length commits)) later table rid))
 
 pub newest_scn-version_of : (versions : List Version) (scn : ℕ) (change : Option Change) →
     newest_scn (versions ++ version_of scn change) ≡ (if is_some change then scn else newest_scn versions)

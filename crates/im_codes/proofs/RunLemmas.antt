@@ -36,7 +36,7 @@ pub codes-swap : (begin : ℕ) (front : List Run) (last run : Run) → AreFull b
 codes-swap begin [] last run full same longer =
     let many : run.end - begin ≡ (last.end - begin) + 1 = omega (arith, full.0) in
     rw (many, append-nil (replicate (last.end - begin + 1) run.code), append-nil (replicate (last.end - begin) last.code), same)
-        (sym (replicate_more (last.end - begin) run.code))
+    (sym (replicate_more (last.end - begin) run.code))
 codes-swap begin (first ∷ front) last run full same longer = rw (codes-swap first.end front last run full.1 same longer, append_assoc) refl
 
 -- so many codes as the place past the last run says
@@ -46,8 +46,11 @@ length-codes_from begin [] last full =
     rw (append-nil (replicate (last.end - begin) last.code), length-replicate (last.end - begin) last.code) (omega (arith, full.0))
 length-codes_from begin (first ∷ front) last full =
     let rest = length-codes_from first.end front last full.1 in
-    rw (length-append (replicate (first.end - begin) first.code) (codes_from first.end (front ++ last ∷ [])), length-replicate
-        (first.end - begin) first.code) (omega (arith, full.0, rest))
+    rw (
+      length-append (replicate (first.end - begin) first.code) (codes_from first.end (front ++ last ∷ [])),
+      length-replicate
+          (first.end - begin) first.code,
+    ) (omega (arith, full.0, rest))
 
 -- the code at a place is that of the first run that ends past it
 pub code-found : (begin : ℕ) (runs : List Run) (i k : ℕ) (d : Run) → AreFull begin runs → begin ≤ i → i - begin < length (codes_from begin runs) →
@@ -56,19 +59,23 @@ pub code-found : (begin : ℕ) (runs : List Run) (i k : ℕ) (d : Run) → AreFu
 code-found begin [] i k d full past inside below above = absurd (omega (arith, inside))
 code-found begin (run ∷ runs) i zero d full past inside below above =
     let here : i < run.end = above 0 run (omega arith) (omega arith) in
-    let size = length-replicate (run.end - begin) run.code in
-    (omega arith, get_or_append_left (replicate (run.end - begin) run.code) (codes_from run.end runs) 0 (i - begin) (omega (arith, size))
-        ∙ get_or-replicate (run.end - begin) (i - begin) run.code 0 (omega (arith, here, full.0)))
+    let size = length-replicate (run.end - begin) run.code in (
+      omega arith,
+      get_or_append_left (replicate (run.end - begin) run.code) (codes_from run.end runs) 0 (i - begin) (omega (arith, size))
+          ∙ get_or-replicate (run.end - begin) (i - begin) run.code 0 (omega (arith, here, full.0)),
+    )
 code-found begin (run ∷ runs) i (suc k) d full past inside below above =
     let gone : run.end ≤ i = below 0 run (omega arith) in
     let size = length-replicate (run.end - begin) run.code in
     let whole = length-append (replicate (run.end - begin) run.code) (codes_from run.end runs) in
     let left : i - begin - (run.end - begin) ≡ i - run.end = omega (arith, full.0) in
     let rest =
-        code-found run.end runs i k d full.1 gone (omega (arith, inside, size, whole, full.0)) (λ j e h. below (suc j) e (omega arith))
-        (λ j e h l. above (suc j) e (omega arith) (omega arith)) in
-    (omega (arith, rest.0), get_or-append_right (replicate (run.end - begin) run.code) (codes_from run.end runs) (run.end - begin) (i - begin) 0 size
-        (omega (arith, full.0)) ∙ (ap (λ n. get_or (codes_from run.end runs) n 0) left ∙ rest.1))
+    code-found run.end runs i k d full.1 gone (omega (arith, inside, size, whole, full.0)) (λ j e h. below (suc j) e (omega arith))
+    (λ j e h l. above (suc j) e (omega arith) (omega arith)) in (
+      omega (arith, rest.0),
+      get_or-append_right (replicate (run.end - begin) run.code) (codes_from run.end runs) (run.end - begin) (i - begin) 0 size
+          (omega (arith, full.0)) ∙ (ap (λ n. get_or (codes_from run.end runs) n 0) left ∙ rest.1),
+    )
 
 -- codes equal to the one before begin no run
 run_count_after-same : (n code : ℕ) (rest : List ℕ) → run_count_after code (replicate n code ++ rest) ≡ run_count_after code rest
@@ -81,8 +88,13 @@ count-runs_after begin code [] before is full apart = refl
 count-runs_after begin code (run ∷ runs) before is full apart =
     let size : run.end - begin ≡ suc (run.end - begin - 1) = omega (arith, full.0) in
     let other : (run.code == code) ≡ false = ne_eqb run.code code (λ same. apart.0 (is ∙ sym same)) in
-    rw (size, other, run_count_after-same (run.end - begin - 1) run.code
-        (codes_from run.end runs), count-runs_after run.end run.code runs run refl full.1 apart.1) (omega arith)
+    rw (
+      size,
+      other,
+      run_count_after-same (run.end - begin - 1) run.code
+          (codes_from run.end runs),
+      count-runs_after run.end run.code runs run refl full.1 apart.1,
+    ) (omega arith)
 
 -- each run ends past where the first begins
 later-end : (begin : ℕ) (runs : List Run) → AreFull begin runs → (j : ℕ) (d : Run) → j < length runs → begin < (get_or runs j d).end
@@ -134,8 +146,8 @@ pub run-partitioned : (runs : List Run) (i k : ℕ) → AreRuns runs → i < len
 run-partitioned runs i k longest inside point =
     let whole : i - 0 ≡ i = omega arith in
     let found : (d : Run) → (k < length runs) × (get_or (codes_of runs) (i - 0) 0 ≡ (get_or runs k d).code) =
-        λ d. code-found 0 runs i k d longest.full (omega arith) (omega (arith, inside)) (λ j e h. leb-true _ _ (point.0 j e (omega arith) h))
-        (λ j e h l. leb-false _ _ (point.1 j e h l)) in
+    λ d. code-found 0 runs i k d longest.full (omega arith) (omega (arith, inside)) (λ j e h. leb-true _ _ (point.0 j e (omega arith) h))
+    (λ j e h l. leb-false _ _ (point.1 j e h l)) in
     record {
       inside = (found (record { code = 0; end = 0 })).0;
       code = λ d. ap (λ n. get_or (codes_of runs) n 0) (sym whole) ∙ (found d).1;

@@ -26,4 +26,3 @@ mod writes;
 pub use answers::{Begun, Committed, Evicted, Made, Offer, Pin, Switched, Wrote};
 pub use fetched::Fetched;
 pub use store::Core;
-

@@ -67,8 +67,8 @@ module _ {U : Type 0} (content : U → Content) where
       IsStock content (h ++ record { who = who; what = what } ∷ []) table extent stock
   stock_left h who what old table extent stock quiet agrees is =
       let was =
-          found_by (drops table extent what) None (told_at old table extent).current stock refl
-          (sym (ap_if current_of (drops table extent what) _ (told_at old table extent)) ∙ is) in
+      found_by (drops table extent what) None (told_at old table extent).current stock refl
+      (sym (ap_if current_of (drops table extent what) _ (told_at old table extent)) ∙ is) in
       IsStock-quiet content h (record { who = who; what = what }) table extent stock quiet (agrees.stock table extent stock was.1)
 
   growth_left : (h : History) (who : ℕ) (what : What) (old : Kept U) (table extent : ℕ) (growth : Growth) → is_plain what ≡ true → is_quiet what ≡ true →
@@ -77,8 +77,8 @@ module _ {U : Type 0} (content : U → Content) where
   growth_left h who what old table extent growth plain quiet agrees is =
       let entry : Entry = record { who = who; what = what } in
       let was =
-          found_by (drops table extent what) None (told_at old table extent).growing growth refl
-          (sym (ap_if growing_of (drops table extent what) _ (told_at old table extent)) ∙ is) in
+      found_by (drops table extent what) None (told_at old table extent).growing growth refl
+      (sym (ap_if growing_of (drops table extent what) _ (told_at old table extent)) ∙ is) in
       let kept = agrees.growth table extent growth was.1 in
       IsGrowth-quiet content h entry table extent growth kept (killed_by (length h) what kept.held) quiet
       (held_at-plain h entry growth.id plain ∙ ap (option_map (killed_by (length h) what)) kept.is)
@@ -90,7 +90,7 @@ module _ {U : Type 0} (content : U → Content) where
       let entry : Entry = record { who = who; what = what } in
       let killing = IsKilling-dropped old new (length h) what dropped in
       let long : length (map (option_map (killed_by (length h) what)) old.builds) ≡ length old.builds =
-          length-map old.builds (option_map (killed_by (length h) what)) in
+      length-map old.builds (option_map (killed_by (length h) what)) in
       record {
         numbered = ap length dropped.builds ∙ (long ∙ (agrees.numbered ∙ sym (builds-plain h entry plain)));
         sound = IsSound-killed old new (length h) what killing agrees.sound;

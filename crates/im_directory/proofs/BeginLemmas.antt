@@ -46,12 +46,12 @@ module _ {U : Type 0} (content : U → Content) where
         let long = number_is in
         let none : held_at h other ≡ None = sym (begins.agrees.held other) ∙ build_past old.builds other (omega (arith, same, long)) in
         sym (or_second (held_at h other) _ none ∙ ap (λ (c : Bool). if c then Some (next_build h who table extent trickle) else None)
-            (eq-eqb (builds h + 1) other (sym same)))
+        (eq-eqb (builds h + 1) other (sym same)))
     held_by false other is =
         let apart = eqb-false other (builds h + 1) is in
         begins.agrees.held other
         ∙ sym (ap (λ (c : Bool). option_or (held_at h other) (if c then Some (next_build h who table extent trickle) else None))
-            (ne_eqb (builds h + 1) other (λ e. apart (sym e))) ∙ or_none_after (held_at h other))
+        (ne_eqb (builds h + 1) other (λ e. apart (sym e))) ∙ or_none_after (held_at h other))
 
     held_begun : (other : ℕ) → build_in new other ≡ held_at (after_begin h who table extent trickle) other
     held_begun other =
@@ -76,7 +76,7 @@ module _ {U : Type 0} (content : U → Content) where
           is = sym (held_begun (builds h + 1))
               ∙ (started.builds (builds h + 1)
               ∙ ap (λ (c : Bool). if c then Some (next_build h who table extent trickle) else build_in old (builds h + 1))
-                  (eq-eqb (builds h + 1) (builds h + 1) refl));
+              (eq-eqb (builds h + 1) (builds h + 1) refl));
           journal = IsJournal-begun h (record { who = who; what = Build (builds h + 1) table extent trickle }) t e refl exists;
         })
     growth_by false t e growth off is =
@@ -101,12 +101,12 @@ module _ {U : Type 0} (content : U → Content) where
           living = λ t e.
               started.living t e
               ∙ (ap (λ (n : Option ℕ). if is_on t e (next_build h who table extent trickle) then Some (builds h + 1) else n) (begins.agrees.living t e)
-                  ∙ sym (living-push h entry t e));
+              ∙ sym (living-push h entry t e));
           stock = λ t e stock is. IsStock-quiet content h entry t e stock refl (begins.agrees.stock t e stock (sym (current_same t e) ∙ is));
           growth = λ t e growth is.
               growth_by (is_on t e (next_build h who table extent trickle)) t e growth refl
               (sym (ap_if (λ (told : Told U). told.growing) (is_on t e (next_build h who table extent trickle)) _ (told_at old t e))
-                  ∙ (sym (ap (λ (told : Told U). told.growing) (begins.begun.slots t e)) ∙ is));
+              ∙ (sym (ap (λ (told : Told U). told.growing) (begins.begun.slots t e)) ∙ is));
         }
 
   pub Agrees-begin : (h : History) (who table extent : ℕ) (trickle : Bool) (held : Held) (old new : Kept U) → Agrees content h old → Exists h table →

@@ -17,7 +17,7 @@ count-ended builds place is =
     (cases_lt place (length builds)) in
     let held : one ≡ 1 = ap (λ b. if b then 1 else 0) is in
     let moved : count_by is_some (set builds place None) + one ≡ count_by is_some builds + 0 =
-        sum_by-set (λ (b : Option Held). if is_some b then 1 else 0) builds place None None inside in
+    sum_by-set (λ (b : Option Held). if is_some b then 1 else 0) builds place None None inside in
     omega (arith, held, moved)
 
 -- the held build of a number stands one place before

@@ -24,5 +24,5 @@ pub count-killed : (builds : List (Option Held)) (f : Held → Held) → count_b
 count-killed [] f = refl
 count-killed (b ∷ builds) f =
     let here : ◌≡◌ {A = ℕ} (if is_some (option_map f b) then 1 else 0) (if is_some b then 1 else 0) =
-        ap (λ (there : Bool). if there then 1 else 0) (same_some f b) in
+    ap (λ (there : Bool). if there then 1 else 0) (same_some f b) in
     omega (arith, sum_by-cons counted (option_map f b) (map (option_map f) builds), sum_by-cons counted b builds, count-killed builds f, here)

@@ -57,7 +57,7 @@ killed_next : (place table k : ℕ) (held : Held) → killed_by place (Evict tab
 killed_next place table k held =
     let now : Held = killed_upto place table k held in
     ap (λ (t : Task). if (table == t.table) && (k == t.extent) then killed_at place now else now)
-        (same_task ((table == held.task.table) && nat_lt held.task.extent k) place held)
+    (same_task ((table == held.task.table) && nat_lt held.task.extent k) place held)
     ∙ (either_killed (table == held.task.table) (k == held.task.extent) (nat_lt held.task.extent k) place held
     ∙ ap (λ (b : Bool). if (table == held.task.table) && b then killed_at place held else held) (sym (one_more k held.task.extent)))
 
@@ -135,10 +135,10 @@ module _ {U : Type 0} where
   killed_all true false old place table n id held long sound build is past =
       let same : table ≡ held.task.table = eqb-true table held.task.table is in
       let none : told_at old held.task.table held.task.extent ≡ gone = ap (λ (k : ℕ). told_at old k held.task.extent) (sym same)
-          ∙ told_past old table held.task.extent n long (ltb-false held.task.extent n past) in
+      ∙ told_past old table held.task.extent n long (ltb-false held.task.extent n past) in
       let dead : held.killed ≡ None → ⊥ =
-          λ alive. false≢true (sym (ap (λ (x : Told U). is_some (option_map (λ (g : Growth). g.id) x.growing)) none)
-          ∙ ap is_some (sound.lives id held build alive)) in
+      λ alive. false≢true (sym (ap (λ (x : Told U). is_some (option_map (λ (g : Growth). g.id) x.growing)) none)
+      ∙ ap is_some (sound.lives id held build alive)) in
       sym (killed_again place held dead)
   killed_all false b old place table n id held long sound build is below = refl
 

@@ -56,7 +56,7 @@ on_sides : (held : Held) (table extent : ℕ) → is_on_by held table extent ≡
 on_sides held table extent on =
     let parts = and_parts _ _ on in
     and_from _ _ (eq-eqb held.task.table table (sym (eqb-true table held.task.table parts.0)))
-        (eq-eqb held.task.extent extent (sym (eqb-true extent held.task.extent parts.1)))
+    (eq-eqb held.task.extent extent (sym (eqb-true extent held.task.extent parts.1)))
 
 sides_on : (held : Held) (table extent : ℕ) → is_on table extent held ≡ true → is_on_by held table extent ≡ true
 sides_on held table extent on =
@@ -147,7 +147,7 @@ module _ {U : Type 0} where
         ap told (slot_at-changed (slot_begun held.task.id) mid held.task.table held.task.extent table extent (inl place))
         ∙ (ap_if told (is_on table extent held) (slot_begun held.task.id (slot_at mid table extent)) (slot_at mid table extent)
         ∙ ap (λ (t : Told U). if is_on table extent held then record t { growing = Some (record { id = held.task.id; notes = [] }) } else t)
-            (ap told (keeps.each table extent)));
+        (ap told (keeps.each table extent)));
     builds = refl;
   }
 
@@ -171,7 +171,7 @@ module _ {U : Type 0} where
         ap (λ (s : List (List (Slot U))). told (slot_at s table extent)) made
         ∙ (told_changed (slot_switched unit) old held table extent refl
         ∙ ap (λ (c : Option (Stock U)). if is_on table extent held then told_of c None else told (slot_at old table extent))
-            (grown_current unit (slot_at old table extent).growing));
+        (grown_current unit (slot_at old table extent).growing));
     builds = ended ∙ ap (λ (k : ℕ). set builds (k - 1) None) (sym number);
   }
 
@@ -183,7 +183,7 @@ module _ {U : Type 0} where
   cancelled_by false kept held table extent sound is off =
       ap (told_of (told_at kept table extent).current)
       (sym (unless_of-other held.task.id (told_at kept table extent).growing
-          (λ living. false≢true (sym off ∙ living_on kept table extent held.task.id held sound is living))))
+      (λ living. false≢true (sym off ∙ living_on kept table extent held.task.id held sound is living))))
 
   pub IsCancelled-made : (old after : List (List (Slot U))) (builds new : List (Option Held)) (id : ℕ) (held : Held) → IsSound (kept_of old builds) →
       build_among builds id ≡ Some held → after ≡ slots_with (slot_cancelled id) held.task.table held.task.extent old → new ≡ set builds (id - 1) None →

@@ -35,7 +35,7 @@ module _ {U : Type 0} (content : U → Content) where
   growth_kept h entry old table extent id growth quiet agrees held apart is =
       let kept = agrees.growth table extent growth is in
       IsGrowth-quiet content h entry table extent growth kept kept.held quiet (held
-          ∙ (ap (λ (b : Bool). if b then None else held_at h growth.id) apart ∙ kept.is)) refl
+      ∙ (ap (λ (b : Bool). if b then None else held_at h growth.id) apart ∙ kept.is)) refl
 
   -- ---- without its unit
 
@@ -59,8 +59,8 @@ module _ {U : Type 0} (content : U → Content) where
             IsStock-quiet content h entry t e stock refl (agrees.stock t e stock (sym (ap (λ (told : Told U). told.current) (cancelled.slots t e)) ∙ found));
         growth = λ t e growth found.
             let left =
-                left_of id (told_at old t e).growing growth (ap (λ (k : ℕ). unless_of k (told_at old t e).growing) (sym number)
-                ∙ (sym (ap (λ (told : Told U). told.growing) (cancelled.slots t e)) ∙ found)) in
+            left_of id (told_at old t e).growing growth (ap (λ (k : ℕ). unless_of k (told_at old t e).growing) (sym number)
+            ∙ (sym (ap (λ (told : Told U). told.growing) (cancelled.slots t e)) ∙ found)) in
             growth_kept h entry old t e id growth refl agrees (held_at-cancel h who id full growth.id) left.0 left.1;
       }
 
@@ -113,7 +113,7 @@ module _ {U : Type 0} (content : U → Content) where
         let parts = on_parts t e held on in
         let same : record { unit = unit; notes = kept.growth.notes } ≡ stock = some_same _ _ (sym (ap (grown unit) kept.is) ∙ found) in
         let here : content_at h held.task.table held.task.extent held.task.scn ≡ content_at h t e held.task.scn =
-            ap₂ (λ (table extent : ℕ). content_at h table extent held.task.scn) parts.0 parts.1 in
+        ap₂ (λ (table extent : ℕ). content_at h table extent held.task.scn) parts.0 parts.1 in
         subst (λ (s : Stock U). IsStock content (h ++ entry ∷ []) t e s) same (record {
           holds = switches.holds
               ∙ (here
@@ -130,8 +130,11 @@ module _ {U : Type 0} (content : U → Content) where
     growth_by false t e growth off found =
         let apart : growth.id ≡ id → ⊥ = λ same.
         false≢true (sym off ∙ living_on old t e id held switches.agrees.sound build_is (ap (option_map (λ (g : Growth). g.id)) found ∙ ap Some same)) in
-        growth_kept h (record { who =
-            who; what = Switch id }) old t e id growth refl switches.agrees (held_at-switch h who id growth.id) (ne_eqb growth.id id apart) found
+        growth_kept h (record {
+          who =
+              who;
+          what = Switch id;
+        }) old t e id growth refl switches.agrees (held_at-switch h who id growth.id) (ne_eqb growth.id id apart) found
 
     agrees_switched : Agrees content (h ++ record { who = who; what = Switch id } ∷ []) new
     agrees_switched =

@@ -40,7 +40,7 @@ IsJournal-quiet h entry table extent after notes quiet journal =
       each = λ to rid.
           journal.each to rid
           ∙ ap₂ (λ (per : ℕ) (b : Bool). (rid / per == extent) && b) (sym (per_at-push h entry table journal.exists))
-              (sym (touched_between-quiet h entry after to table rid quiet));
+          (sym (touched_between-quiet h entry after to table rid quiet));
     }
 
 -- a journal that is begun with an entry which commits no changes is empty
@@ -76,7 +76,7 @@ IsJournal-commit h who table extent after notes journal =
           is_noted-commit (tables h) (scn h + 1) (pending h who) table extent notes (touched_between h after to table rid) to rid upto (journal.each to rid)
           ∙ (ap (λ (b : Bool). (rid / per_at h table == extent) && b)
           (between_commit (touched_between h after to table rid) (touches (pending h who) table rid) (nat_le after (scn h)) (nat_lt (scn h) to)
-              (nat_le (scn h + 1) to) (le-leb after (scn h) journal.from) (nat_lt-next (scn h) to)
+          (nat_le (scn h + 1) to) (le-leb after (scn h) journal.from) (nat_lt-next (scn h) to)
           ∙ sym (touched_between-commit h who after to table rid))
           ∙ ap (λ (per : ℕ). (rid / per == extent) && touched_between now after to table rid) (sym (per_at-push h entry table journal.exists)));
     }

@@ -22,7 +22,7 @@ all_to : (to : ℕ) (notes : List Note) → AreUpTo to notes → notes_to to not
 all_to to [] upto = refl
 all_to to (note ∷ notes) upto =
     rw (le-leb note.1 to (All-head (λ (n : Note). n.1 ≤ to) note notes upto))
-        (ap (λ l. note ∷ l) (all_to to notes (All-tail (λ (n : Note). n.1 ≤ to) note notes upto)))
+    (ap (λ l. note ∷ l) (all_to to notes (All-tail (λ (n : Note). n.1 ≤ to) note notes upto)))
 
 -- ---- Booleans
 
@@ -101,7 +101,7 @@ noted_by : (b : Bool) (notes : List Note) (row scn to rid : ℕ) → AreUpTo scn
 noted_by true notes row scn to rid upto known = known_by (nat_le scn to) notes row scn to rid upto known refl
 noted_by false notes row scn to rid upto fresh =
     ap (λ (l : List Note). is_noted l rid) (filter-append (λ (n : Note). nat_le n.1 to) notes ((row, scn) ∷ []))
-        ∙ fresh_by (nat_le scn to) (notes_to to notes) row scn rid
+    ∙ fresh_by (nat_le scn to) (notes_to to notes) row scn rid
 
 upto_by : (b : Bool) (notes : List Note) (row scn : ℕ) → AreUpTo scn notes → AreUpTo scn (if b then notes else notes ++ (row, scn) ∷ [])
 upto_by true notes row scn upto = upto
@@ -161,14 +161,14 @@ one_to tables table extent rid change =
     ⊎_elim (λ (is : change.table ≡ table).
     ⊎_elim (λ (same : rid ≡ change.rid).
     one_by (change.table == table) (extent_in tables change == extent) (rid / per_extent (grid_of (table_among tables table)) == extent) (rid == change.rid)
-        (change.rid == rid)
+    (change.rid == rid)
     (ap₂ (λ (r t : ℕ). r / per_extent (grid_of (table_among tables t)) == extent) (sym same) is)
     (eq-eqb rid change.rid same ∙ sym (eq-eqb change.rid rid (sym same))))
     (λ (other : rid ≡ change.rid → ⊥).
     let first : (rid == change.rid) ≡ false = ne_eqb rid change.rid other in
     let second : (change.rid == rid) ≡ false = ne_eqb change.rid rid (λ e. other (sym e)) in
     rw (first, second) (none_both (is_in_extent tables table extent change) (rid / per_extent (grid_of (table_among tables table)) == extent)
-        (change.table == table)))
+    (change.table == table)))
     (cases_eq rid change.rid))
     (λ (other : change.table ≡ table → ⊥). rw (ne_eqb change.table table other) (none_here (rid / per_extent (grid_of (table_among tables table)) == extent)))
     (cases_eq change.table table)

@@ -105,10 +105,10 @@ module _ {U : Type 0} where
       let one : List Change = take i changes ++ change ∷ [] in
       let more : take (i + 1) changes ≡ one = take_more changes i change inside ∙ ap (λ (c : Change). take i changes ++ c ∷ []) (sym is) in
       let same : next ≡ slots_with (effect change) change.table (extent_in tables change) now = made
-          ∙ ap (λ (k : ℕ). slots_with (effect change) change.table k now) at in
+      ∙ ap (λ (k : ℕ). slots_with (effect change) change.table k now) at in
       subst (λ (l : List Change). WentThrough effect old next tables l) (sym more)
       (subst (λ (n : List (List (Slot U))). WentThrough effect old n tables one) (sym same)
-          (WentThrough-next effect old now tables (take i changes) change keeps went))
+      (WentThrough-next effect old now tables (take i changes) change keeps went))
 
   -- all changes of a list had theirs
   pub WentThrough-all : (effect : Change → Slot U → Slot U) (old now : List (List (Slot U))) (tables : List TableInfo) (changes : List Change) (i : ℕ) →
@@ -131,7 +131,7 @@ module _ {U : Type 0} where
       told (fold (λ s c. slot_noted (c.rid, scn) s) slot changes) ≡ noted_in (map (λ c. (c.rid, scn)) changes) (told slot)
   told-noted scn [] slot =
       sym (same_told _ _ _ _ (option_map-same (λ (s : Stock U). s) (told slot).current (λ s. refl))
-          (option_map-same (λ (g : Growth). g) (told slot).growing (λ g. refl)))
+      (option_map-same (λ (g : Growth). g) (told slot).growing (λ g. refl)))
   told-noted scn (change ∷ changes) slot =
       let note : Note = (change.rid, scn) in
       told-noted scn changes (slot_noted note slot)
@@ -165,7 +165,7 @@ module _ {U : Type 0} where
   IsReady-through scn count (change ∷ changes) slot ready =
       let same : suc (length changes) + count ≡ suc (length changes + count) = omega arith in
       IsReady-through scn count changes (slot_noted (change.rid, scn) slot)
-          (IsReady-noted slot change.rid scn (length changes + count) (subst (IsReady slot scn) same ready))
+      (IsReady-noted slot change.rid scn (length changes + count) (subst (IsReady slot scn) same ready))
 
   IsReady-from : (slot : Slot U) (scn count wanted : ℕ) → HasSlotRoom slot wanted → IsSlotBefore slot scn → count ≤ wanted → IsReady slot scn count
   IsReady-from slot scn count wanted room before less = record {
@@ -191,11 +191,11 @@ module _ {U : Type 0} where
       let passes : p (slice_index_or changes i change) ≡ true = ap p (sym is) ∙ here in
       let more = passed_more p changes i change inside passes in
       let ready =
-          IsReady-from (slot_at old table extent) scn (length (filter p (take i changes)) + 1) (notes_for tables changes table extent)
-          (room.each table extent) (before.each table extent) more in
+      IsReady-from (slot_at old table extent) scn (length (filter p (take i changes)) + 1) (notes_for tables changes table extent)
+      (room.each table extent) (before.each table extent) more in
       MayNote-from (slot_at now table extent) scn
       (subst (λ (slot : Slot U). IsReady slot scn 1) (sym (went.each table extent))
-          (IsReady-through scn 1 (filter p (take i changes)) (slot_at old table extent) ready))
+      (IsReady-through scn 1 (filter p (take i changes)) (slot_at old table extent) ready))
 
   -- ---- room
 

@@ -73,7 +73,7 @@ module _ {U : Type 0} where
       let same : table ≡ t = eqb-true table t is in
       let here : (extent < length shelf) ⊎ (f nothing ≡ nothing) =
       ⊎_elim (λ (place : HasPlace slots table extent). inl (subst (λ (k : ℕ). extent < length (slice_index_or slots k [])) same place.within))
-          (λ (keeps : f nothing ≡ nothing). inr keeps) stays in
+      (λ (keeps : f nothing ≡ nothing). inr keeps) stays in
       get_or-changed f shelf nothing extent e here
 
   slot_by : (b : Bool) (f : Slot U → Slot U) (slots : List (List (Slot U))) (table extent t e : ℕ) → HasPlace slots table extent ⊎ (f nothing ≡ nothing) →

@@ -111,7 +111,7 @@ build_begun builds held (suc before) next =
     let long = length_push builds (Some held) in
     let other : suc before ≡ held.task.id → ⊥ = λ e. beyond (omega (arith, e, next)) in
     rw (ne_eqb (suc before) held.task.id other) (get_or_past (builds ++ Some held ∷ []) before None (omega (arith, long, past, beyond))
-        ∙ sym (get_or_past builds before None past)))
+    ∙ sym (get_or_past builds before None past)))
     (cases_eq before (length builds)))
     (cases_lt before (length builds))
 
@@ -330,7 +330,7 @@ module _ {U : Type 0} where
       let number : Some held.task.id ≡ Some id = ap Some (sym (eqb-true id held.task.id same)) in
       subst (λ (h : Held). living_in new h.task.table h.task.extent ≡ Some id) equal
       (begins.living held.task.table held.task.extent ∙ (ap (λ (b : Bool). if b then Some held.task.id else living_in old held.task.table held.task.extent)
-          (on_own held) ∙ number))
+      (on_own held) ∙ number))
   lives_by false old new held other id sound begins free same is alive =
       let was = sound.lives id other is alive in
       let off : is_on other.task.table other.task.extent held ≡ false = ⊎_elim (λ (on : is_on other.task.table other.task.extent held ≡ true).
@@ -339,7 +339,7 @@ module _ {U : Type 0} where
       (λ (no : is_on other.task.table other.task.extent held ≡ false). no)
       (cases_Bool (is_on other.task.table other.task.extent held)) in
       begins.living other.task.table other.task.extent ∙ (ap (λ
-          (b : Bool). if b then Some held.task.id else living_in old other.task.table other.task.extent) off ∙ was)
+      (b : Bool). if b then Some held.task.id else living_in old other.task.table other.task.extent) off ∙ was)
 
   living_by : (b : Bool) (old new : Kept U) (held : Held) (table extent id : ℕ) → IsSound old → IsBeginning old new held → held.killed ≡ None →
       build_in old held.task.id ≡ None → is_on table extent held ≡ b → (if b then Some held.task.id else living_in old table extent) ≡ Some id →
@@ -402,7 +402,7 @@ module _ {U : Type 0} where
         subst (λ (h : Held). living_in new h.task.table h.task.extent ≡ Some id) (sym equal)
         (killing.living was.held.task.table was.held.task.extent
         ∙ (ap (λ (b : Bool). if b then None else living_in old was.held.task.table was.held.task.extent) spared.off
-            ∙ sound.lives id was.held was.is spared.alive));
+        ∙ sound.lives id was.held was.is spared.alive));
     living = λ table extent id is.
         let left = kept_by (drops table extent what) (living_in old table extent) id (sym (killing.living table extent) ∙ is) in
         let was = sound.living table extent id left.1 in

@@ -59,8 +59,8 @@ in_filter_by true p x n rest all is same =
     (cases_eq x n)
 in_filter_by false p x n rest all is same =
     ⊎_elim (λ (e : x ≡ n). let here : p n ≡ false = ap p (sym e) ∙ is in same
-        ∙ (ap (λ (b : Bool). is_in all n && b) here ∙ (never (is_in all n) ((x == n) || is_in all n)
-        ∙ sym (ap (λ (b : Bool). ((x == n) || is_in all n) && b) here))))
+    ∙ (ap (λ (b : Bool). is_in all n && b) here ∙ (never (is_in all n) ((x == n) || is_in all n)
+    ∙ sym (ap (λ (b : Bool). ((x == n) || is_in all n) && b) here))))
     (λ (other : x ≡ n → ⊥). rw (ne_eqb x n other) same)
     (cases_eq x n)
 

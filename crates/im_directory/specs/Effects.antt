@@ -79,8 +79,10 @@ module _ {U : Type 0} where
   -- this build began, with an empty journal
   pub record IsBegun (old new : Kept U) (held : Held) : Type 0 where
     pub slots : (table extent : ℕ) → told_at new table extent
-        ≡ (if is_on table extent held then record (told_at old table extent) { growing =
-            Some (record { id = held.task.id; notes = [] }) } else told_at old table extent)
+        ≡ (if is_on table extent held then record (told_at old table extent) {
+          growing =
+              Some (record { id = held.task.id; notes = [] });
+        } else told_at old table extent)
     pub builds : new.builds ≡ old.builds ++ Some held ∷ []
 
   -- the commit with this SCN noted its changes

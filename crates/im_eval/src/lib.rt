@@ -11,4 +11,3 @@
 mod truth;
 
 pub use truth::holds;
-

@@ -20,4 +20,3 @@ mod tally;
 
 pub use cell::Cell;
 pub use partial::Partial;
-

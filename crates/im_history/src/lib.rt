@@ -34,4 +34,3 @@ pub use task::{Held, Task};
 pub use unit::UnitLike;
 pub use view::View;
 pub use who::{Who, callers_have_numbers};
-

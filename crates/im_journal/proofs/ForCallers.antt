@@ -43,14 +43,14 @@ or_absorbs false c e = absurd (true≢false (sym e))
 add_known : (known there : Bool) (row n : ℕ) → known ≡ there → (row ≡ n → there ≡ true) → known ≡ there || ((row == n) || false)
 add_known known there row n same is_there =
     ⊎_elim (λ (is : row ≡ n). same ∙ or_absorbs there ((row == n) || false) (is_there is))
-        (λ (apart : row ≡ n → ⊥). rw (ne_eqb row n apart) (same ∙ sym (or_false there))) (cases_eq row n)
+    (λ (apart : row ≡ n → ⊥). rw (ne_eqb row n apart) (same ∙ sym (or_false there))) (cases_eq row n)
 
 -- all are noted by an SCN that none is above
 all_to : (scn : ℕ) (notes : List Note) → All (λ (note : Note). note.1 ≤ scn) notes → notes_to scn notes ≡ notes
 all_to scn [] below = refl
 all_to scn (note ∷ notes) below =
     rw (le-leb note.1 scn (All-head (λ (n : Note). n.1 ≤ scn) note notes below))
-        (ap (λ l. note ∷ l) (all_to scn notes (All-tail (λ (n : Note). n.1 ≤ scn) note notes below)))
+    (ap (λ l. note ∷ l) (all_to scn notes (All-tail (λ (n : Note). n.1 ≤ scn) note notes below)))
 
 again_to : (b : Bool) (kept all : List Note) (note : Note) → SameRows kept all → is_noted kept note.0 ≡ true →
     All (λ (earlier : Note). earlier.1 ≤ note.1) all → (scn row : ℕ) → nat_le note.1 scn ≡ b →
@@ -61,7 +61,7 @@ again_to true kept all note same there earlier scn row after =
     let whole = all_to scn all upto in
     let known : row ≡ note.0 → is_noted (notes_to scn all) row ≡ true = λ is. rw whole (sym (same.ever row) ∙ (ap (is_noted kept) is ∙ there)) in
     rw (after, list_any-append (λ (n : Note). row == n.0) (notes_to scn all) (note ∷ []))
-        (add_known (is_noted (notes_to scn kept) row) (is_noted (notes_to scn all) row) row note.0 (same.to scn row) known)
+    (add_known (is_noted (notes_to scn kept) row) (is_noted (notes_to scn all) row) row note.0 (same.to scn row) known)
 
 -- a note whose row was noted before adds no row
 again : (kept all : List Note) (note : Note) → SameRows kept all → is_noted kept note.0 ≡ true → All (λ (earlier : Note). earlier.1 ≤ note.1) all →
@@ -81,9 +81,15 @@ fresh kept all note same = record {
   ever =
       λ row. rw (list_any-append (λ (n : Note). row == n.0) kept (note ∷ []), list_any-append (λ (n : Note). row == n.0) all (note ∷ []), same.ever row) refl;
   to =
-      λ scn row. rw (filter-append (λ (n : Note). nat_le n.1 scn) kept (note ∷ []), filter-append (λ (n : Note). nat_le n.1 scn) all
-      (note ∷ []), list_any-append (λ (n : Note). row == n.0) (notes_to scn kept) (notes_to scn (note ∷ [])), list_any-append (λ (n : Note). row == n.0)
-      (notes_to scn all) (notes_to scn (note ∷ [])), same.to scn row) refl;
+      λ scn row. rw (
+        filter-append (λ (n : Note). nat_le n.1 scn) kept (note ∷ []),
+        filter-append (λ (n : Note). nat_le n.1 scn) all
+            (note ∷ []),
+        list_any-append (λ (n : Note). row == n.0) (notes_to scn kept) (notes_to scn (note ∷ [])),
+        list_any-append (λ (n : Note). row == n.0)
+            (notes_to scn all) (notes_to scn (note ∷ [])),
+        same.to scn row,
+      ) refl;
 }
 
 one_more : (b : Bool) (kept all : List Note) (note : Note) → SameRows kept all → is_noted kept note.0 ≡ b →
@@ -108,7 +114,7 @@ keep_on (note ∷ rest) kept done same up =
     let joined : (done ++ note ∷ []) ++ rest ≡ done ++ note ∷ rest = append_assoc done (note ∷ []) rest in
     let more = one_more (is_noted kept note.0) kept done note same refl (earlier_ones done note rest up) in
     subst (λ (l : List Note). SameRows (fold noted (noted kept note) rest) l) joined
-        (keep_on rest (noted kept note) (done ++ note ∷ []) more (subst (λ (l : List Note). IsNonDecreasingBy (λ (n : Note). n.1) l) (sym joined) up))
+    (keep_on rest (noted kept note) (done ++ note ∷ []) more (subst (λ (l : List Note). IsNonDecreasingBy (λ (n : Note). n.1) l) (sym joined) up))
 
 first_same : (notes : List Note) → IsNonDecreasingBy (λ (n : Note). n.1) notes → SameRows (first_notes notes) notes
 first_same notes up = keep_on notes [] [] (record { ever = λ row. refl; to = λ scn row. refl }) up
@@ -118,7 +124,7 @@ pub stale_rows_at-first_notes : (notes : List Note) (scn : ℕ) → IsNonDecreas
     stale_rows_at (first_notes notes) scn ≡ stale_rows_at notes scn
 stale_rows_at-first_notes notes scn up =
     same_rising (stale_rows_at (first_notes notes) scn) (stale_rows_at notes scn) (stale_rows-increasing (notes_to scn (first_notes notes)))
-        (stale_rows-increasing (notes_to scn notes))
+    (stale_rows-increasing (notes_to scn notes))
     (λ n. is_in-stale_rows (notes_to scn (first_notes notes)) n ∙ ((first_same notes up).to scn n ∙ sym (is_in-stale_rows (notes_to scn notes) n)))
 
 -- and at all
@@ -135,8 +141,8 @@ last_scn-noted_by false notes row scn is later last there =
     let long = length_push notes (row, scn) in
     let place : length (notes ++ (row, scn) ∷ []) - 1 ≡ length notes = omega (arith, long) in
     let newest : last_scn (notes ++ (row, scn) ∷ []) ≡ Some scn =
-        rw place (ap (option_map (λ (n : Note). n.1)) (slice_get-get_or (notes ++ (row, scn) ∷ []) (length notes) (row, scn) (omega (arith, long))
-        ∙ ap Some (get_or_push notes (row, scn) (row, scn) (length notes) refl))) in
+    rw place (ap (option_map (λ (n : Note). n.1)) (slice_get-get_or (notes ++ (row, scn) ∷ []) (length notes) (row, scn) (omega (arith, long))
+    ∙ ap Some (get_or_push notes (row, scn) (row, scn) (length notes) refl))) in
     let same : Some scn ≡ Some last = sym newest ∙ (rw is at there) in
     le_of_eq (cc)
 

@@ -31,15 +31,15 @@ pub insert_entry-new : (notes : List Note) (row scn : ℕ) → is_noted notes ro
 insert_entry-new [] row scn none = refl
 insert_entry-new (note ∷ notes) row scn none =
     rw (or_left (row == note.0) (is_noted notes row) none) (ap (λ l. note ∷ l)
-        (insert_entry-new notes row scn (or_right (row == note.0) (is_noted notes row) none)))
+    (insert_entry-new notes row scn (or_right (row == note.0) (is_noted notes row) none)))
 
 -- the SCNs do not fall
 pub later-push : (notes : List Note) (row scn : ℕ) → IsNonDecreasingBy (λ (note : Note). note.1) notes →
     ((last : ℕ) → last_scn notes ≡ Some last → last ≤ scn) → IsNonDecreasingBy (λ (note : Note). note.1) (notes ++ (row, scn) ∷ [])
 later-push notes row scn up later =
     IsNonDecreasingBy-push (λ (note : Note). note.1) notes (row, scn) up
-        (λ d some. later (get_or notes (length notes - 1) d).1
-        (ap (option_map (λ (note : Note). note.1)) (slice_get-get_or notes (length notes - 1) d (omega arith))))
+    (λ d some. later (get_or notes (length notes - 1) d).1
+    (ap (option_map (λ (note : Note). note.1)) (slice_get-get_or notes (length notes - 1) d (omega arith))))
 
 -- where it was not noted, it is one note more
 pub noted-new : (notes : List Note) (row scn : ℕ) → is_noted notes row ≡ false → notes ++ (row, scn) ∷ [] ≡ noted notes (row, scn)
@@ -54,9 +54,9 @@ pub scns_rise : (notes : List Note) → IsNonDecreasingBy (λ (note : Note). not
 scns_rise notes up i j d l h =
     let long : length (map (λ (note : Note). note.1) notes) ≡ length notes = length-map notes (λ (note : Note). note.1) in
     let at_i : get_or (map (λ (note : Note). note.1) notes) i d ≡ (get_or notes i (0, d)).1 =
-        get_or-map (λ (note : Note). note.1) notes i (0, d) d (omega arith) in
+    get_or-map (λ (note : Note). note.1) notes i (0, d) d (omega arith) in
     let at_j : get_or (map (λ (note : Note). note.1) notes) j d ≡ (get_or notes j (0, d)).1 =
-        get_or-map (λ (note : Note). note.1) notes j (0, d) d (omega arith) in
+    get_or-map (λ (note : Note). note.1) notes j (0, d) d (omega arith) in
     rw (at_i, at_j) (up i j (0, d) l (omega arith))
 
 -- where the first SCNs are at or below one and the others above, a filter keeps the first notes
@@ -72,7 +72,7 @@ notes_to-partitioned scn (note ∷ notes) zero parts =
 notes_to-partitioned scn (note ∷ notes) (suc i) parts =
     let here : nat_le note.1 scn ≡ true = parts.0 0 0 (omega arith) (omega arith) in
     rw here (ap (λ l. note ∷ l) (notes_to-partitioned scn notes i
-        (λ k d l h. parts.0 (suc k) d (omega arith) (omega arith), λ k d l h. parts.1 (suc k) d (omega arith) (omega arith))))
+    (λ k d l h. parts.0 (suc k) d (omega arith) (omega arith), λ k d l h. parts.1 (suc k) d (omega arith) (omega arith))))
 
 distinct-take : (k : ℕ) (ns : List ℕ) → IsDistinct nat_eq ns → IsDistinct nat_eq (take k ns)
 distinct-take k ns apart = IsDistinct-from_apart nat_eq (take k ns) (λ i j d h l.
@@ -85,7 +85,7 @@ pub sorted_is_stale : (scn : ℕ) (notes : List Note) (i : ℕ) (picked rows : L
     IsPermutation picked rows → IsSorted nat_cmp rows → rows ≡ stale_rows_at notes scn
 sorted_is_stale scn notes i picked rows apart point is moved sorted =
     let kept : rows_of (notes_to scn notes) ≡ take i (rows_of notes) = ap rows_of (notes_to-partitioned scn notes i point)
-        ∙ sym (take-map (λ (note : Note). note.0) i notes) in
+    ∙ sym (take-map (λ (note : Note). note.0) i notes) in
     let distinct : IsDistinct nat_eq picked = rw is (distinct-take i (rows_of notes) apart) in
     sorted_is_rising picked rows distinct moved sorted ∙ ap rising (is ∙ sym kept)
 

@@ -16,4 +16,3 @@ mod lexing;
 
 pub use bytes::{begins_comment, behind, is_blank};
 pub use lexing::{LexFault, tokens};
-

@@ -25,4 +25,3 @@ mod tables;
 pub use fault::NameFault;
 pub use resolved::Resolved;
 pub use statements::resolve;
-

@@ -23,4 +23,3 @@ mod transactions;
 mod values;
 
 pub use parsing::{ParseFault, one_spelling, parse, parse_for};
-

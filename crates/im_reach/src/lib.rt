@@ -13,4 +13,3 @@ mod sole;
 
 pub use reach::Reach;
 pub use sole::Sole;
-

@@ -18,4 +18,3 @@ mod part;
 pub use halt::Halt;
 pub use lists::{list, list_up_to};
 pub use part::Part;
-

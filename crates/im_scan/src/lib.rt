@@ -23,4 +23,3 @@ pub use im_replies::{Body, Built, Ending, Fault, How, Records, Reply, Served};
 pub use merging::parts_are_one_answer;
 pub use parts::part;
 pub use pinned::{face, how};
-

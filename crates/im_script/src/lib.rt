@@ -20,4 +20,3 @@ pub use cut::first_line;
 pub use line::{Line, LineKind};
 pub use reading::line_of;
 pub use script::{lines, one_kind};
-

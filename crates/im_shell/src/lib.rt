@@ -30,4 +30,3 @@ mod writing;
 pub use im_words::Word;
 pub use status::Status;
 pub use top::run;
-

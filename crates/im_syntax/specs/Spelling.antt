@@ -184,7 +184,7 @@ spelling (stmt.Explain q) = word key.Explain ∷ spell_query q
 spelling (stmt.Create name columns block extent memory) =
     word key.Create ∷ word key.Table ∷ token.Word name
     ∷ (in_parens (spell_joined comma spell_column columns) ++
-        (spell_option key.Block block ++ (spell_option key.Extent extent ++ spell_optional spell_memory memory)))
+    (spell_option key.Block block ++ (spell_option key.Extent extent ++ spell_optional spell_memory memory)))
 spelling (stmt.AlterMemory name memory) = word key.Alter ∷ word key.Table ∷ token.Word name ∷ spell_memory memory
 spelling (stmt.AlterNoMemory name) = word key.Alter ∷ word key.Table ∷ token.Word name ∷ word key.No ∷ word key.InMemory ∷ []
 spelling (stmt.Insert name columns tuples) =

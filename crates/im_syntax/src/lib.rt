@@ -40,4 +40,3 @@ pub use statement::{Side, Stmt};
 pub use table::{ColumnPart, KindWord, MemoryPart};
 pub use token::{Sign, Token};
 pub use word::{is_name, is_word, is_word_byte};
-

@@ -18,4 +18,3 @@ mod rows;
 mod tasks;
 
 pub use replies::reply;
-

@@ -78,13 +78,13 @@ pub Agrees-follows : (h : History) (who : ℕ) (what : What) (old new : Standing
 Agrees-follows h who what old new after agrees number becomes follows locked =
     let entry : Entry = record { who = who; what = what } in
     let began =
-        by_number (λ (a : Activity). a.begun) (begun (with_entry h who what)) (λ other. begun_after (length h) (begun h other) what)
-        (begun h) who old new after becomes (begun-push h entry) agrees.began follows.began in
+    by_number (λ (a : Activity). a.begun) (begun (with_entry h who what)) (λ other. begun_after (length h) (begun h other) what)
+    (begun h) who old new after becomes (begun-push h entry) agrees.began follows.began in
     let cursors =
-        by_number (λ (a : Activity). a.cursors) (λ other. map kept (opened (with_entry h who what) other))
-        (λ other. map kept (opened_after h other (opened h other) what)) (λ other. map kept (opened h other)) who old new after becomes
-        (λ other. ap (map kept) (opened-push h entry other) ∙ kept-if (who == other) (opened_after h other (opened h other) what)
-        (opened h other)) agrees.cursors follows.cursors in
+    by_number (λ (a : Activity). a.cursors) (λ other. map kept (opened (with_entry h who what) other))
+    (λ other. map kept (opened_after h other (opened h other) what)) (λ other. map kept (opened h other)) who old new after becomes
+    (λ other. ap (map kept) (opened-push h entry other) ∙ kept-if (who == other) (opened_after h other (opened h other) what)
+    (opened h other)) agrees.cursors follows.cursors in
     record {
       changes =
           by_number (λ (a : Activity). a.pending) (pending (with_entry h who what)) (λ other. pending_after (pending h other) what)
@@ -96,9 +96,9 @@ Agrees-follows h who what old new after agrees number becomes follows locked =
       cursors = cursors;
       once = λ other cursor.
           ⊎_elim (λ (is : other ≡ who). subst (λ (a : Activity). count_by (is_number cursor) a.cursors ≤ 1) (sym (ap (activity_at new) is ∙ becomes.mine))
-              (follows.once cursor))
+          (follows.once cursor))
           (λ (apart : other ≡ who → ⊥). subst (λ (a : Activity). count_by (is_number cursor) a.cursors ≤ 1) (sym (becomes.others other apart))
-              (agrees.once other cursor))
+          (agrees.once other cursor))
           (cases_eq other who);
       locks = locked.locks;
       holders = locked.holders;
@@ -118,7 +118,7 @@ pub Locked-same : (h : History) (who : ℕ) (what : What) (old new : Standing) �
 Locked-same h who what old new agrees same stays =
     let cell = λ (table rid : ℕ). ap (λ (all : Locks). lock_of all table rid) same in
     let list = λ (other : ℕ). pending-push h (record { who = who; what = what }) other
-        ∙ (ap (λ (l : List Change). if who == other then l else pending h other) (stays (pending h other)) ∙ if-same (who == other) (pending h other)) in
+    ∙ (ap (λ (l : List Change). if who == other then l else pending h other) (stays (pending h other)) ∙ if-same (who == other) (pending h other)) in
     record {
       locks = λ table rid other below.
           ap (λ (n : ℕ). n == suc other) (cell table rid)
@@ -146,15 +146,15 @@ pub Agrees-apart-by : (h : History) (who : ℕ) (what : What) (standing : Standi
 Agrees-apart-by h who what standing apart agrees =
     let entry : Entry = record { who = who; what = what } in
     let changes =
-        λ (other : ℕ). pending-push h entry other ∙ stays (who == other) (pending_after (pending h other) what) (pending h other)
-        (apart.changes (pending h other)) in
+    λ (other : ℕ). pending-push h entry other ∙ stays (who == other) (pending_after (pending h other) what) (pending h other)
+    (apart.changes (pending h other)) in
     let began =
-        λ (other : ℕ). begun-push h entry other ∙ stays (who == other) (begun_after (length h) (begun h other) what) (begun h other)
-        (apart.began (length h) (begun h other)) in
+    λ (other : ℕ). begun-push h entry other ∙ stays (who == other) (begun_after (length h) (begun h other) what) (begun h other)
+    (apart.began (length h) (begun h other)) in
     let modes = λ (other : ℕ). mode-push h entry other ∙ stays (who == other) (mode_after (mode h other) what) (mode h other) (apart.modes (mode h other)) in
     let cursors =
-        λ (other : ℕ). opened-push h entry other ∙ stays (who == other) (opened_after h other (opened h other) what) (opened h other)
-        (apart.cursors h other (opened h other)) in
+    λ (other : ℕ). opened-push h entry other ∙ stays (who == other) (opened_after h other (opened h other) what) (opened h other)
+    (apart.cursors h other (opened h other)) in
     record {
       changes = λ other. agrees.changes other ∙ sym (changes other);
       began = λ other. agrees.began other ∙ sym (began other);

@@ -13,9 +13,11 @@ HasLock locks change = HasCell locks change.table change.rid
 
 HasCells-set : (value : ℕ) (locks : Locks) (change : Change) (changes : List Change) → HasCells locks changes → HasCells (set_cell value locks change) changes
 HasCells-set value locks change changes has =
-    record { each =
-        All-weaker (HasLock locks) (HasLock (set_cell value locks change))
-        (λ other. HasCell-with_cell locks change.table change.rid value other.table other.rid) changes has.each }
+    record {
+      each =
+          All-weaker (HasLock locks) (HasLock (set_cell value locks change))
+          (λ other. HasCell-with_cell locks change.table change.rid value other.table other.rid) changes has.each;
+    }
 
 either : (a b : Bool) (x y : ℕ) → (if b then x else (if a then x else y)) ≡ (if a || b then x else y)
 either true true x y = refl
@@ -32,7 +34,7 @@ lock_of-set_cells value locks (change ∷ changes) table rid can =
     let later : HasCells (set_cell value locks change) changes ⊎ (value ≡ 0) =
     ⊎_elim
     (λ (has : HasCells locks (change ∷ changes)). inl (HasCells-set value locks change changes
-        (record { each = All-tail (HasLock locks) change changes has.each })))
+    (record { each = All-tail (HasLock locks) change changes has.each })))
     (λ (free : value ≡ 0). inr free)
     can in
     lock_of-set_cells value (set_cell value locks change) changes table rid later

@@ -93,7 +93,7 @@ none-open : (h : History) (who cursor : ℕ) (standing : Standing) → Agrees h 
     count_by (is_number cursor) (activity_at standing who).cursors ≡ 0
 none-open h who cursor standing agrees shut =
     rw (agrees.cursors who, count_by-map kept (is_number cursor) (is_cursor cursor) (opened h who) (λ x. refl))
-        (count_by-none (is_cursor cursor) (opened h who) shut)
+    (count_by-none (is_cursor cursor) (opened h who) shut)
 
 once-push : (cursors : List Cursor) (cursor : Cursor) (number : ℕ) → count_by (is_number cursor.cursor) cursors ≡ 0 →
     count_by (is_number number) cursors ≤ 1 → count_by (is_number number) (cursors ++ cursor ∷ []) ≤ 1
@@ -244,8 +244,8 @@ pub is_cursor_open-by : (h : History) (standing : Standing) (who cursor : ℕ) �
     is_cursor_open h who cursor ≡ is_some (cursor_in (activity_at standing who) cursor)
 is_cursor_open-by h standing who cursor agrees =
     sym (is_some-find (is_number cursor) (activity_at standing who).cursors
-        ∙ (ap (λ (l : List Cursor). list_any (is_number cursor) l) (agrees.cursors who)
-        ∙ list_any-map kept (is_number cursor) (is_cursor cursor) (opened h who) (λ x. refl)))
+    ∙ (ap (λ (l : List Cursor). list_any (is_number cursor) l) (agrees.cursors who)
+    ∙ list_any-map kept (is_number cursor) (is_cursor cursor) (opened h who) (λ x. refl)))
 
 pub cursors_open-by : (h : History) (standing : Standing) (who : ℕ) → Agrees h standing → cursors_in (activity_at standing who) ≡ cursors_open h who
 cursors_open-by h standing who agrees =
@@ -282,8 +282,8 @@ none-locked h who [] none = All-nil (λ change. holder h who change.table change
 none-locked h who (change ∷ changes) none =
     let first = option_map (λ other. RowLocked change.rid other) (holder h who change.table change.rid) in
     All-cons (λ c. holder h who c.table c.rid ≡ None) change changes
-        (no-holder change.rid (holder h who change.table change.rid) (first-none first (row_locked h who changes) none))
-        (none-locked h who changes (rest-none first (row_locked h who changes) none))
+    (no-holder change.rid (holder h who change.table change.rid) (first-none first (row_locked h who changes) none))
+    (none-locked h who changes (rest-none first (row_locked h who changes) none))
 
 -- rows are free where none of them refuses a write as locked
 pub IsFree-unlocked : (h : History) (standing : Standing) (who : ℕ) (changes : List Change) → Agrees h standing → row_locked h who changes ≡ None →
@@ -318,8 +318,13 @@ owed-open h standing who agrees number is =
 pub owed-cursor : (h : History) (standing : Standing) (who cursor : ℕ) → Agrees h standing → who < NUMBERS → is_cursor_open h who cursor ≡ true →
     1 ≤ standing.owed
 owed-cursor h standing who cursor agrees number is =
-    omega (arith, owed-part h standing who agrees number, count_by-some (is_cursor cursor) (opened h who) is, count_by-le-length (is_cursor cursor)
-        (opened h who))
+    omega (
+      arith,
+      owed-part h standing who agrees number,
+      count_by-some (is_cursor cursor) (opened h who) is,
+      count_by-le-length (is_cursor cursor)
+          (opened h who),
+    )
 
 -- where none is open, a Begin is one entry more
 pub owed-begun : (h : History) (who place : ℕ) (mode : Mode) (old new : Standing) → Agrees h old → is_open h who ≡ false → IsBegun old new who place mode →
@@ -357,7 +362,7 @@ pub owed-shut : (h : History) (who cursor : ℕ) (old new : Standing) → Agrees
 owed-shut h who cursor old new agrees is shuts =
     let cursors = (activity_at old who).cursors in
     let there : list_any (is_number cursor) cursors ≡ true = ap (λ (l : List Cursor). list_any (is_number cursor) l) (agrees.cursors who)
-        ∙ (list_any-map kept (is_number cursor) (is_cursor cursor) (opened h who) (λ x. refl) ∙ is) in
+    ∙ (list_any-map kept (is_number cursor) (is_cursor cursor) (opened h who) (λ x. refl) ∙ is) in
     omega (arith, shuts.activity.owed, length-filter-not (is_number cursor) cursors, agrees.once who cursor, count_by-some (is_number cursor) cursors there)
 
 -- the end of an open transaction is one entry fewer
@@ -376,6 +381,8 @@ owed-ended-none h who old new agrees shut ends =
 pub IsFree-one : (standing : Standing) (who : ℕ) (change : Change) → is_some (holder_in standing who change.table change.rid) ≡ false →
     IsFree standing who (change ∷ [])
 IsFree-one standing who change free =
-    record { each =
-    All-cons (λ c. holder_in standing who c.table c.rid ≡ None) change [] (none-from (holder_in standing who change.table change.rid) free)
-    (All-nil (λ c. holder_in standing who c.table c.rid ≡ None)) }
+    record {
+      each =
+          All-cons (λ c. holder_in standing who c.table c.rid ≡ None) change [] (none-from (holder_in standing who change.table change.rid) free)
+          (All-nil (λ c. holder_in standing who c.table c.rid ≡ None));
+    }

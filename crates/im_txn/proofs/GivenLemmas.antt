@@ -73,9 +73,9 @@ Below-push h entry below = record {
       let rises : given h table ≤ given_after table (given h table) entry.what = given-rises entry.what table (given h table) in
       let was : touches (pending h who) table rid ≡ false = below.below who table rid (omega (arith, rises, now)) in
       let next : touches (pending_after (pending h who) entry.what) table rid ≡ false =
-          after-entry entry.what (pending h who) table rid (given h table) (λ p. below.below who table rid p) now in
+      after-entry entry.what (pending h who) table rid (given h table) (λ p. below.below who table rid p) now in
       ap (λ (l : List Change). touches l table rid) (pending-push h entry who)
-          ∙ either (entry.who == who) (pending_after (pending h who) entry.what) (pending h who) table rid next was;
+      ∙ either (entry.who == who) (pending_after (pending h who) entry.what) (pending h who) table rid next was;
 }
 
 Below-from : (before rest : History) → Below before → Below (before ++ rest)

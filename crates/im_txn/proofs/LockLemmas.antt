@@ -30,7 +30,7 @@ free-at cells who (change ∷ changes) table rid free touched =
     let same_rid : change.rid ≡ rid = eq-true change.rid rid (and-true (change.table == table) (change.rid == rid) here).1 in
     let first = All-head (λ (c : Change). other_in who (lock_of cells c.table c.rid) ≡ None) change changes free in
     subst (λ (t : ℕ). other_in who (lock_of cells t rid) ≡ None) same_table
-        (subst (λ (r : ℕ). other_in who (lock_of cells change.table r) ≡ None) same_rid first))
+    (subst (λ (r : ℕ). other_in who (lock_of cells change.table r) ≡ None) same_rid first))
     (λ (off : is_to table rid change ≡ false).
     let later : touches changes table rid ≡ true = rw off at touched in
     free-at cells who changes table rid (All-tail (λ (c : Change). other_in who (lock_of cells c.table c.rid) ≡ None) change changes free) later)
@@ -76,9 +76,9 @@ pub Locked-write : (h : History) (who : ℕ) (what : What) (place : ℕ) (change
 Locked-write h who what place changes old new adds agrees number free written = record {
   locks = λ table rid other below.
       let list : pending (with_entry h who what) other ≡ (if who == other then pending_after (pending h other) what else pending h other) =
-          pending-push h (record { who = who; what = what }) other in
+      pending-push h (record { who = who; what = what }) other in
       let touched : touches (pending (with_entry h who what) other) table rid ≡
-          (if who == other then touches (pending h other) table rid || touches changes table rid else touches (pending h other) table rid) =
+      (if who == other then touches (pending h other) table rid || touches changes table rid else touches (pending h other) table rid) =
       ap (λ (l : List Change). touches l table rid) list ∙ touched-if (who == other) (pending h other) what changes table rid (adds (pending h other)) in
       ⊎_elim (λ (hit : touches changes table rid ≡ true).
       let cell : lock_at new table rid ≡ who + 1 = written.locks table rid ∙ ap (λ (b : Bool). if b then who + 1 else lock_at old table rid) hit in
@@ -87,17 +87,17 @@ Locked-write h who what place changes old new adds agrees number free written = 
       yes_cell ∙ sym (touched ∙ rw (eq-eqb who other is, hit) (or-true (touches (pending h other) table rid))))
       (λ (apart : who ≡ other → ⊥).
       let no_cell : (lock_at new table rid == suc other) ≡ false =
-          ne_eqb (lock_at new table rid) (suc other) (λ (e : lock_at new table rid ≡ suc other). apart (omega (arith, cell, e))) in
+      ne_eqb (lock_at new table rid) (suc other) (λ (e : lock_at new table rid ≡ suc other). apart (omega (arith, cell, e))) in
       let was : (lock_at old table rid == suc other) ≡ false =
-          names-none who (lock_at old table rid) other (free-at old.locks who changes table rid free.each hit) (λ (e : other ≡ who). apart (sym e)) in
+      names-none who (lock_at old table rid) other (free-at old.locks who changes table rid free.each hit) (λ (e : other ≡ who). apart (sym e)) in
       let untouched : touches (pending h other) table rid ≡ false = sym (agrees.locks table rid other below) ∙ was in
       no_cell ∙ sym (touched ∙ rw (ne_eqb who other apart) untouched))
       (cases_eq who other))
       (λ (miss : touches changes table rid ≡ false).
       let cell : lock_at new table rid ≡ lock_at old table rid = written.locks table rid
-          ∙ ap (λ (b : Bool). if b then who + 1 else lock_at old table rid) miss in
+      ∙ ap (λ (b : Bool). if b then who + 1 else lock_at old table rid) miss in
       let same : (lock_at new table rid == suc other) ≡ touches (pending h other) table rid = ap (λ (n : ℕ). n == suc other) cell
-          ∙ agrees.locks table rid other below in
+      ∙ agrees.locks table rid other below in
       same ∙ sym (touched ∙ missed (who == other) (touches (pending h other) table rid) (touches changes table rid) miss))
       (cases_Bool (touches changes table rid));
   holders =
@@ -120,16 +120,16 @@ Locked-end h who what old new clears agrees number ends = record {
       let touched : touches (pending (with_entry h who what) other) table rid ≡ (if who == other then false else touches (pending h other) table rid) =
       ap (λ (l : List Change). touches l table rid) list ∙ cleared-if (who == other) (pending h other) what table rid (clears (pending h other)) in
       let held : (lock_at old table rid == suc who) ≡ touches mine table rid = agrees.locks table rid who number
-          ∙ ap (λ (l : List Change). touches l table rid) (sym (agrees.changes who)) in
+      ∙ ap (λ (l : List Change). touches l table rid) (sym (agrees.changes who)) in
       ⊎_elim (λ (hit : touches mine table rid ≡ true).
       let cell : lock_at new table rid ≡ 0 = ends.locks table rid ∙ ap (λ (b : Bool). if b then 0 else lock_at old table rid) hit in
       let no_cell : (lock_at new table rid == suc other) ≡ false =
-          ne_eqb (lock_at new table rid) (suc other) (λ (e : lock_at new table rid ≡ suc other). omega (arith, cell, e)) in
+      ne_eqb (lock_at new table rid) (suc other) (λ (e : lock_at new table rid ≡ suc other). omega (arith, cell, e)) in
       let owner : lock_at old table rid ≡ suc who = eq-true (lock_at old table rid) (suc who) (held ∙ hit) in
       ⊎_elim (λ (is : who ≡ other). no_cell ∙ sym (touched ∙ rw (eq-eqb who other is) refl))
       (λ (apart : who ≡ other → ⊥).
       let was : (lock_at old table rid == suc other) ≡ false =
-          ne_eqb (lock_at old table rid) (suc other) (λ (e : lock_at old table rid ≡ suc other). apart (omega (arith, owner, e))) in
+      ne_eqb (lock_at old table rid) (suc other) (λ (e : lock_at old table rid ≡ suc other). apart (omega (arith, owner, e))) in
       let untouched : touches (pending h other) table rid ≡ false = sym (agrees.locks table rid other below) ∙ was in
       no_cell ∙ sym (touched ∙ rw (ne_eqb who other apart) untouched))
       (cases_eq who other))
@@ -160,17 +160,17 @@ holder-is who zero touch few names =
     rw free (and-false (not (other == who)))))
 holder-is who (suc owner) touch few names =
     let off = λ (other : ℕ) (to : other < NUMBERS) (apart : other ≡ owner → ⊥). sym (names other to)
-        ∙ ne_eqb (suc owner) (suc other) (λ (e : suc owner ≡ suc other). apart (omega arith)) in
+    ∙ ne_eqb (suc owner) (suc other) (λ (e : suc owner ≡ suc other). apart (omega arith)) in
     ⊎_elim (λ (is : owner ≡ who).
     let none = find-none (λ other. not (other == who) && touch other) 0 NUMBERS (λ other from to.
     ⊎_elim (λ (same : other ≡ who). rw (eq-eqb other who same) refl)
-        (λ (apart : other ≡ who → ⊥). rw (off other to (λ (e : other ≡ owner). apart (e ∙ is))) (and-false (not (other == who)))) (cases_eq other who)) in
+    (λ (apart : other ≡ who → ⊥). rw (off other to (λ (e : other ≡ owner). apart (e ∙ is))) (and-false (not (other == who)))) (cases_eq other who)) in
     rw (eq-eqb owner who is) (sym none))
     (λ (apart : owner ≡ who → ⊥).
     let yes_touch : touch owner ≡ true = sym (names owner (omega arith)) ∙ eq-eqb (suc owner) (suc owner) refl in
     let here : not (owner == who) && touch owner ≡ true = rw (ne_eqb owner who apart) yes_touch in
     let one =
-        find-one (λ other. not (other == who) && touch other) 0 NUMBERS owner (omega arith) (omega arith) here
-        (λ other to not_it. rw (off other to not_it) (and-false (not (other == who)))) in
+    find-one (λ other. not (other == who) && touch other) 0 NUMBERS owner (omega arith) (omega arith) here
+    (λ other to not_it. rw (off other to not_it) (and-false (not (other == who)))) in
     rw (ne_eqb owner who apart) (sym one))
     (cases_eq owner who)

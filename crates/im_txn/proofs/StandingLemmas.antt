@@ -127,23 +127,32 @@ pub begin-turns : (old : Standing) (who place : ℕ) (mode : Mode) (before after
     before ≡ get_or old.activities who before → after ≡ with_mode place mode before → transactions before + more ≡ transactions after →
     Turns old who before after (old.owed + more)
 begin-turns old who place mode before after more counted number was made count =
-    transaction-turns old who before after (old.owed + more) counted number was (record { cursors =
-        ap (λ (a : Activity). a.cursors) made; room = ap (λ (a : Activity). a.cursor_room) made }) (omega (arith, count))
+    transaction-turns old who before after (old.owed + more) counted number was (record {
+      cursors =
+          ap (λ (a : Activity). a.cursors) made;
+      room = ap (λ (a : Activity). a.cursor_room) made;
+    }) (omega (arith, count))
 
 pub write-turns : (old : Standing) (who place : ℕ) (changes : List Change) (before after : Activity) (more : ℕ) → IsCounted old → who < NUMBERS →
     before ≡ get_or old.activities who before → after ≡ with_changes place changes before → transactions before + more ≡ transactions after →
     Turns old who before after (old.owed + more)
 write-turns old who place changes before after more counted number was made count =
-    transaction-turns old who before after (old.owed + more) counted number was (record { cursors =
-        ap (λ (a : Activity). a.cursors) made; room = ap (λ (a : Activity). a.cursor_room) made }) (omega (arith, count))
+    transaction-turns old who before after (old.owed + more) counted number was (record {
+      cursors =
+          ap (λ (a : Activity). a.cursors) made;
+      room = ap (λ (a : Activity). a.cursor_room) made;
+    }) (omega (arith, count))
 
 pub end-turns : (old : Standing) (who : ℕ) (before after : Activity) (fewer : ℕ) → IsCounted old → who < NUMBERS →
     before ≡ get_or old.activities who before → after ≡ ended before → fewer ≡ transactions before → Turns old who before after (old.owed - fewer)
 end-turns old who before after fewer counted number was made count =
     let part = owed-part old who before counted number was in
     let closed : transactions after ≡ 0 = ap transactions made in
-    transaction-turns old who before after (old.owed - fewer) counted number was (record { cursors =
-        ap (λ (a : Activity). a.cursors) made; room = ap (λ (a : Activity). a.cursor_room) made }) (omega (arith, count, part, closed))
+    transaction-turns old who before after (old.owed - fewer) counted number was (record {
+      cursors =
+          ap (λ (a : Activity). a.cursors) made;
+      room = ap (λ (a : Activity). a.cursor_room) made;
+    }) (omega (arith, count, part, closed))
 
 pub open-turns : (old : Standing) (who : ℕ) (cursor : Cursor) (before after : Activity) → IsCounted old → who < NUMBERS →
     before ≡ get_or old.activities who before → after ≡ with_cursor cursor before → 0 < before.cursor_room → Turns old who before after (old.owed + 1)
@@ -151,7 +160,7 @@ open-turns old who cursor before after counted number was made room =
     let long : length after.cursors ≡ length before.cursors + 1 = ap (λ (a : Activity). length a.cursors) made ∙ length_push before.cursors cursor in
     let left : after.cursor_room ≡ before.cursor_room - 1 = ap (λ (a : Activity). a.cursor_room) made in
     cursor-turns old who before after (old.owed + 1) counted number was (ap (λ (a : Activity). a.begun) made) (λ few. omega (arith, few, long, left, room))
-        (omega (arith, long))
+    (omega (arith, long))
 
 pub shut-turns : (old : Standing) (who number : ℕ) (before after : Activity) (fewer : ℕ) → IsCounted old → who < NUMBERS →
     before ≡ get_or old.activities who before → after ≡ without_cursor number before → length after.cursors + fewer ≡ length before.cursors →
@@ -160,7 +169,7 @@ shut-turns old who number before after fewer counted inside was made count =
     let part = owed-part old who before counted inside was in
     let left : after.cursor_room ≡ before.cursor_room = ap (λ (a : Activity). a.cursor_room) made in
     cursor-turns old who before after (old.owed - fewer) counted inside was (ap (λ (a : Activity). a.begun) made) (λ few. omega (arith, few, left, count))
-        (omega (arith, count, part))
+    (omega (arith, count, part))
 
 -- room is made
 
@@ -182,7 +191,7 @@ roomier-grown old who before after locks turns roomier longer = record {
       (subst (IsRoomier (activity_at old who)) (sym (get_or-set_same old.activities who after idle (inside old who before after old.owed turns)))
       (subst (λ (b : Activity). IsRoomier b after) (before-is old who before after old.owed turns) roomier)))
       (λ (apart : other ≡ who → ⊥). subst (IsRoomier (activity_at old other)) (sym (get_or-set_other old.activities who other after idle apart))
-          (IsRoomier-refl (activity_at old other)))
+      (IsRoomier-refl (activity_at old other)))
       (cases_eq other who);
   locks = longer;
   owed = refl;
@@ -206,7 +215,7 @@ pub idle-idle : IsIdle (record { activities = replicate NUMBERS idle; locks = []
 idle-idle = record {
   activities = λ who.
       ⊎_elim (λ (below : who < NUMBERS). get_or-replicate NUMBERS who idle idle below)
-          (λ (past : NUMBERS ≤ who). get_or_past (replicate NUMBERS idle) who idle (omega (arith, length-replicate NUMBERS idle))) (cases_lt who NUMBERS);
+      (λ (past : NUMBERS ≤ who). get_or_past (replicate NUMBERS idle) who idle (omega (arith, length-replicate NUMBERS idle))) (cases_lt who NUMBERS);
   locks = λ table rid. cell_at-nil 0 table rid;
   owed = refl;
 }

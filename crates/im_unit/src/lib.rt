@@ -13,4 +13,3 @@
 mod unit;
 
 pub use unit::ColumnUnit;
-

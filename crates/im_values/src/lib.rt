@@ -30,4 +30,3 @@ pub use schema::{Column, Kind, Schema, fits};
 pub use steps::Steps;
 pub use truth::Truth;
 pub use value::Value;
-

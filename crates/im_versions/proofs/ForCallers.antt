@@ -17,7 +17,7 @@ newest-push versions version =
     let long : length (versions ++ version ∷ []) ≡ length versions + 1 = length_push versions version in
     let place : length (versions ++ version ∷ []) - 1 ≡ length versions = omega arith in
     rw place (slice_get-get_or (versions ++ version ∷ []) (length versions) version (omega arith)
-        ∙ ap Some (get_or_push versions version version (length versions) refl))
+    ∙ ap Some (get_or_push versions version version (length versions) refl))
 
 pub latest-push : (versions : List Version) (version : Version) → latest (versions ++ version ∷ []) ≡ Some version.scn
 latest-push versions version = ap (option_map (λ (v : Version). v.scn)) (newest-push versions version)
@@ -27,7 +27,7 @@ row_at-push_by : (b : Bool) (versions : List Version) (version : Version) (scn :
     row_at (versions ++ version ∷ []) scn ≡ (if b then version.row else row_at versions scn)
 row_at-push_by true versions version scn is =
     rw (filter-append (λ (v : Version). nat_le v.scn scn) versions (version ∷ []), is)
-        (ap (option_and_then (λ (v : Version). v.row)) (newest-push (versions_to scn versions) version))
+    (ap (option_and_then (λ (v : Version). v.row)) (newest-push (versions_to scn versions) version))
 row_at-push_by false versions version scn is =
     rw (filter-append (λ (v : Version). nat_le v.scn scn) versions (version ∷ []), is, append-nil (versions_to scn versions)) refl
 

@@ -25,8 +25,11 @@ filter-partitioned p (x ∷ xs) zero parts =
     rw here (filter-partitioned p xs zero (λ k d l h. absurd (omega arith), λ k d l h. parts.1 (suc k) d (omega arith) (omega arith)))
 filter-partitioned p (x ∷ xs) (suc i) parts =
     let here : p x ≡ true = parts.0 0 x (omega arith) (omega arith) in
-    rw here (ap (λ l. x ∷ l) (filter-partitioned p xs i (λ k d l h. parts.0 (suc k) d (omega arith) (omega arith), λ k d l h. parts.1 (suc k) d
-        (omega arith) (omega arith))))
+    rw here (ap (λ l. x ∷ l) (filter-partitioned p xs i (
+      λ k d l h. parts.0 (suc k) d (omega arith) (omega arith),
+      λ k d l h. parts.1 (suc k) d
+          (omega arith) (omega arith),
+    )))
 
 -- where the newest version is at or below an SCN, all are
 pub all_to : (versions : List Version) (scn : ℕ) (newest : Version) → IsRising versions → Some newest ≡ slice_get versions (length versions - 1) →
@@ -36,10 +39,10 @@ all_to versions scn newest rising last below =
     let to_last : (k : ℕ) (d : Version) → k < length versions → (get_or versions k d).scn ≤ scn = λ k d h.
     let up : (get_or versions k d).scn ≤ (get_or versions (length versions - 1) d).scn = rises versions rising k (length versions - 1) d (omega arith) inside in
     let is : (get_or versions (length versions - 1) d).scn ≡ newest.scn =
-        ap (λ v. v.scn) (get_or_from_slice_get versions (length versions - 1) newest d (sym last)) in
+    ap (λ v. v.scn) (get_or_from_slice_get versions (length versions - 1) newest d (sym last)) in
     omega arith in
     sym (filter-partitioned (λ v. nat_le v.scn scn) versions (length versions) (λ k d l h. le-leb _ _ (to_last k d h), λ k d l h. absurd (omega arith))
-        ∙ take_all (length versions) versions (le_refl _))
+    ∙ take_all (length versions) versions (le_refl _))
 
 -- the versions at or below an SCN, up to a partition point
 pub part_to : (versions : List Version) (scn i : ℕ) → IsPartitionPoint (λ v. nat_le v.scn scn ≡ true) (λ v. nat_le v.scn scn ≡ false) versions i →
@@ -57,6 +60,6 @@ IsRising-push versions version rising later k d h =
     let end : length versions ≡ k + 1 = omega (arith, long, h) in
     let place : length versions - 1 ≡ k = omega arith in
     let last : latest versions ≡ Some (get_or versions k d).scn =
-        rw place (ap (option_map (λ (v : Version). v.scn)) (slice_get-get_or versions k d (omega arith))) in
+    rw place (ap (option_map (λ (v : Version). v.scn)) (slice_get-get_or versions k d (omega arith))) in
     rw (first, get_or_push versions version d (k + 1) end) (later _ last))
     (cases_lt (k + 1) (length versions))

@@ -11,7 +11,7 @@ pub loop-place-preserved : goal.loop-place-preserved
 loop-place-preserved c =
     let next = rw c.share.ensures at c.word_from.ensures in
     rw c.in_ok-push.ensures.items (words_of-more c.args.width c.args.codes.now c.loop-place.place _ c.loop-place.words.items _ c.words_for-count.ensures
-        c.loop-place-test.true c.loop-place.invariant next)
+    c.loop-place-test.true c.loop-place.invariant next)
 
 pub returns : goal.returns
 returns c =

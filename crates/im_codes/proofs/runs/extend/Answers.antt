@@ -14,4 +14,4 @@ returns-in_ok-push-in-Some c = rw c.in_ok-push-in-Some.ensures.items (extends-la
 pub returns-in_ok-push-in-Some-2-2 : goal.returns-in_ok-push-in-Some-2-2
 returns-in_ok-push-in-Some-2-2 c =
     rw (c.in_ok-push-in-Some-2-2.ensures.items, c.in_ok-push-in-Some-2.ensures.items)
-        (extends-next _ _ _ _ c.requires.runs c.in-Some.ensures.items c.if-last-code.false refl)
+    (extends-next _ _ _ _ c.requires.runs c.in-Some.ensures.items c.if-last-code.false refl)

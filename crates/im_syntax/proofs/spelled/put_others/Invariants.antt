@@ -6,4 +6,4 @@ use Rattle.im_syntax.proofs.spelled.put_others.Given as goal
 abbrev pub invariant-loop-part : goal.invariant-loop-part
 invariant-loop-part g l =
     l.out.items ++ spell_others spell.comma g.T.Spelled.tokens (drop l.part-index l.parts)
-        ≡ l.fn.out.items ++ spell_others spell.comma g.T.Spelled.tokens l.parts
+    ≡ l.fn.out.items ++ spell_others spell.comma g.T.Spelled.tokens l.parts

@@ -8,4 +8,4 @@ pub returns : goal.returns
 returns c =
     c.copied.ensures
     ∙ find_from_yields_List (is_number c.args.number) _ _ c.find.result c.find.ensures.ran (YieldsList-from_slice c.args.cursors.now cc)
-        (λ x b q k. search (rules, tests))
+    (λ x b q k. search (rules, tests))

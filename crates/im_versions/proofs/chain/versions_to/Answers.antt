@@ -12,4 +12,4 @@ returns-in_default c =
     let versions = c.args.versions.now in
     let parted = IsPartitionedBy-leb (λ v. v.scn) versions c.args.scn (rises versions c.requires) in
     part_to versions c.args.scn c.partition_point.result (c.partition_point.ensures.partitioned (λ v. nat_le v.scn c.args.scn)
-        (always_returns_same _ _ _ (λ a r f k. search (rules, of_calls))) parted)
+    (always_returns_same _ _ _ (λ a r f k. search (rules, of_calls))) parted)

@@ -9,7 +9,7 @@ pub index-requires : goal.index-requires
 index-requires c =
     let some : 0 < c.self.inside.width = omega arith in
     let there =
-        get-inside _ _ _ _ c.args.i _ (ap (λ b. b.codes) c.self.view_is) c.self.invariant.2 some c.self.invariant.0 c.requires c.per_word-share.ensures in
+    get-inside _ _ _ _ c.args.i _ (ap (λ b. b.codes) c.self.view_is) c.self.invariant.2 some c.self.invariant.0 c.requires c.per_word-share.ensures in
     omega (arith, there, c.self.inside.words.ok.0)
 
 pub returns-clause-code : goal.returns-clause-code

@@ -14,6 +14,6 @@ returns c =
     let codes = c.args.codes.now in
     let items = c.in_ok-words_from.field-0.items in
     let back : codes_in c.args.width items (length codes) ≡ codes =
-        rw c.in_ok-words_from.ensures (codes_in-words_of c.args.width codes c.requires.width c.requires.fit) in
+    rw c.in_ok-words_from.ensures (codes_in-words_of c.args.width codes c.requires.width c.requires.fit) in
     let packed : List ℕ → Packed = λ (l : List ℕ). record { width = c.args.width; codes = l } in
     ap packed back

@@ -11,6 +11,6 @@ loop-rid-preserved g c =
     record {
       rows =
           rows_at-more c.args.self.now c.args.table c.args.first c.loop-rid.rid c.args.scn c.in_ok-copied.field-0 c.loop-rid.rows.items
-              c.push.new.self.items from c.loop-rid.invariant.rows (rw c.in_ok-copied.ensures copy) c.in_ok-push.ensures.items;
+          c.push.new.self.items from c.loop-rid.invariant.rows (rw c.in_ok-copied.ensures copy) c.in_ok-push.ensures.items;
       few = omega (arith, few, past, from);
     }

@@ -7,4 +7,4 @@ pub invariant_of-self : goal.invariant_of-self
 invariant_of-self c =
     let held : IsSome (build_among c.self.inside.list.items c.args.id) = rw (← c.self.view_is) at c.requires in
     count-end c.self.inside.list.items _ c.args.id c.self.inside.held held
-        (ap (set c.self.inside.list.items (c.args.id - 1)) c.replace.ensures.after) c.self.invariant
+    (ap (set c.self.inside.list.items (c.args.id - 1)) c.replace.ensures.after) c.self.invariant

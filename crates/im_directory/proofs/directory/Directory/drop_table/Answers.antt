@@ -11,7 +11,7 @@ loop-extent-init g c = Dropping-none c.args.self.now c.args.place c.args.table
 pub loop-extent-preserved : goal.loop-extent-preserved
 loop-extent-preserved g c =
     Dropping-next c.args.self.now c.loop-extent.self c.evict.new.self c.args.place c.args.table c.loop-extent.extent c.loop-extent.invariant
-        c.evict.ensures.dropped
+    c.evict.ensures.dropped
 
 pub returns : goal.returns
 returns g c =

@@ -8,4 +8,4 @@ note_all-requires-clause-later g c = rw (← c.self.view_is) at (AreBefore-from 
 pub invariant_of-self : goal.invariant_of-self
 invariant_of-self g c =
     IsSound-noted _ _ c.args.tables.now c.args.scn c.args.changes.now
-        (IsNoted-made _ _ c.self.inside.builds c.args.tables.now c.args.scn c.args.changes.now c.note_all.ensures) c.self.invariant
+    (IsNoted-made _ _ c.self.inside.builds c.args.tables.now c.args.scn c.args.changes.now c.note_all.ensures) c.self.invariant

@@ -8,6 +8,6 @@ loop-change-preserved g c = record {
   same = TellsAlike-trans _ _ _ c.loop-change.invariant.same c.count.ensures.same;
   counted =
       WentThrough-step (λ change. slot_counted) _ _ _ c.args.tables.now c.args.changes.now c.loop-change.change-index c.extent_of.result
-          c.change-item.result refl c.loop-change.invariant.counted c.loop-change-test.true c.change-item.is c.extent_of.ensures
-              c.in_ok-count.ensures.counted;
+      c.change-item.result refl c.loop-change.invariant.counted c.loop-change-test.true c.change-item.is c.extent_of.ensures
+      c.in_ok-count.ensures.counted;
 }

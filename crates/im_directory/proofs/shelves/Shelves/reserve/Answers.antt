@@ -17,4 +17,4 @@ returns-clause-same g c =
     let grown : KeepsSlots c.args.self.now slots = rw (← c.self.view_is) at (KeepsSlots_padded _ _ c.in_ok-grow.ensures.same) in
     KeepsSlots-trans c.args.self.now slots _ grown
     (KeepsSlots-set slots c.args.table c.grow-2.new.self above
-        (subst (λ (s : List (Slot g.row.U.Denot)). IsPadded nothing s c.grow-2.new.self) shelf c.grow-2.ensures.same))
+    (subst (λ (s : List (Slot g.row.U.Denot)). IsPadded nothing s c.grow-2.new.self) shelf c.grow-2.ensures.same))

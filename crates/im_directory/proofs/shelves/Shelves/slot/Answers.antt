@@ -20,5 +20,5 @@ returns g c =
     let inside : c.args.table < length c.deref.result.now = ltb-true c.args.table (length c.deref.result.now) (sym c.in_ok-get.ensures.lookup.0) in
     slot_at_found c.args.self.now c.args.table c.args.extent c.in_ok-get.field-0.now _
     (get_or_read c.deref.result.now _ _ inside c.in_ok-get.ensures.lookup.1 []
-        ∙ ap (λ (s : List (List (Slot g.row.U.Denot))). slice_index_or s c.args.table []) slots)
+    ∙ ap (λ (s : List (List (Slot g.row.U.Denot))). slice_index_or s c.args.table []) slots)
     c.slot.ensures

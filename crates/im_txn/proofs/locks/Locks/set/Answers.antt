@@ -12,7 +12,7 @@ returns c =
       | in-Some w ↦ ap (λ inside. inside.cells) w.self-inside-is ∙ is
       | in_default w ↦
           let none : found_at c.self.inside.cells c.args.change.now.table c.args.change.now.rid ≡ None = sym c.get_mut.ensures.value
-              ∙ ap option_copied_mut w.in_default.is in
+          ∙ ap option_copied_mut w.in_default.is in
           ap (λ inside. inside.cells) w.self-inside-is ∙ (sym
-              (with_cell-none c.self.inside.cells c.args.change.now.table c.args.change.now.rid c.args.value none) ∙ is)
+          (with_cell-none c.self.inside.cells c.args.change.now.table c.args.change.now.rid c.args.value none) ∙ is)
     ]

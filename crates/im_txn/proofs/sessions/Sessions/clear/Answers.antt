@@ -13,22 +13,22 @@ overflow_sub-self c =
 pub invariant_of-self : goal.invariant_of-self
 invariant_of-self c =
     let same =
-        same-read _ c.index-at.result c.index.result.now c.index_mut.result.now c.self.invariant c.index-at.ensures.few c.index.ensures
-            c.index_mut.ensures.value in
+    same-read _ c.index-at.result c.index.result.now c.index_mut.result.now c.self.invariant c.index-at.ensures.few c.index.ensures
+    c.index_mut.ensures.value in
     Turns-counted _ _ _ _ c.set_all.new.self _ (end-turns _ c.index-at.result c.index_mut.result.now c.end-changes.new.self c.transactions-fewer.result
-        c.self.invariant c.index-at.ensures.few c.index_mut.ensures.value c.end-changes.ensures.after (c.transactions-fewer.ensures ∙ ap transactions same))
+    c.self.invariant c.index-at.ensures.few c.index_mut.ensures.value c.end-changes.ensures.after (c.transactions-fewer.ensures ∙ ap transactions same))
 
 pub returns-clause-after : goal.returns-clause-after
 returns-clause-after c =
     let same =
-        same-read _ c.index-at.result c.index.result.now c.index_mut.result.now c.self.invariant c.index-at.ensures.few c.index.ensures
-            c.index_mut.ensures.value in
+    same-read _ c.index-at.result c.index.result.now c.index_mut.result.now c.self.invariant c.index-at.ensures.few c.index.ensures
+    c.index_mut.ensures.value in
     let turns =
-        end-turns _ c.index-at.result c.index_mut.result.now c.end-changes.new.self c.transactions-fewer.result c.self.invariant c.index-at.ensures.few
-            c.index_mut.ensures.value c.end-changes.ensures.after (c.transactions-fewer.ensures ∙ ap transactions same) in
+    end-turns _ c.index-at.result c.index_mut.result.now c.end-changes.new.self c.transactions-fewer.result c.self.invariant c.index-at.ensures.few
+    c.index_mut.ensures.value c.end-changes.ensures.after (c.transactions-fewer.ensures ∙ ap transactions same) in
     let cells = c.set_all.ensures ∙ ap (set_cells 0 c.self.inside.locks) c.items.ensures in
     rw (← c.index-at.ensures.same, ← c.self.view_is) (ended-set _ _ c.end-changes.result _ _ c.set_all.new.self _ turns c.end-changes.ensures.after cells
-        c.end-changes.ensures.handed)
+    c.end-changes.ensures.handed)
 
 pub returns-clause-handed : goal.returns-clause-handed
 returns-clause-handed c =

@@ -19,8 +19,8 @@ overflow_add-self c =
     let room : c.index_mut.result.now.cursor_room ≡ (activity_at c.args.self.now c.index.result).cursor_room =
     ap (λ (a : Activity). a.cursor_room) is ∙ ap (λ (s : Standing). (activity_at s c.index.result).cursor_room) c.self.view_is in
     let turns =
-        open-turns _ c.index.result c.args.cursor c.index_mut.result.now c.open_cursor.new.self c.self.invariant c.index.ensures.few
-            c.index_mut.ensures.value c.open_cursor.ensures (omega (arith, room, has)) in
+    open-turns _ c.index.result c.args.cursor c.index_mut.result.now c.open_cursor.new.self c.self.invariant c.index.ensures.few
+    c.index_mut.ensures.value c.open_cursor.ensures (omega (arith, room, has)) in
     omega (arith, Turns-fits _ _ _ _ _ turns)
 
 pub invariant_of-self : goal.invariant_of-self
@@ -30,8 +30,8 @@ invariant_of-self c =
     let room : c.index_mut.result.now.cursor_room ≡ (activity_at c.args.self.now c.index.result).cursor_room =
     ap (λ (a : Activity). a.cursor_room) is ∙ ap (λ (s : Standing). (activity_at s c.index.result).cursor_room) c.self.view_is in
     let turns =
-        open-turns _ c.index.result c.args.cursor c.index_mut.result.now c.open_cursor.new.self c.self.invariant c.index.ensures.few
-            c.index_mut.ensures.value c.open_cursor.ensures (omega (arith, room, has)) in
+    open-turns _ c.index.result c.args.cursor c.index_mut.result.now c.open_cursor.new.self c.self.invariant c.index.ensures.few
+    c.index_mut.ensures.value c.open_cursor.ensures (omega (arith, room, has)) in
     Turns-counted _ _ _ _ c.self.inside.locks _ turns
 
 pub returns : goal.returns
@@ -41,7 +41,10 @@ returns c =
     let room : c.index_mut.result.now.cursor_room ≡ (activity_at c.args.self.now c.index.result).cursor_room =
     ap (λ (a : Activity). a.cursor_room) is ∙ ap (λ (s : Standing). (activity_at s c.index.result).cursor_room) c.self.view_is in
     let turns =
-        open-turns _ c.index.result c.args.cursor c.index_mut.result.now c.open_cursor.new.self c.self.invariant c.index.ensures.few
-            c.index_mut.ensures.value c.open_cursor.ensures (omega (arith, room, has)) in
-    rw (← c.index.ensures.same, ← c.self.view_is) (record { activity =
-        Turns-becomes _ _ _ _ c.self.inside.locks _ (with_cursor c.args.cursor) turns c.open_cursor.ensures; locks = refl })
+    open-turns _ c.index.result c.args.cursor c.index_mut.result.now c.open_cursor.new.self c.self.invariant c.index.ensures.few
+    c.index_mut.ensures.value c.open_cursor.ensures (omega (arith, room, has)) in
+    rw (← c.index.ensures.same, ← c.self.view_is) (record {
+      activity =
+          Turns-becomes _ _ _ _ c.self.inside.locks _ (with_cursor c.args.cursor) turns c.open_cursor.ensures;
+      locks = refl;
+    })

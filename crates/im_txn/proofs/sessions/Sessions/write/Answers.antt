@@ -7,22 +7,22 @@ use Rattle.im_txn.proofs.sessions.Sessions.write.Goals as goal
 pub overflow_add-self : goal.overflow_add-self
 overflow_add-self c =
     let turns =
-        write-turns _ c.index-at.result c.args.place c.args.changes.items c.index_mut.result.now c.write-more.new.self c.write-more.result c.self.invariant
-            c.index-at.ensures.few c.index_mut.ensures.value c.write-more.ensures.after c.write-more.ensures.more in
+    write-turns _ c.index-at.result c.args.place c.args.changes.items c.index_mut.result.now c.write-more.new.self c.write-more.result c.self.invariant
+    c.index-at.ensures.few c.index_mut.ensures.value c.write-more.ensures.after c.write-more.ensures.more in
     omega (arith, Turns-fits _ _ _ _ _ turns)
 
 pub invariant_of-self : goal.invariant_of-self
 invariant_of-self c =
     Turns-counted _ _ _ _ c.set_all.new.self _ (write-turns _ c.index-at.result c.args.place c.args.changes.items c.index_mut.result.now
-        c.write-more.new.self c.write-more.result c.self.invariant c.index-at.ensures.few c.index_mut.ensures.value c.write-more.ensures.after
-            c.write-more.ensures.more)
+    c.write-more.new.self c.write-more.result c.self.invariant c.index-at.ensures.few c.index_mut.ensures.value c.write-more.ensures.after
+    c.write-more.ensures.more)
 
 pub returns : goal.returns
 returns c =
     let turns =
-        write-turns _ c.index-at.result c.args.place c.args.changes.items c.index_mut.result.now c.write-more.new.self c.write-more.result c.self.invariant
-            c.index-at.ensures.few c.index_mut.ensures.value c.write-more.ensures.after c.write-more.ensures.more in
+    write-turns _ c.index-at.result c.args.place c.args.changes.items c.index_mut.result.now c.write-more.new.self c.write-more.result c.self.invariant
+    c.index-at.ensures.few c.index_mut.ensures.value c.write-more.ensures.after c.write-more.ensures.more in
     let cells = c.set_all.ensures ∙ ap (set_cells (c.index-at.result + 1) c.self.inside.locks) c.as_slice.ensures.value in
     let has : HasCells c.self.inside.locks c.args.changes.items = rw (← ap (λ (s : Standing). s.locks) c.self.view_is) at c.requires.room.cells in
     rw (← c.index-at.ensures.same, ← c.self.view_is) (written-set _ _ c.args.place c.args.changes.items _ _ c.set_all.new.self _ turns
-        c.write-more.ensures.after cells has)
+    c.write-more.ensures.after cells has)
