@@ -1,7 +1,6 @@
 pub mod AssignLemmas
 pub mod KeepLemmas
 pub mod KnownLemmas
-pub mod LineLemmas
 pub mod OpeningLemmas
 pub mod PlanLemmas
 pub mod PlayLemmas

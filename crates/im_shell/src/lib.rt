@@ -12,7 +12,6 @@
 
 mod built;
 mod changes;
-mod lines;
 mod play;
 mod player;
 mod put_at;

@@ -7,7 +7,6 @@ ghost use Rattle.im_shell.specs.Play.{Plays, PlaysInPart};
 ghost use Rattle.im_shell.specs.inner.Answers.{Answers, IsBetween, IsKnown};
 ghost use Rattle.im_shell.specs.Requests.{script_limits};
 
-use crate::lines::first_line;
 use crate::refusals::out_of_memory;
 use crate::statement::play_statement;
 use crate::unit::NoUnit;
@@ -15,7 +14,7 @@ use im_core::Core;
 use im_edge::{Sink, WriteFault, write_all};
 use im_history::Limits;
 use im_replies::{Fault, Reply};
-use im_script::{Line, LineKind, line_of};
+use im_script::{Line, LineKind, first_line, line_of};
 use im_values::limits::{MOST_CHANGES, MOST_WEIGHT};
 use im_values::{NoMemory, Steps};
 use std::alloc::Global;
