@@ -185,7 +185,7 @@ impl Played {
         is_so
     }
 
-    /// Plays a step, at the second try where memory lacks at the first: what is found then is what was found before.
+    /// Plays a step, at the second try where memory runs out at the first: what is found then is what was found before.
     fn play_again(&mut self, alloc: Global, step: Step, before: Found) -> Result<bool, NoMemory> {
         let first = self.play(alloc, step);
         if first.is_err() {
@@ -220,7 +220,7 @@ impl Played {
         self.directory.drop_table(place, table);
     }
 
-    /// Whether this is found, at the second try where memory lacks at the first.
+    /// Whether this is found, at the second try where memory runs out at the first.
     fn has_again(&self, found: Found) -> Result<bool, NoMemory> {
         let first = self.has(found);
         if first.is_err() {
@@ -295,7 +295,7 @@ fn tables(alloc: Global) -> Result<Catalog, NoMemory> {
     first.with(alloc, table(alloc, 1)?)
 }
 
-/// A directory of which nothing is told.
+/// A directory of which nothing is read.
 fn fresh(alloc: Global) -> Result<Played, NoMemory> {
     let tables = tables(alloc)?;
     Ok(Played {

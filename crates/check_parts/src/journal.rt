@@ -9,7 +9,7 @@ fn is_stale_at(alloc: Global, journal: &Journal, scn: u64, expected: &[u64]) -> 
     Ok(journal.stale_at(alloc, scn)?.as_slice() == expected)
 }
 
-/// Makes room for so many notes, at the second try where memory lacks at the first.
+/// Makes room for so many notes, at the second try where memory runs out at the first.
 ///
 /// It answers whether these rows are stale after the first try.
 fn reserve_twice(

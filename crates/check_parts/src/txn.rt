@@ -94,7 +94,7 @@ fn take(alloc: Global, sessions: &mut Sessions, who: Who, step: Step) -> Result<
         Step::Begin { mode } => sessions.begin(who, 10, mode),
         Step::Open { cursor } => open_one(sessions, who, cursor)?,
         Step::Shut { cursor } => sessions.shut(who, cursor),
-        Step::End => return Ok(sessions.clear(who).items().len() as u64),
+        Step::End => return Ok(sessions.clear(who).len() as u64),
     }
     Ok(sessions.cursors_open(who))
 }
@@ -185,8 +185,11 @@ fn a_transaction_keeps_its_mode_and_its_place(rt: HostRuntime) -> Result<(), Fai
         (sessions.mode(fourth), sessions.begun(fourth)),
         (Mode::Committed, Some(6))
     );
-    assert_eq!(rt; sessions.own(rt.alloc(), third, 1)?.items().len(), 1);
-    assert_eq!(rt; sessions.own(rt.alloc(), third, 2)?.items().len(), 0);
+    let own = sessions.own(third, 1)?;
+    assert!(rt; own.between(1, 0, 100).next().is_some());
+    assert!(rt; own.between(2, 0, 100).next().is_none());
+    let own = sessions.own(third, 2)?;
+    assert!(rt; own.between(2, 0, 100).next().is_none());
     open_one(&mut sessions, third, 5)?;
     assert_eq!(rt;
         sessions.cursor(third, 5).map(|cursor| cursor.rows),

@@ -50,7 +50,7 @@ fn has_rows<L: Ledger>(blank: Blank, chain: &Chain, rows: &[(u64, Option<i64>)])
     true
 }
 
-/// Makes room for one version, at the second try where memory lacks at the first.
+/// Makes room for one version, at the second try where memory runs out at the first.
 ///
 /// It answers whether the chain has these rows, and the same newest version, after the first try.
 fn reserve_twice<L: Ledger>(

@@ -205,7 +205,7 @@ fn a_fault_of_the_source_or_the_sink_ends_a_run(rt: HostRuntime) -> Result<(), F
 }
 
 #[test]
-fn wrong_words_are_told(rt: HostRuntime) -> Result<(), Fail> {
+fn wrong_words_are_refused(rt: HostRuntime) -> Result<(), Fail> {
     let commands: [&[&str]; 4] = [&[], &["ime"], &["ime", "walk"], &["ime", "run", "run"]];
     for command in commands {
         let case = Case {
@@ -213,6 +213,28 @@ fn wrong_words_are_told(rt: HostRuntime) -> Result<(), Fail> {
             ..plain(TWO_ROWS, "")
         };
         check(&rt, rt.alloc(), command, &case)?;
+    }
+    Ok(())
+}
+
+/// Each way in which a run may end, with the exit status and what stands on standard error.
+const ENDS: [(Status, u8, Option<&str>); 6] = [
+    (Status::Done, 0, None),
+    (
+        Status::Usage,
+        1,
+        Some("ime: usage: ime run [--area N] [--workers N] [--turns N] [--rows N] [--seed N]"),
+    ),
+    (Status::ReadFault, 2, Some("ime: read failed")),
+    (Status::WriteFault, 3, Some("ime: write failed")),
+    (Status::NoMemory, 4, Some("ime: no memory")),
+    (Status::ScriptTooLong, 5, Some("ime: script too long")),
+];
+
+#[test]
+fn each_end_has_an_exit_status_and_a_line(rt: HostRuntime) -> Result<(), Fail> {
+    for (status, code, line) in ENDS {
+        assert_eq!(rt; (status.code(), status.line()), (code, line));
     }
     Ok(())
 }

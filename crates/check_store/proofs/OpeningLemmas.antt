@@ -1,7 +1,8 @@
 -- A cursor that was opened last.
-use Rattle.std.proofs.Common.{◌≡◌, ℕ, zero, suc, ◌+◌, ◌*◌, ◌<◌, ◌==◌, ◌||◌, Bool, true, false, IsTrue, if◌then◌else◌, List, [], ◌∷◌, ◌++◌, length, map, filter, All, Option, Some, None, is_some, slice_get, refl, sym, ap, ◌∙◌, arith, add-zero}
+use Rattle.std.proofs.Common.{◌≡◌, ℕ, zero, suc, ◌+◌, ◌*◌, ◌<◌, ◌==◌, ◌||◌, Bool, true, false, IsTrue, if◌then◌else◌, List, [], ◌∷◌, ◌++◌, length, All, Option, Some, None, is_some, slice_get, refl, sym, ap, ◌∙◌, arith}
 use Rattle.std.specs.Bool.{OnTrue}
 use Rattle.std.specs.Prelude.{IsSomeAnd, OnOk, OnErr}
+use Rattle.std.specs.Option.{unwrap_or}
 use Rattle.std.specs.List.{find, fold, list_any, range_with_len}
 use Rattle.std.specs.declared.result.Result.{Result}
 use Rattle.std.specs.declared.result.Result.TheVariants.{Ok, Err}
@@ -12,19 +13,22 @@ use Rattle.im_history.specs.declared.change.Change.{Change}
 use Rattle.im_history.specs.declared.entry.What.TheVariants.{Open, Write}
 use Rattle.im_history.specs.declared.look.TableInfo.{TableInfo}
 use Rattle.im_history.specs.declared.refused.Refused.{Refused}
-use Rattle.im_history.specs.declared.refused.Why.{Why}
 use Rattle.im_history.specs.declared.refused.Why.TheVariants.{CursorOpen}
 use Rattle.im_history.specs.declared.view.View.{View}
 use Rattle.im_history.specs.Cursors.{Opened, opened, opened_after, cursor_at, is_cursor, is_cursor_open}
 use Rattle.im_history.specs.History.{History}
+use Rattle.im_history.specs.Last.{change_of}
 use Rattle.im_history.specs.Legal.{MayInsert, MayWrite, row_fits, still_seen}
 use Rattle.im_history.specs.Refusals.{open_refusal}
 use Rattle.im_history.specs.Rows.{Row, rows, row_after, seen, own_changes}
 use Rattle.im_history.specs.Tables.{tables, table_at}
 use Rattle.im_history.specs.Transactions.{pending, pending_after}
+use Rattle.im_history.specs.Units.{stale}
 use Rattle.im_history.specs.Views.{seen_by, view_at}
+use Rattle.im_history.proofs.LastLaws.{change_of-of, last-suffices}
 use Rattle.im_history.proofs.Laws.{opened-push, pending-push, tables-push}
-use Rattle.im_core.specs.Answers.{cursor_view, view_of, committed_in, rows_in}
+use Rattle.im_core.specs.Answers.{cursor_view, view_of}
+use Rattle.im_history.specs.Serving.{committed_among, fetched_by, fetched_in, rows_in, serving}
 use Rattle.im_core.specs.Seen.{Seen, Adds}
 
 -- a cursor that may be opened is not open
@@ -94,43 +98,43 @@ open-write h who other cursor changes is_open =
     if_same true os = refl
     if_same false os = refl
 
--- changes to other tables change nothing
-none-own : (table rid : ℕ) (changes : List Change) (x : Option Row) → filter (λ change. change.table == table) changes ≡ []
-    → fold (row_after table rid) x changes ≡ x
-none-own table rid [] x none = refl
-none-own table rid (change ∷ changes) x none = by (change.table == table) refl (none-own table rid changes x)
-  where
-    by : (b : Bool) → (change.table == table) ≡ b → (filter (λ c. c.table == table) changes ≡ [] → fold (row_after table rid) x changes ≡ x)
-        → fold (row_after table rid) x (change ∷ changes) ≡ x
-    by true e rest = let no : change ∷ filter (λ c. c.table == table) changes ≡ [] = rw e at none in cc
-    by false e rest = rw e (rest (rw e at none))
+-- this row was fetched, and stands
+abbrev pub IsRow : ℕ → ℕ × Option Row → Type 0
+IsRow rid found = (found.0 ≡ rid) × IsTrue (is_some found.1)
 
--- an element of what a function makes of a range
-in_range : {X : Type 0} (f : ℕ → X) (P : X → Type 0) (a n k : ℕ) → IsSomeAnd (slice_get (map f (range_with_len a n)) k) P → (k < n) × P (f (a + k))
-in_range f P a zero k found = absurd found
-in_range f P a (suc n) zero found = (omega arith, rw add-zero found)
-in_range f P a (suc n) (suc k) found =
-    let rest = in_range f P (a + 1) n k found in
-    let past : a + suc k ≡ a + 1 + k = omega arith in
-    (let within = rest.0 in omega (arith, within), rw past rest.1)
-
--- the row was fetched, and stands
+-- it stands at the place of its number
 abbrev pub HasRow : List (ℕ × Option Row) → ℕ → Type 0
-HasRow fetched rid = IsSomeAnd (slice_get fetched rid) (λ found. IsTrue (is_some found.1))
+HasRow fetched rid = IsSomeAnd (slice_get fetched rid) (IsRow rid)
 
--- a row that was fetched of the first extent may be changed, where the session has nothing pending to the table
-pub may-write : (before h : History) (who cursor table rid : ℕ) (row : Row) → IsOpening before h who cursor table → own_changes before who table ≡ []
-    → MayInsert before table (row ∷ []) → HasRow (committed_in h (cursor_view h who cursor) 0) rid
+-- a row that was fetched is the one that was committed
+committed-row : (h : History) (view : View) (numbers : List ℕ) (place rid : ℕ) → IsSomeAnd (slice_get (committed_among h view numbers) place) (IsRow rid)
+    → IsTrue (is_some (rows h view.table view.scn rid))
+committed-row h view [] place rid has = absurd has
+committed-row h view (number ∷ numbers) zero rid has = rw has.0 at has.1
+committed-row h view (number ∷ numbers) (suc place) rid has = committed-row h view numbers place rid has
+
+-- beside a unit or without one
+fetched-row : (h : History) (view : View) (extent rid : ℕ) → HasRow (fetched_in h view extent) rid → IsTrue (is_some (rows h view.table view.scn rid))
+fetched-row h view extent rid has = by (serving h view extent) has
+  where
+    by : (served : Option ℕ) → HasRow (fetched_by h view extent served) rid → IsTrue (is_some (rows h view.table view.scn rid))
+    by None from = committed-row h view (range_with_len (extent * view.per) (rows_in view extent)) rid rid from
+    by (Some unit_scn) from = committed-row h view (stale h view.table extent unit_scn view.scn) rid rid from
+
+-- a row that was fetched of the first extent may be changed, where the session has nothing pending to it
+pub may-write : (before h : History) (who cursor table rid : ℕ) (row : Row) → IsOpening before h who cursor table
+    → change_of (own_changes before who table) table rid ≡ None
+    → MayInsert before table (row ∷ []) → rid < (view_at before who table).rows → HasRow (fetched_in h (cursor_view h who cursor) 0) rid
     → MayWrite h who cursor (record { table = table; rid = rid; row = Some row } ∷ [])
 unfolding seen
-may-write before h who cursor table rid row o none may has = record {
+may-write before h who cursor table rid row o none may within has = record {
   opened = opened_by before who cursor table;
   is = cursor_at-opening before h who cursor table o;
   exists = record { made = may.exists.made; is = table_is table ∙ may.exists.is };
   some = omega arith;
   same = one (λ c. c.table ≡ table) refl;
   rising = λ k d within. absurd (omega (arith, within));
-  inside = one (λ c. c.rid < view.rows) (let within = here.0 in omega (arith, within));
+  inside = one (λ c. c.rid < view.rows) within;
   saw = one (λ c. IsTrue (is_some (seen_by h view c.rid))) (ap is_some sees ∙ found);
   stands =
       one (λ c. IsTrue (is_some (still_seen h who (opened_by before who cursor table) c.rid)))
@@ -144,16 +148,16 @@ may-write before h who cursor table rid row o none may has = record {
     one : (P : Change → Type 0) → P (record { table = table; rid = rid; row = Some row }) → All P (record { table = table; rid = rid; row = Some row } ∷ [])
     one P holds = All-cons P (record { table = table; rid = rid; row = Some row }) [] holds (All-nil P)
 
-    here : (rid < rows_in view 0) × IsTrue (is_some (rows h table view.scn (0 * view.per + rid)))
-    here =
-        in_range (λ n. (n, rows h table view.scn n)) (λ found. IsTrue (is_some found.1)) (0 * view.per) (rows_in view 0) rid
-        (rw (view-opening before h who cursor table o) at has)
-
     found : IsTrue (is_some (rows h table view.scn rid))
-    found = let same : 0 * view.per + rid ≡ rid = omega arith in rw same at here.1
+    found = fetched-row h view 0 rid (rw (view-opening before h who cursor table o) at has)
+
+    as_committed : (changes : List Change) → change_of changes table rid ≡ None
+        → fold (row_after table rid) (rows h table view.scn rid) changes ≡ rows h table view.scn rid
+    as_committed changes nothing =
+        last-suffices table rid (rows h table view.scn rid) changes ∙ ap (λ left. unwrap_or left (rows h table view.scn rid)) nothing
 
     sees : seen_by h view rid ≡ rows h table view.scn rid
-    sees = rw none refl
+    sees = as_committed view.own none
 
     pending_is : pending h who ≡ pending before who
     pending_is =
@@ -164,7 +168,7 @@ may-write before h who cursor table rid row o none may has = record {
     quiet : fold (row_after table rid) (rows h table view.scn rid) (pending h who) ≡ rows h table view.scn rid
     quiet =
         ap (λ (changes : List Change). fold (row_after table rid) (rows h table view.scn rid) changes) pending_is
-        ∙ none-own table rid (pending before who) (rows h table view.scn rid) none
+        ∙ as_committed (pending before who) (sym (change_of-of table rid (pending before who)) ∙ none)
 
     table_is : (n : ℕ) → table_at h n ≡ table_at before n
     table_is zero = refl
@@ -197,19 +201,13 @@ still-open before h late new who view changes (Ok place) o same added kept =
 still-open before h late new who view changes (Err why) o same added kept =
     ap (λ (s : Seen). is_cursor_open s.log who 0) kept ∙ is-open before h late who view o same
 
-pub may-update : (before h late : Seen) (who rid : ℕ) (row : Row) (view : View) (own changes : List Change) (fetched : List (ℕ × Option Row))
-    → Opens before h who view → own ≡ view.own → (length own == 0) ≡ true → MayInsert before.log 1 (row ∷ []) → late ≡ h
-    → fetched ≡ committed_in h.log (cursor_view h.log who 0) 0 → HasRow fetched rid → changes ≡ record { table = 1; rid = rid; row = Some row } ∷ []
+pub may-update : (before h late : Seen) (who rid : ℕ) (row : Row) (view : View) (changes : List Change) (fetched : List (ℕ × Option Row))
+    → Opens before h who view → change_of view.own 1 rid ≡ None → MayInsert before.log 1 (row ∷ []) → late ≡ h → rid < view.rows
+    → fetched ≡ fetched_in h.log (cursor_view h.log who 0) 0 → HasRow fetched rid → changes ≡ record { table = 1; rid = rid; row = Some row } ∷ []
     → MayWrite late.log who 0 changes
-may-update before h late who rid row view own changes fetched o own_is none may same fetched_is has changes_are =
-    rw (same, changes_are) (may-write before.log h.log who 0 1 rid row (opening-of before h who view o) nothing may (rw fetched_is at has))
-  where
-    empty : (list : List Change) → (length list == 0) ≡ true → list ≡ []
-    empty [] e = refl
-    empty (c ∷ cs) e = let none : suc (length cs) ≡ 0 = grind (arith, nat_tests, e) in absurd (omega (arith, none))
-
-    nothing : own_changes before.log who 1 ≡ []
-    nothing = sym (own_is ∙ ap (λ (v : View). v.own) o.view_is) ∙ empty own none
+may-update before h late who rid row view changes fetched o none may same within fetched_is has changes_are =
+    rw (same, changes_are) (may-write before.log h.log who 0 1 rid row (opening-of before h who view o) (rw o.view_is at none) may
+    (rw o.view_is at within) (rw fetched_is at has))
 
 -- rows that are all like one which a table takes may be inserted
 pub may-insert : (h : History) (table : ℕ) (row : Row) (like : List Row) → MayInsert h table (row ∷ []) → All (λ one. one ≡ row) like → 0 < length like

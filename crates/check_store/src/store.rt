@@ -1,11 +1,12 @@
-ghost use Rattle.std.specs.Prelude.{◌≡◌, ◌<◌, ◌≤◌, ◌++◌, [], ◌∷◌, length, slice_get, All, IfOk, IsTrue, IsSomeAnd, Some, is_some};
+ghost use Rattle.std.specs.Prelude.{◌≡◌, ◌+◌, ◌<◌, ◌≤◌, ◌^◌, [], ◌∷◌, slice_get, All, IfOk, IsTrue, IsSomeAnd, Some, None, is_some};
 ghost use Rattle.std.specs.Bool.{OnTrue};
+ghost use Rattle.im_history.specs.Last.{change_of};
 ghost use Rattle.im_history.specs.Legal.{MayInsert};
 
 mod builds;
 
 use im_core::{Core, Fetched, Made};
-use im_history::{Change, Limits, Mode, Refused, Shape, UnitLike, Why};
+use im_history::{Change, Limits, Mode, OwnChanges, Refused, Shape, UnitLike, Why};
 use im_values::{Column, Kind, Name, NoMemory, Row, Schema, Steps, Value, clone_row, fits};
 use std::alloc::Global;
 use std::marker::Brand;
@@ -289,12 +290,21 @@ fn insert(alloc: Global, store: &mut Core<NoUnit>, who: u32, count: u64) -> Answ
     Ok((wrote.place, wrote.first))
 }
 
-/// Whether a row stands among those of the first extent.
+/// Whether a session has no change pending to a row of the first table.
+fn is_as_committed(own: &OwnChanges, rid: u64) -> bool
+    requires { rid + 1 < 2 ^ 64 }
+    ensures { OnTrue result (change_of own.now 1 rid ≡ None) }
+{
+    own.between(1, rid, 1).next().is_none()
+}
+
+/// Whether a row stands among those that were fetched, at the place of its number.
 fn stands(fetched: &Fetched, rid: u64) -> bool
-    ensures { OnTrue result (IsSomeAnd (slice_get fetched.now rid) (λ found. IsTrue (is_some found.1))) }
+    ensures { OnTrue result (IsSomeAnd (slice_get fetched.now rid) (λ found.
+        (found.0 ≡ rid) × IsTrue (is_some found.1))) }
 {
     match fetched.items().get(rid as usize) {
-        Some((_, row)) => row.is_some(),
+        Some((number, row)) => *number == rid && row.is_some(),
         None => false,
     }
 }
@@ -321,7 +331,10 @@ fn update<L: Ledger>(
     if view.extents == 0 {
         return Err(OUT_OF_PLACE);
     }
-    if !view.own.items().is_empty() {
+    if rid >= view.rows {
+        return Err(OUT_OF_PLACE);
+    }
+    if !is_as_committed(&view.own, rid) {
         return Err(OUT_OF_PLACE);
     }
     let pin = store.pin(who, 0, 0, steps)?;

@@ -1,2 +1,3 @@
 mod PackedLemmas
+mod UnpackLemmas
 pub mod ForCallers

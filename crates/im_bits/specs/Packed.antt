@@ -1,20 +1,12 @@
 -- Lists of codes of one width, and the words of 64 bits that hold them.
-use Rattle.std.specs.Prelude.{ℕ, ◌+◌, ◌*◌, ◌/◌, ◌%◌, ◌^◌, ◌==◌, List, [], ◌∷◌, length, map, take, drop, slice_index, if◌then◌else◌}
-use Rattle.std.specs.Int.{div_ceil}
+pub use Rattle.im_values.specs.Sizes.{codes_per_word, words_for}
+use Rattle.std.specs.Prelude.{◌≡◌, ℕ, ◌+◌, ◌*◌, ◌/◌, ◌%◌, ◌^◌, ◌<◌, List, [], ◌∷◌, length, map, take, drop, slice_index}
 use Rattle.std.specs.List.{range_with_len}
 
 -- packed codes as contracts see them: the bits of each, and the codes in order
 pub record Packed : Type 0 where
   pub width : ℕ
   pub codes : List ℕ
-
--- how many whole codes one word holds
-abbrev pub codes_per_word : ℕ → ℕ
-codes_per_word width = 64 / width
-
--- how many words so many codes fill, the last perhaps in part: none where a code has no bits
-abbrev pub words_for : ℕ → ℕ → ℕ
-words_for n width = if width == 0 then 0 else div_ceil n (codes_per_word width)
 
 -- one word: the first code in the lowest bits
 abbrev pub word_of : ℕ → List ℕ → ℕ
@@ -37,3 +29,7 @@ code_in width words place =
 -- so many codes, read from the words
 unfoldable pub codes_in : ℕ → List ℕ → ℕ → List ℕ
 codes_in width words n = map (code_in width words) (range_with_len 0 n)
+
+-- 64 codes of a list from a place on: 0 past its end
+abbrev pub HasCodesFrom : List ℕ → ℕ → List ℕ → Type 0
+HasCodesFrom codes first out = (k : ℕ) → k < 64 → slice_index out k ≡ slice_index codes (first + k)

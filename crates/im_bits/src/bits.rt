@@ -1,5 +1,5 @@
 ghost use Rattle.std.specs.Prelude.{◌≡◌, ◌==◌, ◌+◌, ◌*◌, ◌/◌, ◌%◌, ◌^◌, ◌<◌, ◌≤◌, All, IfOk, length, min, take, drop, slice_index};
-ghost use Rattle.im_bits.specs.Packed.{codes_per_word, word_of, words_of, share_of};
+ghost use Rattle.im_bits.specs.Packed.{codes_per_word, code_in, word_of, words_of, share_of, HasCodesFrom};
 
 use crate::size::{per_word, words_for};
 use im_values::NoMemory;
@@ -56,6 +56,72 @@ impl Bits {
         field(self.words[place / share], place % share, self.width)
     }
 
+    /// 64 codes from a place on, and 0 past the last one.
+    ///
+    /// It unpacks a width up to 13, the most that dictionaries of a few thousand values have, with the width known to the compiler.
+    pub fn codes_from(&self, first: u64, out: &mut [u32; 64])
+        requires { first ≤ length self.now.codes }
+        ensures { HasCodesFrom self.now.codes first out.new }
+    {
+        match self.width {
+            1 => self.codes_at::<1>(first, out),
+            2 => self.codes_at::<2>(first, out),
+            3 => self.codes_at::<3>(first, out),
+            4 => self.codes_at::<4>(first, out),
+            5 => self.codes_at::<5>(first, out),
+            6 => self.codes_at::<6>(first, out),
+            7 => self.codes_at::<7>(first, out),
+            8 => self.codes_at::<8>(first, out),
+            9 => self.codes_at::<9>(first, out),
+            10 => self.codes_at::<10>(first, out),
+            11 => self.codes_at::<11>(first, out),
+            12 => self.codes_at::<12>(first, out),
+            13 => self.codes_at::<13>(first, out),
+            _ => self.codes_one_by_one(first, out),
+        }
+    }
+
+    /// 64 codes of the width `W` from a place on, and 0 past the last one.
+    pub fn codes_at<const W: u32>(&self, first: u64, out: &mut [u32; 64])
+        requires some { 0 < W }
+        requires width { self.now.width ≡ W }
+        requires within { first ≤ length self.now.codes }
+        ensures { HasCodesFrom self.now.codes first out.new }
+    {
+        if self.len() - first < 64 {
+            self.codes_one_by_one(first, out);
+            return;
+        }
+        let words = self.words.as_slice();
+        let start = first as usize;
+        for k in 0..64 {
+            out[k] = code_of_width::<W>(words, start + k);
+        }
+    }
+
+    /// The same at any width, code by code.
+    fn codes_one_by_one(&self, first: u64, out: &mut [u32; 64])
+        requires { first ≤ length self.now.codes }
+        ensures { HasCodesFrom self.now.codes first out.new }
+    {
+        for k in 0..64 {
+            out[k] = self.code_behind(first, k as u64);
+        }
+    }
+
+    /// The code so many behind a place, and 0 past the last one.
+    fn code_behind(&self, first: u64, k: u64) -> u32
+        requires first { first ≤ length self.now.codes }
+        requires k { k < 64 }
+        ensures { result ≡ slice_index self.now.codes (first + k) }
+    {
+        let rest = self.len() - first;
+        if k >= rest {
+            return 0;
+        }
+        self.get(first + k)
+    }
+
     /// How many codes there are.
     pub fn len(&self) -> u64
         ensures len { result ≡ length self.now.codes }
@@ -88,6 +154,18 @@ impl Bits {
     {
         self.words.as_slice()
     }
+}
+
+/// The code at a place, read from words of the width `W`.
+#[inline(always)]
+fn code_of_width<const W: u32>(words: &[u64], place: usize) -> u32
+    requires some { 0 < W }
+    requires most { W ≤ 32 }
+    requires inside { place / codes_per_word W < length words.now }
+    ensures { result ≡ code_in W words.now place }
+{
+    let share = per_word(W);
+    field(words[place / share], place % share, W)
 }
 
 /// The field of a word at a place, from the lowest on.

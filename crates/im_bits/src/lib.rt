@@ -3,8 +3,9 @@
 //! A word holds as many whole codes as fit, the first in its lowest bits, and no code lies across two words. Codes of
 //! width 0 are all 0 and keep no word. Bits that no code fills are 0.
 //!
-//! Contracts see [`Bits`] as its width and its list of codes. [`Bits::get`] reads one code; [`Bits::words`] lends the
-//! whole words to those who compare many codes at once, and `proofs/ForCallers.antt` says where a code lies in them.
+//! Contracts see [`Bits`] as its width and its list of codes. [`Bits::get`] reads one code, [`Bits::codes_from`] unpacks
+//! 64; [`Bits::words`] lends the whole words to those who compare many codes at once, and `proofs/ForCallers.antt` says
+//! where a code lies in them.
 //!
 //! Start with `specs/Packed.antt` and then `bits.rt`.
 #![tactic(auto)]

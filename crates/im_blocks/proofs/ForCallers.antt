@@ -15,7 +15,7 @@ use Rattle.im_history.specs.History.{History, replay}
 use Rattle.im_history.specs.Rows.{Row, rows, row_after}
 use Rattle.im_history.specs.Touched.{touches, last_touch, touched_after}
 use Rattle.im_history.specs.Transactions.{pending}
-use Rattle.im_blocks.specs.Chains.{chain_of, versions_at, newest_scn, rows_at}
+use Rattle.im_blocks.specs.Chains.{chain_of, versions_at, newest_scn, rows_among, rows_at}
 use Rattle.im_blocks.specs.Kept.{IsKept, TellsTouches}
 use Rattle.im_blocks.specs.Transitions.{SameVersions, IsBefore, Applied}
 use Rattle.im_blocks.specs.VersionsOf.{version_by, versions_from, versions_of}
@@ -93,13 +93,17 @@ map_same : {X : Type 0} (f g : ℕ → X) → ((k : ℕ) → f k ≡ g k) → (k
 map_same f g same [] = refl
 map_same f g same (k ∷ ks) = rw (same k) (ap (λ l. g k ∷ l) (map_same f g same ks))
 
--- so many row numbers from the first on, each with the row committed at an SCN
+-- row numbers, each with the row committed at an SCN
+pub rows_among_kept : (h : History) (blocks : List (List Versions)) → IsKept h blocks → (table : ℕ) (rids : List ℕ) (n : ℕ) →
+    rows_among blocks table rids n ≡ map (λ rid. (rid, rows h table n rid)) rids
+rows_among_kept h blocks kept table rids n =
+    map_same (λ rid. (rid, row_at (versions_at blocks table rid) n)) (λ rid. (rid, rows h table n rid))
+    (λ rid. ap (λ (row : Option Row). (rid, row)) (rows_kept h blocks kept table rid n)) rids
+
+-- so many of them from the first on
 pub rows_at_kept : (h : History) (blocks : List (List Versions)) → IsKept h blocks → (table first count n : ℕ) →
     rows_at blocks table first count n ≡ map (λ rid. (rid, rows h table n rid)) (range_with_len first count)
-rows_at_kept h blocks kept table first count n =
-    map_same (λ rid. (rid, row_at (versions_at blocks table rid) n)) (λ rid. (rid, rows h table n rid))
-    (λ rid. ap (λ (row : Option Row). (rid, row)) (rows_kept h blocks kept table rid n))
-    (range_with_len first count)
+rows_at_kept h blocks kept table first count n = rows_among_kept h blocks kept table (range_with_len first count) n
 
 newest_step : (h : History) (versions : List Version) (who : ℕ) (what : What) (table rid so_far : ℕ) → newest_scn versions ≡ so_far →
     newest_scn (versions ++ versions_from (scn h + 1) (committed_by h who what) table rid) ≡ touched_after table rid h so_far who what

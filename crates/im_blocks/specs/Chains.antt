@@ -18,6 +18,10 @@ versions_at blocks table rid = (chain_of blocks table rid).versions
 abbrev pub newest_scn : List Version → ℕ
 newest_scn versions = unwrap_or (latest versions) 0
 
+-- these row numbers of a table, each with its row at an SCN
+abbrev pub rows_among : List (List Versions) → ℕ → List ℕ → ℕ → List (ℕ × Option (List Value))
+rows_among blocks table rids scn = map (λ rid. (rid, row_at (versions_at blocks table rid) scn)) rids
+
 -- so many row numbers of a table from the first on, each with its row at an SCN
 abbrev pub rows_at : List (List Versions) → ℕ → ℕ → ℕ → ℕ → List (ℕ × Option (List Value))
-rows_at blocks table first count scn = map (λ rid. (rid, row_at (versions_at blocks table rid) scn)) (range_with_len first count)
+rows_at blocks table first count scn = rows_among blocks table (range_with_len first count) scn

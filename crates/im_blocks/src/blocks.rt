@@ -1,6 +1,6 @@
-ghost use Rattle.std.specs.Prelude.{◌≡◌, ◌+◌, ◌^◌, ◌<◌, ◌≤◌, [], unwrap_or, option_copied, IfOk, OnOk};
+ghost use Rattle.std.specs.Prelude.{◌≡◌, ◌+◌, ◌^◌, ◌<◌, ◌≤◌, [], length, unwrap_or, option_copied, IfOk, OnOk};
 ghost use Rattle.im_versions.specs.Versions.{no_chain, row_at};
-ghost use Rattle.im_blocks.specs.Chains.{chain_of, newest_scn, rows_at, versions_at};
+ghost use Rattle.im_blocks.specs.Chains.{chain_of, newest_scn, rows_among, rows_at, versions_at};
 ghost use Rattle.im_blocks.specs.inner.Handing.{MayTake, blocks_after, chain_after};
 ghost use Rattle.im_blocks.specs.Transitions.{SameVersions, HasRoom, IsBefore, Applied};
 
@@ -15,7 +15,7 @@ use std::sync::ledger::Ledger;
 /// The versions of every row of every table.
 ///
 /// Contracts see for each table its chains by row number, and read them through `chain_of`, which answers an empty
-/// chain past the ends. A row number takes 32 bytes beside its versions.
+/// chain past the ends. A row number takes 64 bytes, in which its first version stands.
 #[derive(Debug, Drop)]
 pub struct Blocks {
     chains: Cells<Chain>,
@@ -109,6 +109,27 @@ impl Blocks {
         let mut rows = Vec::with_capacity(alloc, count as usize)?;
         for rid in first..first + count {
             rows.push((rid, copied(alloc, self.at(table, rid, scn, steps))?))?;
+        }
+        Ok(rows)
+    }
+
+    /// These row numbers, each with a copy of its row at an SCN.
+    ///
+    /// It costs one look-up and at most one step for each, and the copies.
+    pub fn rows_of<L: Ledger>(
+        &self,
+        alloc: Global,
+        table: u32,
+        rids: &[u64],
+        scn: u64,
+        steps: &mut Steps<L>,
+    ) -> Result<Vec<(u64, Option<Row>)>, NoMemory>
+        ensures rows { IfOk result (λ rows. rows.items ≡ rows_among self.now table rids.now scn) }
+        ensures few { steps.new ≤ steps.old + length rids.now }
+    {
+        let mut rows = Vec::with_capacity(alloc, rids.len())?;
+        for rid in rids {
+            rows.push((*rid, copied(alloc, self.at(table, *rid, scn, steps))?))?;
         }
         Ok(rows)
     }

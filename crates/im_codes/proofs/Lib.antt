@@ -1,3 +1,5 @@
 mod RunLemmas
 mod DictLemmas
+mod NumberingLemmas
+mod SetLemmas
 pub mod ForCallers

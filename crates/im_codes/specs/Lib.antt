@@ -1,2 +1,3 @@
 pub mod Dictionary
 pub mod Runs
+pub mod inner

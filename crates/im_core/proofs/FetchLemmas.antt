@@ -22,7 +22,8 @@ use Rattle.im_txn.proofs.ForCallers.{cursor-by}
 use Rattle.im_history.specs.Units.{Content}
 use Rattle.im_history.proofs.GridLaws.{first_within}
 use Rattle.im_core.specs.inner.Holds.{Caches, Holds}
-use Rattle.im_core.specs.Answers.{cursor_view, view_of, committed_in, rows_in}
+use Rattle.im_core.specs.Answers.{cursor_view, view_of}
+use Rattle.im_history.specs.Serving.{committed_in, rows_in}
 use Rattle.im_core.specs.inner.Kept.{IsView, Views}
 
 -- what is found in a list has what each element has

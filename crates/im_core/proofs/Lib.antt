@@ -2,6 +2,7 @@ mod BeginLemmas
 mod CountLemmas
 mod FetchLemmas
 mod HoldsLemmas
+mod LendLemmas
 mod RefusalLemmas
 mod RewriteLemmas
 mod TaskLemmas

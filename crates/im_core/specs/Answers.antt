@@ -40,15 +40,6 @@ view_of (Some opened) = opened.view
 abbrev pub cursor_view : History → ℕ → ℕ → View
 cursor_view history who cursor = view_of (cursor_at history who cursor)
 
--- how many row numbers of an extent a view has: all of them, but for the last extent perhaps
-abbrev pub rows_in : View → ℕ → ℕ
-rows_in view extent = min view.per (view.rows - extent * view.per)
-
--- the row numbers of an extent that a view has, each with the row that was committed at the view's SCN, in order
-abbrev pub committed_in : History → View → ℕ → List (ℕ × Option Row)
-committed_in history view extent =
-    map (λ rid. (rid, rows history view.table view.scn rid)) (range_with_len (extent * view.per) (rows_in view extent))
-
 -- ---- the column store
 
 -- a build of this number is held, and this is it

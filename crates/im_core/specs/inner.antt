@@ -1,3 +1,4 @@
 -- What only the proofs need: how what a store keeps agrees with its history.
 pub mod Holds
 pub mod Kept
+pub mod Lending

@@ -1,12 +1,16 @@
-ghost use Rattle.std.specs.Prelude.{◌≡◌, ◌+◌, ◌<◌, ◌≤◌, length, true, None, IfOk, IfErr, OnOk, OnErr};
+ghost use Rattle.std.specs.Prelude.{◌≡◌, ◌+◌, ◌<◌, ◌≤◌, length, nat_le, true, Some, None, IfOk, IfErr, OnOk, OnErr, if◌then◌else◌};
+ghost use Rattle.std.specs.Option.{ForSome, option_map};
 ghost use Rattle.im_history.specs.declared.entry.What.TheVariants as what;
 ghost use Rattle.im_history.specs.Cursors.{is_cursor_open};
 ghost use Rattle.im_history.specs.Legal.{Exists};
 ghost use Rattle.im_history.specs.Refusals.{open_refusal};
 ghost use Rattle.im_history.specs.Rows.{snapshot};
 ghost use Rattle.im_history.specs.Views.{view_at};
-ghost use Rattle.im_core.specs.Answers.{IsRefusal, cursor_view, committed_in, rows_in};
+ghost use Rattle.im_core.specs.Answers.{IsRefusal, content_in, cursor_view};
+ghost use Rattle.im_history.specs.Serving.{committed_in, fetched_in, not_newer, rows_in, serving_content};
+ghost use Rattle.im_history.specs.Units.{content_at, unit};
 ghost use Rattle.im_core.specs.inner.Kept.{beginning_at};
+ghost use Rattle.im_core.specs.inner.Lending.{stale_in};
 ghost use Rattle.im_core.specs.Seen.{Adds};
 
 use crate::answers::Pin;
@@ -16,6 +20,7 @@ use im_history::{Entry, Mode, Refused, UnitLike, View, What, Who, Why};
 use im_txn::Cursor;
 use im_values::limits::{MOST_ROWS, NUMBERS};
 use im_values::{NoMemory, Steps};
+use std::sync::Arc;
 use std::sync::ledger::Ledger;
 
 impl<U: UnitLike> Core<U> {
@@ -73,12 +78,14 @@ impl<U: UnitLike> Core<U> {
     }
 
     /// The view that an opening has now.
-    fn view(&self, who: Who, table: u32) -> Result<View, NoMemory>
-        requires exists { Exists self.now.log table }
-        ensures view { IfOk result (λ view. view ≡ view_at self.now.log who table) }
+    fn view(&mut self, who: Who, table: u32) -> Result<View, NoMemory>
+        requires exists { Exists self.old.log table }
+        ensures same { self.new ≡ self.old }
+        ensures view { IfOk result (λ view. view ≡ view_at self.old.log who table) }
         ensures few { IfOk result (λ view. view.rows ≤ MOST_ROWS) }
         ensures some { IfOk result (λ view. 1 ≤ view.per) }
     {
+        let own = self.sessions.own(who, table)?;
         let rows = self.given_of(table);
         let per = self.catalog.tables()[table as usize - 1].shape.per_extent();
         Ok(View {
@@ -88,7 +95,7 @@ impl<U: UnitLike> Core<U> {
             rows,
             per,
             extents: (rows + per - 1) / per,
-            own: self.sessions.own(self.alloc, who, table)?,
+            own,
         })
     }
 
@@ -112,9 +119,11 @@ impl<U: UnitLike> Core<U> {
         }
     }
 
-    /// Reads the rows of an extent that a cursor sees committed: a copy of each. It adds no entry.
+    /// Reads what a scan needs of an extent: its current column unit, unless that is newer than the cursor's SCN, and the
+    /// rows that commits touched since the unit's SCN; without such a unit all rows. Each is a copy of the row committed at
+    /// the cursor's SCN. It adds no entry.
     ///
-    /// Each row number of the extent below the view's `rows` is one step at most.
+    /// Each row that is read is one step at most.
     pub fn pin<L: Ledger>(
         &mut self,
         who: u32,
@@ -126,21 +135,80 @@ impl<U: UnitLike> Core<U> {
         requires within { extent < (cursor_view self.old.log who cursor).extents }
         ensures same { self.new ≡ self.old }
         ensures place { IfOk result (λ pin. pin.place ≡ length self.old.log) }
-        ensures unit { IfOk result (λ pin. pin.unit ≡ None) }
+        ensures unit { IfOk result (λ pin. content_in U.content pin.unit
+            ≡ serving_content self.old.log (cursor_view self.old.log who cursor) extent) }
         ensures fetched { IfOk result (λ pin.
-            pin.fetched ≡ committed_in self.old.log (cursor_view self.old.log who cursor) extent) }
-        ensures steps { steps.new ≤ steps.old + rows_in (cursor_view self.old.log who cursor) extent }
+            pin.fetched ≡ fetched_in self.old.log (cursor_view self.old.log who cursor) extent) }
+        ensures steps { steps.new ≤ steps.old + length (fetched_in self.old.log (cursor_view self.old.log who cursor) extent) }
         ensures err { IfErr result (λ why. IsRefusal self.old.log None why) }
     {
         let caller = Who::of(who);
-        match self.fetch(caller, cursor, extent, steps) {
-            Ok(fetched) => Ok(Pin {
-                place: self.len(),
-                unit: None,
-                fetched,
-            }),
+        match self.read(caller, cursor, extent, steps) {
+            Ok(pin) => Ok(pin),
             Err(NoMemory) => Err(self.refused(Why::NoMemory)),
         }
+    }
+
+    /// Reads what a cursor needs of an extent.
+    fn read<L: Ledger>(
+        &self,
+        who: Who,
+        cursor: u32,
+        extent: u64,
+        steps: &mut Steps<L>,
+    ) -> Result<Pin<U>, NoMemory>
+        requires within { extent < (cursor_view self.now.log who cursor).extents }
+        ensures place { IfOk result (λ pin. pin.place ≡ length self.now.log) }
+        ensures unit { IfOk result (λ pin. content_in U.content pin.unit
+            ≡ serving_content self.now.log (cursor_view self.now.log who cursor) extent) }
+        ensures fetched { IfOk result (λ pin.
+            pin.fetched ≡ fetched_in self.now.log (cursor_view self.now.log who cursor) extent) }
+        ensures steps { steps.new ≤ steps.old + length (fetched_in self.now.log (cursor_view self.now.log who cursor) extent) }
+    {
+        let view = self.sessions.cursor(who, cursor).unwrap();
+        let place = self.len();
+        match self.lend(view.table, extent, view.scn)? {
+            Some(unit) => Ok(Pin {
+                place,
+                unit: Some(unit),
+                fetched: self.fetch_stale(&view, extent, steps)?,
+            }),
+            None => Ok(Pin {
+                place,
+                unit: None,
+                fetched: self.fetch(who, cursor, extent, steps)?,
+            }),
+        }
+    }
+
+    /// An extent's current unit, unless it is newer than this SCN.
+    fn lend(&self, table: u32, extent: u64, scn: u64) -> Result<Option<Arc<U>>, NoMemory>
+        ensures { IfOk result (λ lent. content_in U.content lent
+            ≡ option_map (content_at self.now.log table extent) (not_newer scn (unit self.now.log table extent))) }
+    {
+        match self.directory.unit(table, extent) {
+            Some(unit) => lend_up_to(unit, scn),
+            None => Ok(None),
+        }
+    }
+
+    /// Reads the rows of an extent that commits touched since its unit's SCN, and up to that of a cursor.
+    fn fetch_stale<L: Ledger>(
+        &self,
+        view: &Cursor,
+        extent: u64,
+        steps: &mut Steps<L>,
+    ) -> Result<Fetched, NoMemory>
+        ensures fetched { IfOk result (λ fetched. ForSome (unit self.now.log view.now.table extent) (λ at.
+            fetched ≡ stale_in self.now.log view.now.table extent view.now.scn at)) }
+        ensures steps { ForSome (unit self.now.log view.now.table extent) (λ at.
+            steps.new ≤ steps.old + length (stale_in self.now.log view.now.table extent view.now.scn at)) }
+    {
+        let stale = self.directory.stale_at(view.table, extent, view.scn)?;
+        let rows = self
+            .blocks
+            .rows_of(self.alloc, view.table, stale.as_slice(), view.scn, steps)?;
+        Ok(Fetched::of(rows))
     }
 
     fn fetch<L: Ledger>(
@@ -179,5 +247,17 @@ impl<U: UnitLike> Core<U> {
             what: What::Shut { cursor },
         });
         place
+    }
+}
+
+/// A unit, unless it is newer than this SCN.
+fn lend_up_to<U: UnitLike>(unit: &Arc<U>, scn: u64) -> Result<Option<Arc<U>>, NoMemory>
+    ensures { IfOk result (λ lent. content_in U.content lent
+        ≡ (if nat_le (U.content unit.now.value).scn scn then Some (U.content unit.now.value) else None)) }
+{
+    if unit.scn() <= scn {
+        Ok(Some(Arc::try_clone(unit)?))
+    } else {
+        Ok(None)
     }
 }

@@ -1,10 +1,9 @@
-ghost use Rattle.std.specs.Prelude.{◌≡◌, ◌<◌, IfOk};
+ghost use Rattle.std.specs.Prelude.{◌≡◌, ◌<◌};
 ghost use Rattle.im_history.specs.Refusals as refusal;
+ghost use Rattle.im_history.specs.Weights.{changes_weight};
 
 use crate::store::Core;
-use crate::weights::weight_of;
 use im_history::{Change, Mode, UnitLike, Who, Why};
-use im_values::NoMemory;
 use im_values::limits::{MOST_CURSORS, MOST_TABLES};
 
 impl<U: UnitLike> Core<U> {
@@ -109,39 +108,36 @@ impl<U: UnitLike> Core<U> {
         }
     }
 
-    fn store_full(&self, changes: &[Change]) -> Result<Option<Why>, NoMemory>
-        ensures { IfOk result (λ cause. cause ≡ refusal.store_full self.now.limits self.now.log changes.now) }
+    /// These weights are those of the changes, here and below.
+    fn store_full(&self, changes: &[Change], weight: u64) -> Option<Why>
+        requires { weight ≡ changes_weight changes.now }
+        ensures { result ≡ refusal.store_full self.now.limits self.now.log changes.now }
     {
-        let (need, left) = (
-            weight_of(changes)?,
-            self.limits.store.saturating_sub(self.weight),
-        );
+        let (need, left) = (weight, self.limits.store.saturating_sub(self.weight));
         if need > left {
-            Ok(Some(Why::StoreFull { need, left }))
+            Some(Why::StoreFull { need, left })
         } else {
-            Ok(None)
+            None
         }
     }
 
-    fn no_room(&self, who: Who, changes: &[Change]) -> Result<Option<Why>, NoMemory>
-        ensures { IfOk result (λ cause. cause ≡ refusal.no_room self.now.limits self.now.log who changes.now) }
+    fn no_room(&self, who: Who, changes: &[Change], weight: u64) -> Option<Why>
+        requires { weight ≡ changes_weight changes.now }
+        ensures { result ≡ refusal.no_room self.now.limits self.now.log who changes.now }
     {
         match self.too_many_changes(who, changes) {
-            Some(why) => Ok(Some(why)),
-            None => self.store_full(changes),
+            Some(why) => Some(why),
+            None => self.store_full(changes, weight),
         }
     }
 
-    pub(crate) fn insert_refusal(
-        &self,
-        who: Who,
-        changes: &[Change],
-    ) -> Result<Option<Why>, NoMemory>
-        ensures { IfOk result (λ cause. cause ≡ refusal.insert_refusal self.now.limits self.now.log who changes.now) }
+    pub(crate) fn insert_refusal(&self, who: Who, changes: &[Change], weight: u64) -> Option<Why>
+        requires { weight ≡ changes_weight changes.now }
+        ensures { result ≡ refusal.insert_refusal self.now.limits self.now.log who changes.now }
     {
         match self.read_only(who) {
-            Some(why) => Ok(Some(why)),
-            None => self.no_room(who, changes),
+            Some(why) => Some(why),
+            None => self.no_room(who, changes, weight),
         }
     }
 
@@ -150,18 +146,20 @@ impl<U: UnitLike> Core<U> {
         who: Who,
         scn: u64,
         changes: &[Change],
-    ) -> Result<Option<Why>, NoMemory>
-        ensures { IfOk result (λ cause. cause ≡ refusal.write_refusal self.now.limits self.now.log who scn changes.now) }
+        weight: u64,
+    ) -> Option<Why>
+        requires { weight ≡ changes_weight changes.now }
+        ensures { result ≡ refusal.write_refusal self.now.limits self.now.log who scn changes.now }
     {
         if let Some(why) = self.read_only(who) {
-            return Ok(Some(why));
+            return Some(why);
         }
         if let Some(why) = self.row_locked(who, changes) {
-            return Ok(Some(why));
+            return Some(why);
         }
         if let Some(why) = self.serialize(scn, changes) {
-            return Ok(Some(why));
+            return Some(why);
         }
-        self.no_room(who, changes)
+        self.no_room(who, changes, weight)
     }
 }

@@ -84,8 +84,8 @@ impl<U: UnitLike> Core<U> {
         };
         let changes = self.sessions.clear(who);
         self.directory
-            .note(&self.catalog, committed.scn, changes.items());
-        self.blocks.apply(committed.scn, changes.into_items());
+            .note(&self.catalog, committed.scn, changes.as_slice());
+        self.blocks.apply(committed.scn, changes);
         self.history.append(Entry {
             who: who.number(),
             what: What::Commit,

@@ -3,6 +3,7 @@ ghost use Rattle.im_history.specs.declared.entry.What.TheVariants as what;
 ghost use Rattle.im_history.specs.Legal.{Exists, MayInsert, MayWrite, IsAllowed, put_from};
 ghost use Rattle.im_history.specs.Refusals.{insert_refusal, write_refusal};
 ghost use Rattle.im_history.specs.Tables.{tables, given};
+ghost use Rattle.im_history.specs.Weights.{changes_weight};
 ghost use Rattle.im_core.specs.Answers.{IsRefusal, cursor_view};
 ghost use Rattle.im_core.specs.inner.Kept.{Gives};
 ghost use Rattle.im_core.specs.Seen.{Adds};
@@ -12,7 +13,7 @@ use crate::store::{Core, owed};
 use crate::weights::weight_of;
 use im_history::{Change, Changes, Entry, Refused, UnitLike, What, Who, Why};
 use im_values::limits::{MOST_ROWS, NUMBERS};
-use im_values::{NoMemory, Row};
+use im_values::{NoMemory, Row, clone_row};
 use std::alloc::Global;
 
 impl<U: UnitLike> Core<U> {
@@ -36,15 +37,17 @@ impl<U: UnitLike> Core<U> {
         let caller = Who::of(who);
         let first = self.given_of(table);
         let count = first + rows.len() as u64;
-        let Ok(changes) = put_from(self.alloc, table, first, rows) else {
+        let Ok(changes) = put_from(self.alloc, table, first, rows.as_slice()) else {
             return Err(self.refused(Why::NoMemory));
         };
-        match self.insert_refusal(caller, changes.as_slice()) {
-            Err(NoMemory) => return Err(self.refused(Why::NoMemory)),
-            Ok(Some(why)) => return Err(self.refused(why)),
-            Ok(None) => {}
+        let Ok(weight) = weight_of(changes.as_slice()) else {
+            return Err(self.refused(Why::NoMemory));
+        };
+        if let Some(why) = self.insert_refusal(caller, changes.as_slice(), weight) {
+            return Err(self.refused(why));
         }
-        match self.record_write(caller, table, count, changes) {
+        let kept = Changes::put(table, first, rows);
+        match self.record_write(caller, table, count, changes, kept, weight) {
             Ok(place) => Ok(Wrote { place, first }),
             Err(NoMemory) => Err(self.refused(Why::NoMemory)),
         }
@@ -66,13 +69,17 @@ impl<U: UnitLike> Core<U> {
     {
         let caller = Who::of(who);
         let view = self.sessions.cursor(caller, cursor).unwrap();
-        match self.write_refusal(caller, view.scn, changes.as_slice()) {
-            Err(NoMemory) => return Err(self.refused(Why::NoMemory)),
-            Ok(Some(cause)) => return Err(self.refused(cause)),
-            Ok(None) => {}
+        let Ok(weight) = weight_of(changes.as_slice()) else {
+            return Err(self.refused(Why::NoMemory));
+        };
+        if let Some(cause) = self.write_refusal(caller, view.scn, changes.as_slice(), weight) {
+            return Err(self.refused(cause));
         }
+        let Ok(kept) = copies(self.alloc, changes.as_slice()) else {
+            return Err(self.refused(Why::NoMemory));
+        };
         let count = self.given_of(view.table);
-        match self.record_write(caller, view.table, count, changes) {
+        match self.record_write(caller, view.table, count, changes, kept, weight) {
             Ok(place) => Ok(place),
             Err(NoMemory) => Err(self.refused(Why::NoMemory)),
         }
@@ -87,14 +94,19 @@ impl<U: UnitLike> Core<U> {
         self.given[table as usize - 1]
     }
 
-    /// Records changes to one table, of which so many row numbers are given then.
+    /// Records changes to one table, of which so many row numbers are given then: the session has them pending, and the
+    /// history keeps them as they stand in `kept`.
     fn record_write(
         &mut self,
         who: Who,
         table: u32,
         count: u64,
         changes: Vec<Change>,
+        kept: Changes,
+        weight: u64,
     ) -> Result<u64, NoMemory>
+        requires kept { kept ≡ changes.items }
+        requires weight { weight ≡ changes_weight changes.items }
         requires table { (1 ≤ table) × (table ≤ length (tables self.old.log)) }
         requires allowed { IsAllowed self.old.limits self.old.log who (what.Write changes.items) }
         requires gives { Gives self.old.log table changes.items count }
@@ -102,9 +114,7 @@ impl<U: UnitLike> Core<U> {
         ensures place { IfOk result (λ place. place ≡ length self.old.log) }
         ensures err { OnErr result (self.new ≡ self.old) }
     {
-        let weight = weight_of(changes.as_slice())?;
         let beginning = self.beginning(who);
-        let kept = copies(self.alloc, changes.as_slice())?;
         self.sessions.reserve_write(who, changes.as_slice())?;
         self.history
             .reserve(owed(&self.sessions, &self.directory) + 2)?;
@@ -121,10 +131,10 @@ impl<U: UnitLike> Core<U> {
     }
 }
 
-/// Rows put at row numbers of a table, from the first on.
-fn put_from(alloc: Global, table: u32, first: u64, rows: Vec<Row>) -> Result<Vec<Change>, NoMemory>
-    requires { first + length rows.items ≤ 2 ^ 63 }
-    ensures { IfOk result (λ changes. changes.items ≡ put_from table first rows.items) }
+/// Rows put at row numbers of a table, from the first on: a copy of each.
+fn put_from(alloc: Global, table: u32, first: u64, rows: &[Row]) -> Result<Vec<Change>, NoMemory>
+    requires { first + length rows.now ≤ 2 ^ 63 }
+    ensures { IfOk result (λ changes. changes.items ≡ put_from table first rows.now) }
 {
     let mut changes = Vec::with_capacity(alloc, rows.len())?;
     let mut rid = first;
@@ -132,7 +142,7 @@ fn put_from(alloc: Global, table: u32, first: u64, rows: Vec<Row>) -> Result<Vec
         changes.push(Change {
             table,
             rid,
-            row: Some(row),
+            row: Some(clone_row(alloc, row)?),
         })?;
         rid += 1;
     }

@@ -24,7 +24,7 @@ use Rattle.im_directory.proofs.JournalLemmas.{IsJournal-commit}
 use Rattle.im_directory.proofs.SoundLemmas.{IsKilling-dropped, IsSound-killed, IsSound-new, IsSound-noted, IsSound-told, ap_if, build_in-new, number_noted, told_at-new}
 
 module _ {U : Type 0} (content : U → Content) where
-  -- what is read of what is told
+  -- the parts of what is read of an extent
   abbrev current_of : Told U → Option (Stock U)
   current_of told = told.current
 
@@ -58,7 +58,7 @@ module _ {U : Type 0} (content : U → Content) where
 
   -- ---- extents are taken out of the column store, or none
 
-  -- what is told of an extent that is taken out, or not
+  -- what is read of an extent that is taken out, or not
   abbrev left_of : ℕ → ℕ → What → Told U → Told U
   left_of table extent what told = if drops table extent what then record { current = None; growing = None } else told
 

@@ -3,14 +3,15 @@ use Rattle.std.proofs.Common.{◌≡◌, ℕ, suc, ◌+◌, ◌≤◌, ◌<◌, 
 use Rattle.std.specs.Prelude.{slice_index_or}
 use Rattle.std.specs.Option.{option_map}
 use Rattle.std.proofs.lemmas.Bool.{false≢true, cases_eq, cases_lt, eq-eqb, eqb-true, ne_eqb, le-ltb, lt-ltb, ltb-false}
-use Rattle.std.proofs.lemmas.List.{ext_get_or, get_or_past, get_or-map, length-map}
+use Rattle.std.proofs.lemmas.List.{ext_get_or, get_or-map, length-map}
 use Rattle.im_history.specs.declared.entry.What.TheVariants.{Evict, Memory}
 use Rattle.im_history.specs.declared.task.Held.{Held}
 use Rattle.im_history.specs.declared.task.Task.{Task}
 use Rattle.im_history.specs.Transactions.{or_here}
 use Rattle.im_history.specs.Units.{killed_by}
+use Rattle.im_tables.proofs.ForCallers.{cell_at-past}
 use Rattle.im_directory.specs.Effects.{IsDropped}
-use Rattle.im_directory.specs.Slots.{Growth, Kept, Told, build_in, nothing, slot_at, told, told_at}
+use Rattle.im_directory.specs.Slots.{Growth, Kept, Told, build_in, nothing, told, told_at}
 use Rattle.im_directory.specs.Sound.{IsSound}
 use Rattle.im_directory.specs.Steps.{killed_at}
 use Rattle.im_directory.proofs.EffectLemmas.{killed_again}
@@ -115,10 +116,9 @@ module _ {U : Type 0} where
     builds = dropped.builds ∙ (ap (map (option_map (killed_by place (Evict table k)))) dropping.builds ∙ killed_more place table k old.builds);
   }
 
-  -- past the end nothing is told
+  -- past the end nothing is read
   told_past : (kept : Kept U) (table e n : ℕ) → n ≡ length (slice_index_or kept.slots table []) → n ≤ e → told_at kept table e ≡ gone
-  unfolding slot_at
-  told_past kept table e n long past = ap told (get_or_past (slice_index_or kept.slots table []) e nothing (omega (arith, long, past)))
+  told_past kept table e n long past = ap told (cell_at-past nothing kept.slots table e (omega (arith, long, past)))
 
   told_all : (a b : Bool) (old : Kept U) (table t e n : ℕ) → n ≡ length (slice_index_or old.slots table []) → (table == t) ≡ a → nat_lt e n ≡ b →
       (if a && b then gone else told_at old t e) ≡ (if a then gone else told_at old t e)

@@ -12,13 +12,14 @@ use Rattle.im_history.specs.declared.look.TableInfo.{TableInfo}
 use Rattle.im_history.specs.declared.task.Held.{Held}
 use Rattle.im_history.specs.Transactions.{or_here}
 use Rattle.im_history.specs.Units.{drops, is_on, killed_by}
+use Rattle.im_tables.specs.Table.{HasCell, IsGrown}
 use Rattle.im_directory.specs.declared.slot.Current.{Current}
 use Rattle.im_directory.specs.declared.slot.Growing.{Growing}
 use Rattle.im_directory.specs.declared.slot.Slot.{Slot}
 use Rattle.im_directory.specs.Effects.{HasRoom, IsBefore, IsBegun, IsCancelled, IsDropped, IsNoted, IsSwitched, NoneBehind, SameTold, grown, unless_of}
 use Rattle.im_directory.specs.Slots.{Growth, Kept, Stock, Told, build_among, build_in, growth, living_in, nothing, slot_at, stock, told, told_at}
 use Rattle.im_directory.specs.Sound.{IsSound}
-use Rattle.im_directory.specs.Steps.{AreBefore, AreNoted, HasNotesRoom, HasPlace, KeepsSlots, TellsAlike, builds_killed, current_grown, growing_unless, killed_at, slot_begun, slot_cancelled, slot_dropped, slot_switched, slots_with}
+use Rattle.im_directory.specs.Steps.{AreBefore, AreNoted, HasNotesRoom, TellsAlike, builds_killed, current_grown, growing_unless, killed_at, slot_begun, slot_cancelled, slot_dropped, slot_switched, slots_with}
 use Rattle.im_directory.proofs.SlotLemmas.{slot_at-changed, get_or-changed}
 use Rattle.im_directory.proofs.SoundLemmas.{ap_if, on_parts, living_on, living_own, build_some}
 
@@ -48,7 +49,7 @@ here_again : (place : ℕ) (o : Option ℕ) → (o ≡ None → ⊥) → or_here
 here_again place None dead = absurd (dead refl)
 here_again place (Some p) dead = refl
 
--- an extent is that of a build, told from the other side
+-- an extent is that of a build, with the two sides turned
 abbrev is_on_by : Held → ℕ → ℕ → Bool
 is_on_by held table extent = (table == held.task.table) && (extent == held.task.extent)
 
@@ -99,8 +100,9 @@ module _ {U : Type 0} where
   abbrev told_of : Option (Stock U) → Option Growth → Told U
   told_of current growing = record { current = current; growing = growing }
 
-  pub SameTold-kept : (old new : List (List (Slot U))) (builds : List (Option Held)) → KeepsSlots old new → SameTold (kept_of old builds) (kept_of new builds)
-  SameTold-kept old new builds keeps = record { slots = λ table extent. ap told (keeps.each table extent); builds = refl }
+  pub SameTold-kept : (old new : List (List (Slot U))) (builds : List (Option Held)) → IsGrown nothing old new →
+      SameTold (kept_of old builds) (kept_of new builds)
+  SameTold-kept old new builds keeps = record { slots = λ table extent. ap told (keeps.cells table extent); builds = refl }
 
   pub SameTold-alike : (old new : List (List (Slot U))) (builds : List (Option Held)) → TellsAlike old new → SameTold (kept_of old builds) (kept_of new builds)
   SameTold-alike old new builds alike = record { slots = alike.each; builds = refl }
@@ -131,7 +133,7 @@ module _ {U : Type 0} where
     };
   }
 
-  -- what is told of each extent once one of them changed
+  -- what is read of each extent once one of them changed
   told_changed : (f : Slot U → Slot U) (slots : List (List (Slot U))) (held : Held) (table extent : ℕ) → f nothing ≡ nothing →
       told (slot_at (slots_with f held.task.table held.task.extent slots) table extent) ≡
       (if is_on table extent held then told (f (slot_at slots table extent)) else told (slot_at slots table extent))
@@ -139,20 +141,20 @@ module _ {U : Type 0} where
       ap told (slot_at-changed f slots held.task.table held.task.extent table extent (inr keeps))
       ∙ ap_if told (is_on table extent held) (f (slot_at slots table extent)) (slot_at slots table extent)
 
-  begun_made : (old mid : List (List (Slot U))) (builds : List (Option Held)) (held : Held) → KeepsSlots old mid →
-      HasPlace mid held.task.table held.task.extent → IsBegun (kept_of old builds)
+  begun_made : (old mid : List (List (Slot U))) (builds : List (Option Held)) (held : Held) → IsGrown nothing old mid →
+      HasCell mid held.task.table held.task.extent → IsBegun (kept_of old builds)
       (kept_of (slots_with (slot_begun held.task.id) held.task.table held.task.extent mid) (builds ++ Some held ∷ [])) held
   begun_made old mid builds held keeps place = record {
     slots = λ table extent.
         ap told (slot_at-changed (slot_begun held.task.id) mid held.task.table held.task.extent table extent (inl place))
         ∙ (ap_if told (is_on table extent held) (slot_begun held.task.id (slot_at mid table extent)) (slot_at mid table extent)
         ∙ ap (λ (t : Told U). if is_on table extent held then record t { growing = Some (record { id = held.task.id; notes = [] }) } else t)
-        (ap told (keeps.each table extent)));
+        (ap told (keeps.cells table extent)));
     builds = refl;
   }
 
-  pub IsBegun-made : (old mid after : List (List (Slot U))) (builds new : List (Option Held)) (held : Held) → KeepsSlots old mid →
-      HasPlace mid held.task.table held.task.extent → after ≡ slots_with (slot_begun held.task.id) held.task.table held.task.extent mid →
+  pub IsBegun-made : (old mid after : List (List (Slot U))) (builds new : List (Option Held)) (held : Held) → IsGrown nothing old mid →
+      HasCell mid held.task.table held.task.extent → after ≡ slots_with (slot_begun held.task.id) held.task.table held.task.extent mid →
       new ≡ builds ++ Some held ∷ [] → IsBegun (kept_of old builds) (kept_of after new) held
   IsBegun-made old mid after builds new held keeps place made pushed =
       subst (λ (k : Kept U). IsBegun (kept_of old builds) k held) (sym (ap₂ kept_of made pushed)) (begun_made old mid builds held keeps place)

@@ -95,7 +95,7 @@ module _ {U : Type 0} (content : U → Content) where
     scn_is : (content unit).scn ≡ held.task.scn
     scn_is = ap (λ (c : Content). c.scn) switches.holds
 
-    -- what is told of an extent whose build was switched in, or not
+    -- what is read of an extent whose build was switched in, or not
     abbrev told_by : Bool → ℕ → ℕ → Told U
     told_by b t e = if b then record { current = grown unit (told_at old t e).growing; growing = None } else told_at old t e
 

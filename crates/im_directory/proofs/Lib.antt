@@ -10,7 +10,7 @@ pub mod ForCallers
 mod JournalLemmas
 mod NoteLemmas
 mod NotingLemmas
-mod PadLemmas
+mod RangeLemmas
 mod SlotLemmas
 mod SoundLemmas
 mod StaleLemmas

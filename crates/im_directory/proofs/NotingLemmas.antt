@@ -16,7 +16,7 @@ use Rattle.im_directory.specs.declared.slot.Growing.{Growing}
 use Rattle.im_directory.specs.declared.slot.Slot.{Slot}
 use Rattle.im_directory.specs.Effects.{NoneBehind, extent_in, is_in_extent, noted_in, notes_for, with_notes}
 use Rattle.im_directory.specs.Slots.{Growth, Stock, Told, growth, nothing, slot_at, stock, told}
-use Rattle.im_directory.specs.Steps.{AreBefore, AreNoted, HasNotesRoom, HasSlotRoom, IsSlotBefore, MayNote, TellsAlike, WentThrough, current_noted, growing_noted, has_journal, slot_counted, slot_noted, slot_roomy, slot_through, slot_uncounted, slots_with, with_note, with_room}
+use Rattle.im_directory.specs.Steps.{AreBefore, AreNoted, HasNotesRoom, HasSlotRoom, IsFor, IsSlotBefore, MayNote, TellsAlike, WentThrough, current_noted, growing_noted, has_journal, slot_counted, slot_noted, slot_roomy, slot_through, slot_uncounted, slots_with, with_note, with_room}
 use Rattle.im_directory.proofs.SlotLemmas.{slot_at-changed}
 
 -- what holds of an element holds of its image
@@ -69,7 +69,7 @@ growth_noted note notes None = refl
 growth_noted note notes (Some growing) = refl
 
 module _ {U : Type 0} where
-  -- what is told of an extent
+  -- what is read of an extent
   abbrev the_told : Option (Stock U) → Option Growth → Told U
   the_told current growing = record { current = current; growing = growing }
 
@@ -99,13 +99,13 @@ module _ {U : Type 0} where
   -- the next change of a list has its effect
   pub WentThrough-step : (effect : Change → Slot U → Slot U) (old now next : List (List (Slot U))) (tables : List TableInfo) (changes : List Change)
       (i extent : ℕ) (change : Change) → effect change nothing ≡ nothing → WentThrough effect old now tables (take i changes) → i < length changes →
-      change ≡ slice_index_or changes i change → extent ≡ extent_in tables change → next ≡ slots_with (effect change) change.table extent now →
+      change ≡ slice_index_or changes i change → IsFor now tables change extent → next ≡ slots_with (effect change) change.table extent now →
       WentThrough effect old next tables (take (i + 1) changes)
   WentThrough-step effect old now next tables changes i extent change keeps went inside is at made =
       let one : List Change = take i changes ++ change ∷ [] in
       let more : take (i + 1) changes ≡ one = take_more changes i change inside ∙ ap (λ (c : Change). take i changes ++ c ∷ []) (sym is) in
       let same : next ≡ slots_with (effect change) change.table (extent_in tables change) now = made
-      ∙ ap (λ (k : ℕ). slots_with (effect change) change.table k now) at in
+      ∙ at.changed (effect change) in
       subst (λ (l : List Change). WentThrough effect old next tables l) (sym more)
       (subst (λ (n : List (List (Slot U))). WentThrough effect old n tables one) (sym same)
       (WentThrough-next effect old now tables (take i changes) change keeps went))
@@ -126,7 +126,7 @@ module _ {U : Type 0} where
   stock_noted note notes None = refl
   stock_noted note notes (Some current) = refl
 
-  -- what is told of an extent after some notes
+  -- what is read of an extent after some notes
   told-noted : (scn : ℕ) (changes : List Change) (slot : Slot U) →
       told (fold (λ s c. slot_noted (c.rid, scn) s) slot changes) ≡ noted_in (map (λ c. (c.rid, scn)) changes) (told slot)
   told-noted scn [] slot =

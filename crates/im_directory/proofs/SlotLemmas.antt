@@ -1,15 +1,16 @@
 -- What is kept of each extent, read after one of them changed or more were added.
-use Rattle.std.proofs.Common.{◌≡◌, ◌≢◌, ℕ, ◌<◌, ◌≤◌, ◌⊎◌, inl, inr, Bool, true, false, ◌==◌, ◌&&◌, List, [], length, set, Option, if◌then◌else◌, refl, sym, ap, subst, ◌∙◌, ⊎_elim, arith, length-set}
+use Rattle.std.proofs.Common.{◌≡◌, ◌≢◌, ℕ, ◌<◌, ◌≤◌, ◌⊎◌, inl, inr, Bool, true, false, ◌==◌, ◌&&◌, List, length, set, Option, Some, None, if◌then◌else◌, refl, sym, ap, subst, ◌∙◌, ⊎_elim, arith, length-set}
 use Rattle.std.specs.Prelude.{slice_index_or}
-use Rattle.std.specs.List.{slice_get}
-use Rattle.std.specs.Option.{unwrap_or}
-use Rattle.std.proofs.lemmas.Bool.{cases_lt, cases_eq, eq-eqb, eqb-true, ne_eqb}
+use Rattle.std.specs.Option.{IsSome, unwrap_or}
+use Rattle.std.proofs.lemmas.Bool.{cases_lt, cases_eq, eq-eqb, false≢true, ne_eqb}
 use Rattle.std.proofs.lemmas.Grind.{get_or-set_at}
 use Rattle.std.proofs.lemmas.List.{get_or_past, get_or-set_other}
-use Rattle.std.proofs.lemmas.Option.{unwrap_or-slice_get}
+use Rattle.im_tables.specs.Table.{HasCell, cell_at, found_at, with_cell}
+use Rattle.im_tables.proofs.ForCallers.{HasCell-found, HasCell-or-empty, HasCell-where, cell_at-with_cell, cell_at-with_cell_other, cell_at-with_cell_same, same_cell, unwrap_or-found_at, with_cell-none}
+use Rattle.im_tables.proofs.Tests.{and-true, eq-true}
 use Rattle.im_directory.specs.declared.slot.Slot.{Slot}
-use Rattle.im_directory.specs.Slots.{nothing, slot_at}
-use Rattle.im_directory.specs.Steps.{HasPlace, IsPadded, KeepsSlots, shelf_with, slot_in, slots_with}
+use Rattle.im_directory.specs.Slots.{nothing, slot_at, told}
+use Rattle.im_directory.specs.Steps.{TellsAlike, slots_with}
 
 -- an element of a list changed by a function, if it is there
 pub get_or-changed : {X : Type 0} (f : X → X) (xs : List X) (d : X) (i j : ℕ) → (i < length xs) ⊎ (f d ≡ d) →
@@ -26,67 +27,70 @@ get_or-changed f xs d i j stays =
     (λ (other : j ≢ i). rw (ne_eqb i j (λ (e : i ≡ j). other (sym e))) (get_or-set_other xs i j (f (slice_index_or xs i d)) d other))
     (cases_eq j i)
 
-both_of : {X : Type 0} (a b : Bool) (x y : X) → (if a then (if b then x else y) else y) ≡ (if a && b then x else y)
-both_of true b x y = refl
-both_of false b x y = refl
-
 module _ {U : Type 0} where
-  pub slot_at_past : (slots : List (List (Slot U))) (table extent : ℕ) → length slots ≤ table → nothing ≡ slot_at slots table extent
-  unfolding slot_at
-  slot_at_past slots table extent past =
-      sym (ap (λ (shelf : List (Slot U)). slot_in shelf extent) (get_or_past slots table [] past) ∙ get_or_past [] extent nothing (omega arith))
+  changed_by : (b : Bool) (f : Slot U → Slot U) (its this : Slot U) → (b ≡ true → its ≡ this) → (if b then f its else this) ≡ (if b then f this else this)
+  changed_by true f its this same = ap f (same refl)
+  changed_by false f its this same = refl
 
-  pub slot_at_found : (slots : List (List (Slot U))) (table extent : ℕ) (shelf : List (Slot U)) (found : Option (Slot U)) →
-      shelf ≡ slice_index_or slots table [] → found ≡ slice_get shelf extent → unwrap_or found nothing ≡ slot_at slots table extent
-  unfolding slot_at
-  slot_at_found slots table extent shelf found at is =
-      ap (λ (o : Option (Slot U)). unwrap_or o nothing) is ∙ (unwrap_or-slice_get shelf extent nothing ∙ ap (λ (s : List (Slot U)). slot_in s extent) at)
-
-  -- ---- growth
-
-  pub KeepsSlots_padded : (old new : List (List (Slot U))) → IsPadded [] old new → KeepsSlots old new
-  unfolding slot_at
-  KeepsSlots_padded old new padded = record { each = λ table extent. ap (λ (shelf : List (Slot U)). slot_in shelf extent) (padded.each table) }
-
-  pub KeepsSlots-trans : (a b c : List (List (Slot U))) → KeepsSlots a b → KeepsSlots b c → KeepsSlots a c
-  KeepsSlots-trans a b c ab bc = record { each = λ table extent. bc.each table extent ∙ ab.each table extent }
-
-  pub KeepsSlots-set : (slots : List (List (Slot U))) (table : ℕ) (shelf : List (Slot U)) → table < length slots →
-      IsPadded nothing (slice_index_or slots table []) shelf → KeepsSlots slots (set slots table shelf)
-  unfolding slot_at
-  KeepsSlots-set slots table shelf inside padded = record {
-    each = λ other extent.
-        ⊎_elim (λ (is : other ≡ table).
-        ap (λ (s : List (Slot U)). slot_in s extent) (get_or-set_at slots table other shelf [] is inside)
-        ∙ (padded.each extent ∙ ap (λ (k : ℕ). slot_in (slice_index_or slots k []) extent) (sym is)))
-        (λ (is : other ≢ table). ap (λ (s : List (Slot U)). slot_in s extent) (get_or-set_other slots table other shelf [] is))
-        (cases_eq other table);
-  }
-
-  -- ---- one extent changed
-
-  shelf_changed : (f : Slot U → Slot U) (slots : List (List (Slot U))) (table extent t e : ℕ) → HasPlace slots table extent ⊎ (f nothing ≡ nothing) →
-      (table == t) ≡ true → slot_in (shelf_with f extent (slice_index_or slots t [])) e ≡ (if extent == e then f (slot_at slots t e) else slot_at slots t e)
-  unfolding slot_at
-  shelf_changed f slots table extent t e stays is =
-      let shelf : List (Slot U) = slice_index_or slots t [] in
-      let same : table ≡ t = eqb-true table t is in
-      let here : (extent < length shelf) ⊎ (f nothing ≡ nothing) =
-      ⊎_elim (λ (place : HasPlace slots table extent). inl (subst (λ (k : ℕ). extent < length (slice_index_or slots k [])) same place.within))
-      (λ (keeps : f nothing ≡ nothing). inr keeps) stays in
-      get_or-changed f shelf nothing extent e here
-
-  slot_by : (b : Bool) (f : Slot U → Slot U) (slots : List (List (Slot U))) (table extent t e : ℕ) → HasPlace slots table extent ⊎ (f nothing ≡ nothing) →
-      (table == t) ≡ b → slot_in (if b then shelf_with f extent (slice_index_or slots t []) else slice_index_or slots t []) e ≡
-      (if b && (extent == e) then f (slot_at slots t e) else slot_at slots t e)
-  unfolding slot_at
-  slot_by true f slots table extent t e stays is = shelf_changed f slots table extent t e stays is
-  slot_by false f slots table extent t e stays is = refl
+  changes : (f : Slot U → Slot U) (slots : List (List (Slot U))) (table extent : ℕ) → HasCell slots table extent ⊎ (f nothing ≡ nothing) →
+      HasCell slots table extent ⊎ (f (slot_at slots table extent) ≡ nothing)
+  changes f slots table extent stays =
+      ⊎_elim (λ (has : HasCell slots table extent). inl has)
+      (λ (keeps : f nothing ≡ nothing).
+      ⊎_elim (λ (has : HasCell slots table extent). inl has)
+      (λ (none : cell_at nothing slots table extent ≡ nothing). inr (ap f none ∙ keeps))
+      (HasCell-or-empty nothing slots table extent))
+      stays
 
   -- an extent that is there, or whose absence the change keeps, has changed, and no other one
-  pub slot_at-changed : (f : Slot U → Slot U) (slots : List (List (Slot U))) (table extent t e : ℕ) → HasPlace slots table extent ⊎ (f nothing ≡ nothing) →
+  pub slot_at-changed : (f : Slot U → Slot U) (slots : List (List (Slot U))) (table extent t e : ℕ) → HasCell slots table extent ⊎ (f nothing ≡ nothing) →
       slot_at (slots_with f table extent slots) t e ≡ (if (table == t) && (extent == e) then f (slot_at slots t e) else slot_at slots t e)
-  unfolding slot_at
   slot_at-changed f slots table extent t e stays =
-      ap (λ (shelf : List (Slot U)). slot_in shelf e) (get_or-changed (shelf_with f extent) slots [] table t (inr refl))
-      ∙ slot_by (table == t) f slots table extent t e stays refl
+      cell_at-with_cell nothing slots table extent (f (slot_at slots table extent)) t e (changes f slots table extent stays)
+      ∙ changed_by ((table == t) && (extent == e)) f (slot_at slots table extent) (slot_at slots t e)
+      (λ is. let both = and-true (table == t) (extent == e) is in
+      ap (λ (k : ℕ). slot_at slots k extent) (eq-true table t both.0) ∙ ap (λ (k : ℕ). slot_at slots t k) (eq-true extent e both.1))
+
+  -- the slot that was found
+  pub slot_at-found : (slots : List (List (Slot U))) (table extent : ℕ) (slot : Slot U) → found_at slots table extent ≡ Some slot →
+      slot ≡ slot_at slots table extent
+  slot_at-found slots table extent slot is =
+      ap (λ (o : Option (Slot U)). unwrap_or o nothing) (sym is) ∙ unwrap_or-found_at nothing slots table extent
+
+  -- the slot that was found has changed
+  pub slots_with-found : (f : Slot U → Slot U) (slots : List (List (Slot U))) (table extent : ℕ) (slot after : Slot U) →
+      found_at slots table extent ≡ Some slot → after ≡ f slot → with_cell table extent after slots ≡ slots_with f table extent slots
+  slots_with-found f slots table extent slot after is changed =
+      ap (λ (s : Slot U). with_cell table extent s slots) (changed ∙ ap f (slot_at-found slots table extent slot is))
+
+  -- where none was found, nothing has changed
+  pub slots_with-none : (f : Slot U → Slot U) (slots : List (List (Slot U))) (table extent : ℕ) → found_at slots table extent ≡ None →
+      slots ≡ slots_with f table extent slots
+  slots_with-none f slots table extent none = sym (with_cell-none slots table extent (f (slot_at slots table extent)) none)
+
+  -- and nothing is kept of it
+  pub slot_at-none : (slots : List (List (Slot U))) (table extent : ℕ) → found_at slots table extent ≡ None → nothing ≡ slot_at slots table extent
+  slot_at-none slots table extent none = ap (λ (o : Option (Slot U)). unwrap_or o nothing) (sym none) ∙ unwrap_or-found_at nothing slots table extent
+
+  -- all is read as before where nothing changes
+  pub TellsAlike-none : (slots : List (List (Slot U))) → TellsAlike slots slots
+  TellsAlike-none slots = record { each = λ table extent. refl }
+
+  -- where of the slot that was found the same is read, all is read as before
+  pub TellsAlike-found : (slots : List (List (Slot U))) (table extent : ℕ) (slot after : Slot U) →
+      found_at slots table extent ≡ Some slot → told after ≡ told slot → TellsAlike slots (with_cell table extent after slots)
+  TellsAlike-found slots table extent slot after is same = record {
+    each = λ t e.
+        ⊎_elim
+        (λ (here : (t ≡ table) × (e ≡ extent)). rw (here.0, here.1)
+        (ap told (cell_at-with_cell_same nothing slots table extent after (HasCell-found slots table extent slot is))
+        ∙ (same ∙ ap told (slot_at-found slots table extent slot is))))
+        (λ (apart : t ≡ table → e ≡ extent → ⊥). ap told (cell_at-with_cell_other nothing slots table extent after t e apart))
+        (same_cell table extent t e);
+  }
+
+  -- where a build lives, there is a slot
+  pub HasCell-growing : (slots : List (List (Slot U))) (table extent : ℕ) → IsSome (slot_at slots table extent).growing → HasCell slots table extent
+  HasCell-growing slots table extent some =
+      HasCell-where nothing slots table extent
+      (λ (none : slot_at slots table extent ≡ nothing). absurd (false≢true (subst (λ (s : Slot U). IsSome s.growing) none some)))

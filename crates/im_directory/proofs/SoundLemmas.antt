@@ -9,13 +9,14 @@ use Rattle.im_history.specs.declared.task.Held.{Held}
 use Rattle.im_history.specs.Transactions.{or_here}
 use Rattle.im_history.specs.Units.{drops, is_on, killed_by, unless_ended}
 use Rattle.im_journal.specs.Stale.{Note}
+use Rattle.im_tables.proofs.ForCallers.{cell_at-nil}
 use Rattle.im_directory.specs.Effects.{IsBegun, IsCancelled, IsDropped, IsNew, IsNoted, IsSwitched, SameTold, unless_of, with_notes, notes_of}
-use Rattle.im_directory.specs.Slots.{Growth, Kept, Told, build_among, build_in, living_in, slot_at, told, told_at}
+use Rattle.im_directory.specs.Slots.{Growth, Kept, Told, build_among, build_in, living_in, nothing, slot_at, told, told_at}
 use Rattle.im_directory.specs.declared.slot.Slot.{Slot}
 use Rattle.im_history.specs.declared.change.Change.{Change}
 use Rattle.im_history.specs.declared.look.TableInfo.{TableInfo}
 use Rattle.im_directory.specs.Sound.{IsLiving, IsSound}
-use Rattle.im_directory.proofs.SlotLemmas.{get_or-changed, slot_at_past}
+use Rattle.im_directory.proofs.SlotLemmas.{get_or-changed}
 
 pub ap_if : {X Y : Type 0} (f : X → Y) (b : Bool) (x y : X) → f (if b then x else y) ≡ (if b then f x else f y)
 ap_if f true x y = refl
@@ -212,7 +213,7 @@ module _ {U : Type 0} where
 
   pub told_at-new : (kept : Kept U) (table extent : ℕ) → IsNew kept → told_at kept table extent ≡ record { current = None; growing = None }
   told_at-new kept table extent new =
-      ap (λ (s : List (List (Slot U))). told (slot_at s table extent)) new.slots ∙ ap told (sym (slot_at_past [] table extent (omega arith)))
+      ap (λ (s : List (List (Slot U))). told (slot_at s table extent)) new.slots ∙ ap told (cell_at-nil nothing table extent)
 
   pub IsSound-new : (kept : Kept U) → IsNew kept → IsSound kept
   IsSound-new kept new = record {

@@ -45,7 +45,7 @@ unless_of id None = None
 unless_of id (Some growth) = if growth.id == id then None else Some growth
 
 module _ {U : Type 0} where
-  -- what is told of an extent once both its journals have these notes
+  -- what is read of an extent once both its journals have these notes
   abbrev pub noted_in : List Note → Told U → Told U
   noted_in more told = record {
     current = option_map (λ (stock : Stock U). record stock { notes = with_notes more stock.notes }) told.current;
@@ -64,14 +64,14 @@ module _ {U : Type 0} where
     pub current : (table extent : ℕ) → ForSome (told_at kept table extent).current (λ stock. NoneBehind scn stock.notes)
     pub growing : (table extent : ℕ) → ForSome (told_at kept table extent).growing (λ growth. NoneBehind scn growth.notes)
 
-  -- ---- what is told after each call
+  -- ---- what is read after each call
 
   -- nothing was begun
   pub record IsNew (kept : Kept U) : Type 0 where
     pub slots : kept.slots ≡ []
     pub builds : kept.builds ≡ []
 
-  -- all is told as before
+  -- all is read as before
   pub record SameTold (old new : Kept U) : Type 0 where
     pub slots : (table extent : ℕ) → told_at new table extent ≡ told_at old table extent
     pub builds : new.builds ≡ old.builds

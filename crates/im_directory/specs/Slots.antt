@@ -1,7 +1,8 @@
 -- What is kept of each extent and of each build, read by their numbers.
 use Rattle.std.specs.Prelude.{ℕ, zero, suc, List, [], slice_index_or, Option, Some, None}
 use Rattle.std.specs.Option.{option_map}
-use Rattle.im_journal.specs.Stale.{Note}
+use Rattle.im_tables.specs.Table.{cell_at}
+use Rattle.im_journal.specs.Stale.{Note, stale_rows_at}
 use Rattle.im_history.specs.declared.task.Held.{Held}
 use Rattle.im_directory.specs.declared.slot.Current.{Current}
 use Rattle.im_directory.specs.declared.slot.Growing.{Growing}
@@ -23,12 +24,12 @@ pub record Growth : Type 0 where
   pub id : ℕ
   pub notes : List Note
 
--- what is told of an extent: all that is kept but the room in its journals
+-- what is read of an extent: all that is kept but the room in its journals
 pub record Told (U : Type 0) : Type 0 where
   pub current : Option (Stock U)
   pub growing : Option Growth
 
--- what is told of a living build
+-- what is read of a living build
 abbrev pub growth : Growing → Growth
 growth growing = record { id = growing.id; notes = growing.journal.notes }
 
@@ -42,19 +43,19 @@ module _ {U : Type 0} where
   abbrev pub nothing : Slot U
   nothing = record { current = None; growing = None; wanted = 0 }
 
-  -- what is told of a current unit
+  -- what is read of a current unit
   abbrev pub stock : Current U → Stock U
   stock current = record { unit = current.unit.value; notes = current.journal.notes }
 
-  -- what is told of an extent
+  -- what is read of an extent
   abbrev pub told : Slot U → Told U
   told slot = record { current = option_map stock slot.current; growing = option_map growth slot.growing }
 
   -- what is kept of an extent; past the ends there is nothing
-  unfoldable pub slot_at : List (List (Slot U)) → ℕ → ℕ → Slot U
-  slot_at slots table extent = slice_index_or (slice_index_or slots table []) extent nothing
+  abbrev pub slot_at : List (List (Slot U)) → ℕ → ℕ → Slot U
+  slot_at slots table extent = cell_at nothing slots table extent
 
-  -- what is told of an extent
+  -- what is read of an extent
   abbrev pub told_at : Kept U → ℕ → ℕ → Told U
   told_at kept table extent = told (slot_at kept.slots table extent)
 
@@ -78,3 +79,7 @@ module _ {U : Type 0} where
   -- what was touched of an extent since its current unit's SCN
   abbrev pub notes_in : Kept U → ℕ → ℕ → List Note
   notes_in kept table extent = notes_of_unit (told_at kept table extent).current
+
+  -- the row numbers of an extent that commits behind its current unit's SCN and up to this one touched
+  abbrev pub stale_told : Kept U → ℕ → ℕ → ℕ → List ℕ
+  stale_told kept table extent to = stale_rows_at (notes_in kept table extent) to

@@ -1,18 +1,23 @@
 -- What a single call does to what is kept of one extent.
-use Rattle.std.specs.Prelude.{◌≡◌, ℕ, ◌+◌, ◌-◌, ◌≤◌, ◌<◌, ◌==◌, ◌||◌, Bool, max, List, [], length, filter, fold, set, slice_index_or, Option, Some, None, is_some, if◌then◌else◌}
+use Rattle.std.specs.Prelude.{◌≡◌, ℕ, ◌+◌, ◌-◌, ◌/◌, ◌≤◌, ◌<◌, ◌==◌, ◌||◌, Bool, max, List, [], filter, fold, set, Option, Some, None, is_some, if◌then◌else◌}
 use Rattle.std.specs.Option.{option_map, ForSome}
 use Rattle.std.specs.declared.alloc.Global.{Global}
 use Rattle.std.specs.declared.sync.Arc.{Arc}
+use Rattle.im_tables.specs.Table.{with_cell}
 use Rattle.im_journal.specs.Stale.{Note, Notes, noted}
 use Rattle.im_history.specs.declared.change.Change.{Change}
 use Rattle.im_history.specs.declared.look.TableInfo.{TableInfo}
 use Rattle.im_history.specs.declared.task.Held.{Held}
+use Rattle.im_history.specs.Grid.{per_extent}
+use Rattle.im_history.specs.Tables.{table_among}
 use Rattle.im_history.specs.Transactions.{or_here}
+use Rattle.im_history.specs.Views.{grid_of}
+use Rattle.im_directory.specs.declared.range.ExtentRange.{ExtentRange}
 use Rattle.im_directory.specs.declared.slot.Current.{Current}
 use Rattle.im_directory.specs.declared.slot.Growing.{Growing}
 use Rattle.im_directory.specs.declared.slot.Slot.{Slot}
-use Rattle.im_directory.specs.Effects.{NoneBehind, is_in_extent, noted_in, notes_for, notes_of}
-use Rattle.im_directory.specs.Slots.{build_among, nothing, slot_at, told}
+use Rattle.im_directory.specs.Effects.{NoneBehind, extent_in, is_in_extent, noted_in, notes_for, notes_of}
+use Rattle.im_directory.specs.Slots.{build_among, slot_at, told}
 
 -- a journal with a note more
 abbrev pub with_note : Note → Notes → Notes
@@ -45,9 +50,15 @@ abbrev pub growing_unless : ℕ → Option Growing → Option Growing
 growing_unless id None = None
 growing_unless id (Some growing) = if growing.id == id then None else Some growing
 
--- the list may have grown by default elements: at no index is another one read than before
-pub record IsPadded {X : Type 0} (default : X) (old new : List X) : Type 0 where
-  pub each : (i : ℕ) → slice_index_or new i default ≡ slice_index_or old i default
+-- the row numbers of a range are of its extent
+pub record IsRange (tables : List TableInfo) (range : ExtentRange) : Type 0 where
+  pub each : (rid : ℕ) → range.first ≤ rid → rid < range.first + range.count → rid / per_extent (grid_of (table_among tables range.table)) ≡ range.extent
+
+-- a range has the row of this change
+pub record IsWithin (range : ExtentRange) (change : Change) : Type 0 where
+  pub same : change.table ≡ range.table
+  pub first : range.first ≤ change.rid
+  pub below : change.rid < range.first + range.count
 
 module _ {U : Type 0} where
   -- a current unit with a note more
@@ -108,21 +119,14 @@ module _ {U : Type 0} where
   abbrev pub slot_dropped : Slot U → Slot U
   slot_dropped slot = record slot { current = None; growing = None }
 
-  -- what is kept of an extent of a table; past the end there is nothing
-  abbrev pub slot_in : List (Slot U) → ℕ → Slot U
-  slot_in shelf extent = slice_index_or shelf extent nothing
-
-  -- of each extent of a table all is told as before
-  pub record TellsSame (old new : List (Slot U)) : Type 0 where
-    pub each : (extent : ℕ) → told (slot_in new extent) ≡ told (slot_in old extent)
-
-  -- the extents of a table, one of them having changed, if it is there
-  abbrev pub shelf_with : (Slot U → Slot U) → ℕ → List (Slot U) → List (Slot U)
-  shelf_with change extent shelf = set shelf extent (change (slot_in shelf extent))
-
   -- all extents, one of them having changed, if it is there
   abbrev pub slots_with : (Slot U → Slot U) → ℕ → ℕ → List (List (Slot U)) → List (List (Slot U))
-  slots_with change table extent slots = set slots table (shelf_with change extent (slice_index_or slots table []))
+  slots_with change table extent slots = with_cell table extent (change (slot_at slots table extent)) slots
+
+  -- what is done to this extent of a change's table is done to the extent of its row: it is that one, or the table has none
+  pub record IsFor (slots : List (List (Slot U))) (tables : List TableInfo) (change : Change) (extent : ℕ) : Type 0 where
+    pub slot : slot_at slots change.table extent ≡ slot_at slots change.table (extent_in tables change)
+    pub changed : (f : Slot U → Slot U) → slots_with f change.table extent slots ≡ slots_with f change.table (extent_in tables change) slots
 
   -- there is room in both journals of each extent for the notes of these changes
   pub record HasNotesRoom (slots : List (List (Slot U))) (tables : List TableInfo) (changes : List Change) : Type 0 where
@@ -149,15 +153,6 @@ module _ {U : Type 0} where
   pub record WentThrough (effect : Change → Slot U → Slot U) (old new : List (List (Slot U))) (tables : List TableInfo) (changes : List Change) : Type 0 where
     pub each : (table extent : ℕ) → slot_at new table extent ≡ slot_through effect tables changes table extent (slot_at old table extent)
 
-  -- there is a place for an extent
-  pub record HasPlace (slots : List (List (Slot U))) (table extent : ℕ) : Type 0 where
-    pub above : table < length slots
-    pub within : extent < length (slice_index_or slots table [])
-
-  -- each extent is kept as before
-  pub record KeepsSlots (old new : List (List (Slot U))) : Type 0 where
-    pub each : (table extent : ℕ) → slot_at new table extent ≡ slot_at old table extent
-
-  -- of each extent all is told as before
+  -- of each extent all is read as before
   pub record TellsAlike (old new : List (List (Slot U))) : Type 0 where
     pub each : (table extent : ℕ) → told (slot_at new table extent) ≡ told (slot_at old table extent)

@@ -1,9 +1,9 @@
 ghost use Rattle.std.specs.Prelude.{◌≡◌, ◌+◌, ◌^◌, ◌<◌, count_by, is_some, length, option_copied, option_map, IfOk, IsSome, None, OnErr, OnOk, Option};
 ghost use Rattle.std.specs.Option.{ForSome};
-ghost use Rattle.im_journal.specs.Stale.{stale_rows, stale_rows_at};
+ghost use Rattle.im_journal.specs.Stale.{stale_rows};
 ghost use Rattle.im_history.specs.declared.entry.What.TheVariants.{Evict, Memory};
 ghost use Rattle.im_directory.specs.Effects.{HasRoom, IsBefore, IsBegun, IsCancelled, IsDropped, IsNew, IsNoted, IsSwitched, SameTold};
-ghost use Rattle.im_directory.specs.Slots.{build_in, living_in, notes_in, told_at, unit_in};
+ghost use Rattle.im_directory.specs.Slots.{build_in, living_in, notes_in, stale_told, told_at, unit_in};
 ghost use Rattle.im_directory.specs.Sound.{IsAlive};
 
 use crate::builds::Builds;
@@ -95,7 +95,7 @@ impl<U: Drop> Directory<U> {
     ///
     /// It costs what it answers, and a sort of that.
     pub fn stale_at(&self, table: u32, extent: u64, scn: u64) -> Result<Vec<u64>, NoMemory>
-        ensures { IfOk result (λ rows. rows.items ≡ stale_rows_at (notes_in self.now table extent) scn) }
+        ensures { IfOk result (λ rows. rows.items ≡ stale_told self.now table extent scn) }
     {
         match self.shelves.slot(table, extent) {
             Some(slot) => slot.stale_at(self.alloc, scn),
@@ -135,7 +135,8 @@ impl<U: Drop> Directory<U> {
 
     /// Makes room in the journals for the notes of a commit of these changes, and for no more.
     ///
-    /// It costs two look-ups for each change. After an error some of the room may be there.
+    /// It costs two steps for each change, and two look-ups of a table for each run of changes to one extent. After an
+    /// error some of the room may be there.
     pub fn reserve(&mut self, tables: &Catalog, changes: &[Change]) -> Result<(), NoMemory>
         ensures same { SameTold self.old self.new }
         ensures room { OnOk result (HasRoom self.new tables.now changes.now) }

@@ -16,7 +16,7 @@ mod agreement;
 mod builds;
 mod directory;
 mod noting;
-mod shelf;
+mod range;
 mod shelves;
 mod slot;
 

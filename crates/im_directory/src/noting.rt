@@ -1,18 +1,16 @@
-ghost use Rattle.std.specs.Prelude.{◌≡◌, ◌≤◌, OnOk};
-ghost use Rattle.im_history.specs.Grid.{per_extent};
-ghost use Rattle.im_history.specs.Tables.{table_among};
-ghost use Rattle.im_history.specs.Views.{grid_of};
-ghost use Rattle.im_directory.specs.Effects.{extent_in};
-ghost use Rattle.im_directory.specs.Steps.{AreBefore, AreNoted, HasNotesRoom, TellsAlike, WentThrough, slot_counted, slot_uncounted};
+ghost use Rattle.std.specs.Prelude.{◌≡◌, OnOk};
+ghost use Rattle.im_directory.specs.Steps.{AreBefore, AreNoted, HasNotesRoom, IsFor, IsRange, TellsAlike, WentThrough, slot_counted, slot_uncounted};
 
+use crate::range::ExtentRange;
 use crate::shelves::Shelves;
-use im_history::{Catalog, Change, Shape};
+use im_history::{Catalog, Change};
 use im_values::NoMemory;
 
 impl<U: Drop> Shelves<U> {
     /// Makes room in the journals for the notes of a commit of these changes, and for no more.
     ///
-    /// It costs two look-ups for each change. After an error some of the room may be there.
+    /// It costs two steps for each change, and two look-ups of a table for each run of changes to one extent. After an
+    /// error some of the room may be there.
     pub fn make_room(&mut self, tables: &Catalog, changes: &[Change]) -> Result<(), NoMemory>
         ensures same { TellsAlike self.old self.new }
         ensures room { OnOk result (HasNotesRoom self.new tables.now changes.now) }
@@ -25,8 +23,10 @@ impl<U: Drop> Shelves<U> {
     fn uncount_all(&mut self, tables: &Catalog, changes: &[Change])
         ensures { WentThrough (λ change. slot_uncounted) self.old self.new tables.now changes.now }
     {
+        let mut range = ExtentRange::none(tables);
         for change in changes {
-            self.uncount(change.table, extent_of(tables, change));
+            let extent = self.extent_for(tables, &mut range, change);
+            self.uncount(change.table, extent);
         }
     }
 
@@ -35,8 +35,10 @@ impl<U: Drop> Shelves<U> {
         ensures same { TellsAlike self.old self.new }
         ensures counted { OnOk result (WentThrough (λ change. slot_counted) self.old self.new tables.now changes.now) }
     {
+        let mut range = ExtentRange::none(tables);
         for change in changes {
-            self.count(change.table, extent_of(tables, change))?;
+            let extent = self.extent_for(tables, &mut range, change);
+            self.count(change.table, extent)?;
         }
         Ok(())
     }
@@ -47,29 +49,23 @@ impl<U: Drop> Shelves<U> {
         requires later { AreBefore self.old scn }
         ensures { AreNoted self.old self.new tables.now scn changes.now }
     {
+        let mut range = ExtentRange::none(tables);
         for change in changes {
-            self.note(change.table, extent_of(tables, change), change.rid, scn);
+            let extent = self.extent_for(tables, &mut range, change);
+            self.note(change.table, extent, change.rid, scn);
         }
     }
-}
 
-/// The extent of a change's row.
-fn extent_of(tables: &Catalog, change: &Change) -> u64
-    ensures { result ≡ extent_in tables.now change.now }
-{
-    change.rid / row_numbers(tables, change.table)
-}
-
-/// Row numbers in an extent of a table: where there is no such table, as many as in one that names no shape.
-fn row_numbers(tables: &Catalog, table: u32) -> u64
-    ensures per { result ≡ per_extent (grid_of (table_among tables.now table)) }
-    ensures some { 1 ≤ result }
-{
-    if table == 0 {
-        return Shape::standard().per_extent();
-    }
-    match tables.tables().get(table as usize - 1) {
-        Some(info) => info.shape.per_extent(),
-        None => Shape::standard().per_extent(),
+    /// The extent of a change's row. Where its table has no extent here, as most have none, it is 0, without a look-up:
+    /// whatever is done to it then changes nothing.
+    fn extent_for(&self, tables: &Catalog, range: &mut ExtentRange, change: &Change) -> u64
+        requires { IsRange tables.now range.old }
+        ensures range { IsRange tables.now range.new }
+        ensures extent { IsFor self.now tables.now change.now result }
+    {
+        if self.extents(change.table) == 0 {
+            return 0;
+        }
+        range.extent_of(tables, change)
     }
 }

@@ -4,6 +4,7 @@ ghost use Rattle.im_directory.specs.Slots.{notes_of_unit, nothing, told};
 ghost use Rattle.im_directory.specs.Steps.{MayNote, slot_begun, slot_cancelled, slot_counted, slot_dropped, slot_noted, slot_roomy, slot_switched, slot_uncounted};
 
 use im_journal::Journal;
+use im_tables::Cell;
 use im_values::NoMemory;
 use std::alloc::Global;
 use std::sync::Arc;
@@ -31,18 +32,19 @@ pub struct Slot<U> {
     pub wanted: u64,
 }
 
-impl<U> Slot<U> {
-    /// Nothing is kept.
-    pub fn empty() -> Slot<U>
-        ensures { result ≡ nothing }
-    {
+impl<U: Drop> Cell for Slot<U> {
+    ghost blank = { nothing };
+
+    fn empty(_alloc: Global) -> Slot<U> {
         Slot {
             current: None,
             growing: None,
             wanted: 0,
         }
     }
+}
 
+impl<U> Slot<U> {
     /// The number of the living build.
     pub fn living(&self) -> Option<u64>
         ensures { result ≡ option_map (λ growing. growing.id) self.now.growing }

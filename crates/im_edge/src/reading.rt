@@ -12,6 +12,9 @@ use thiserror::Error;
 /// The bytes of one read at most. 64 KiB is what a pipe of Linux holds.
 const READ_SIZE: usize = 65536;
 
+/// From so many bytes on a text grows by less than doubling.
+const LARGE: usize = 1_048_576;
+
 /// Why a source was not read to its end.
 #[derive(Clone, Copy, Debug, PartialEq, Eq, Error)]
 pub enum ReadError {
@@ -89,10 +92,25 @@ fn read_through<S: Source>(
         let room = buffer.len().min(allowed + 1);
         match read_front(source, buffer, room) {
             Got::Bytes(count) if count > allowed => return Err(ReadError::TooLong),
-            Got::Bytes(count) => bytes.extend_from_slice(&buffer[..count])?,
+            Got::Bytes(count) => {
+                make_room(&mut bytes, count)?;
+                bytes.extend_from_slice(&buffer[..count])?
+            }
             Got::End => return Ok(bytes),
             Got::Failed => return Err(ReadError::Fault),
         }
+    }
+}
+
+/// Makes room for so many bytes more. A large text grows by an eighth where a vector would double.
+fn make_room(bytes: &mut Vec<u8>, count: usize) -> Result<(), AllocError>
+    ensures items { bytes.new.items ≡ bytes.old.items }
+    ensures len { vec_len bytes.new ≡ vec_len bytes.old }
+{
+    if bytes.len() >= LARGE && bytes.capacity() - bytes.len() < count {
+        bytes.reserve_exact(count.max(bytes.len() / 8))
+    } else {
+        Ok(())
     }
 }
 

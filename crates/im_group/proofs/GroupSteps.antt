@@ -6,15 +6,16 @@ use Rattle.std.specs.FinMap as map_of
 use Rattle.std.proofs.lemmas.List.{map-append, take_more, length-map}
 use Rattle.std.proofs.lemmas.List.Elements.{filter-append}
 use Rattle.std.proofs.lemmas.Cmp.{tied_itself, eq_by_cmp_equiv}
+use denote.Ref.{Bor}
 use Rattle.im_values.specs.declared.value.Value.{Value}
 use Rattle.im_syntax.specs.declared.bound.Item.{Item}
 use Rattle.im_syntax.specs.declared.bound.Bound.{Bound}
 use Rattle.im_syntax.specs.declared.bound.Key.{Key}
-use Rattle.im_syntax.specs.BoundFits.{ItemFits, KeyFits}
+use Rattle.im_syntax.specs.BoundFits.{ItemFits, KeyFits, BoundFits}
 use Rattle.im_group.specs.declared.tally.Tally.{Tally}
 use Rattle.im_group.specs.Tallies.{tally_of, counted, all_taken}
-use Rattle.im_group.specs.Partials.{Numbered, key_order, key_of, is_key, keeps, kept, wanted, members, tallies_of, keys_of, groups_of}
-use Rattle.im_group.specs.inner.Steps.{tallies_at, placed, so_far, first_groups, with_row, GroupsAre}
+use Rattle.im_group.specs.Partials.{Numbered, lent_rows, key_order, key_of, is_key, keeps, kept, wanted, members, tallies_of, keys_of, groups_of}
+use Rattle.im_group.specs.inner.Steps.{tallies_at, placed, so_far, first_groups, one_group, with_kept, with_row, GroupsAre}
 use Rattle.im_group.proofs.Few.{all_few, shorter}
 use Rattle.im_group.proofs.Sorting.{true_is_not_false}
 use Rattle.im_group.proofs.Orders.{key_total, key_same}
@@ -127,21 +128,73 @@ first-at (c ∷ cs) is q = refl
 pub first-are : (bound : Bound) → GroupsAre bound [] (first_groups bound.groups (wanted bound))
 first-are bound = record { at = λ q. first-at bound.groups (wanted bound) q ∙ sym (get-groups_of bound [] q) }
 
--- the kept rows of one row more
-pub kept-push : (bound : Bound) (rows : List Numbered) (i : ℕ) (d : Numbered) → i < length rows
-    → map (λ r. r.1) (kept bound (take (i + 1) rows))
-    ≡ cond (keeps bound.filter (get_or rows i d).1) (map (λ r. r.1) (kept bound (take i rows)) ++ (get_or rows i d).1 ∷ [])
-    (map (λ r. r.1) (kept bound (take i rows)))
-kept-push bound rows i d lt =
-    ap (λ l. map (λ r. r.1) (kept bound l)) (take_more rows i d lt)
-    ∙ (ap (map (λ r. r.1)) (filter-append (λ r. keeps bound.filter r.1) (take i rows) (get_or rows i d ∷ []))
-    ∙ (map-append (λ r. r.1) (kept bound (take i rows)) (kept bound (get_or rows i d ∷ []))
-    ∙ last (keeps bound.filter (get_or rows i d).1)))
+-- with GROUP BY there is no group of no row
+pub none-are : (bound : Bound) → 0 < length bound.groups → GroupsAre bound [] []
+none-are bound some = subst (GroupsAre bound []) (nothing bound.groups some) (first-are bound)
   where
-    last : (b : Bool) → map (λ r. r.1) (kept bound (take i rows)) ++ map (λ r. r.1) (cond b (get_or rows i d ∷ []) [])
-        ≡ cond b (map (λ r. r.1) (kept bound (take i rows)) ++ (get_or rows i d).1 ∷ []) (map (λ r. r.1) (kept bound (take i rows)))
+    nothing : (columns : List ℕ) → 0 < length columns → first_groups columns (wanted bound) ≡ []
+    nothing [] some = absurd (omega (arith, some))
+    nothing (c ∷ cs) some = refl
+
+-- without GROUP BY there is one
+pub one-is : (bound : Bound) → bound.groups ≡ [] → GroupsAre bound [] (one_group (map (λ i. tally_of i []) (wanted bound)))
+one-is bound whole = subst (GroupsAre bound []) (ap (λ (cs : List ℕ). first_groups cs (wanted bound)) whole) (first-are bound)
+
+one_with_row : (b : Bool) (is : List Item) (ts : List Tally) (row : List Value)
+    → cond b (placed (one_group ts) [] (all_taken is (so_far is (tallies_at (one_group ts) [])) row)) (one_group ts)
+    ≡ one_group (cond b (all_taken is ts row) ts)
+one_with_row true is ts row = refl
+one_with_row false is ts row = refl
+
+-- the one group, once one row more has come
+pub one-push : (bound : Bound) (rows : List (List Value)) (ts : List Tally) (row : List Value) → bound.groups ≡ []
+    → GroupsAre bound rows (one_group ts) → GroupsAre bound (cond (keeps bound.filter row) (rows ++ row ∷ []) rows) (one_group (with_kept bound ts row))
+one-push bound rows ts row whole g =
+    subst (GroupsAre bound (cond (keeps bound.filter row) (rows ++ row ∷ []) rows))
+    (ap (λ (cs : List ℕ). cond (keeps bound.filter row)
+    (placed (one_group ts) (key_of cs row) (all_taken (wanted bound) (so_far (wanted bound) (tallies_at (one_group ts) (key_of cs row))) row))
+    (one_group ts)) whole ∙ one_with_row (keeps bound.filter row) (wanted bound) ts row)
+    (with_row-push bound rows (one_group ts) row g)
+
+-- its counts stay below 2^64 with one row more
+pub one-few : (bound : Bound) (rows : List (List Value)) (ts : List Tally) → bound.groups ≡ [] → GroupsAre bound rows (one_group ts)
+    → length rows + 1 < 2 ^ 64 → AllByRecursion (λ t. counted t + 1 < 2 ^ 64) ts
+one-few bound rows ts whole g few =
+    subst (λ (cs : List ℕ). AllByRecursion (λ t. counted t + 1 < 2 ^ 64) (so_far (wanted bound) (tallies_at (one_group ts) (key_of cs [])))) whole
+    (few_so_far bound rows (one_group ts) [] g few)
+
+-- the kept rows of one row more
+pub kept-push : (bound : Bound) (rows : List (ℕ × Bor (List Value))) (i : ℕ) (d : ℕ × Bor (List Value)) → i < length rows
+    → map (λ r. r.1) (kept bound (lent_rows (take (i + 1) rows)))
+    ≡ cond (keeps bound.filter (get_or rows i d).1.now)
+    (map (λ r. r.1) (kept bound (lent_rows (take i rows))) ++ (get_or rows i d).1.now ∷ [])
+    (map (λ r. r.1) (kept bound (lent_rows (take i rows))))
+kept-push bound rows i d lt =
+    ap (λ (l : List (ℕ × Bor (List Value))). map (λ r. r.1) (kept bound (lent_rows l))) (take_more rows i d lt)
+    ∙ (ap (λ (l : List Numbered). map (λ r. r.1) (kept bound l)) (map-append (λ row. (row.0, row.1.now)) (take i rows) (get_or rows i d ∷ []))
+    ∙ (ap (map (λ r. r.1)) (filter-append (λ r. keeps bound.filter r.1) (lent_rows (take i rows)) (lent_rows (get_or rows i d ∷ [])))
+    ∙ (map-append (λ r. r.1) (kept bound (lent_rows (take i rows))) (kept bound (lent_rows (get_or rows i d ∷ [])))
+    ∙ last (keeps bound.filter (get_or rows i d).1.now))))
+  where
+    so_far_kept : List (List Value)
+    so_far_kept = map (λ r. r.1) (kept bound (lent_rows (take i rows)))
+
+    last : (b : Bool) → so_far_kept ++ map (λ r. r.1) (cond b (lent_rows (get_or rows i d ∷ [])) [])
+        ≡ cond b (so_far_kept ++ (get_or rows i d).1.now ∷ []) so_far_kept
     last true = refl
-    last false = no_more (map (λ r. r.1) (kept bound (take i rows)))
+    last false = no_more so_far_kept
+
+-- a query may be asked of rows that are lent
+pub lent-fits : (bound : Bound) (rows : List (ℕ × Bor (List Value))) → AllByRecursion (λ r. BoundFits r.1 bound) (lent_rows rows)
+    → AllByRecursion (λ r. BoundFits r.1.now bound) rows
+lent-fits bound [] all = tt
+lent-fits bound (row ∷ rows) all = (all.0, lent-fits bound rows all.1)
+
+pub fits-at : (bound : Bound) (rows : List (ℕ × Bor (List Value))) (i : ℕ) (d : ℕ × Bor (List Value)) → i < length rows → d ≡ get_or rows i d
+    → AllByRecursion (λ r. BoundFits r.1.now bound) rows → BoundFits d.1.now bound
+fits-at bound [] i d within is all = absurd (omega (arith, within))
+fits-at bound (row ∷ rows) zero d within is all = subst (λ (r : ℕ × Bor (List Value)). BoundFits r.1.now bound) (sym is) all.0
+fits-at bound (row ∷ rows) (suc i) d within is all = fits-at bound rows i d (omega (arith, within)) is all.1
 
 -- what the query wants of a row fits it where the query does
 pub wanted_fit : (row : List Value) (is : List Item) (ks : List Key) → AllByRecursion (ItemFits row) is → AllByRecursion (KeyFits row) ks
@@ -156,10 +209,12 @@ short_take (suc i) [] = omega arith
 short_take (suc i) (x ∷ xs) = omega (arith, short_take i xs)
 
 -- of so many rows no more are kept
-pub few_kept : (bound : Bound) (rows : List Numbered) (i : ℕ) → length (map (λ r. r.1) (kept bound (take i rows))) ≤ i
+pub few_kept : (bound : Bound) (rows : List (ℕ × Bor (List Value))) (i : ℕ) → length (map (λ r. r.1) (kept bound (lent_rows (take i rows)))) ≤ i
 few_kept bound rows i =
-    let a = length-map (kept bound (take i rows)) (λ r. r.1) in let b = shorter (λ r. keeps bound.filter r.1) (take i rows) in
-    let c = short_take i rows in omega arith
+    let a = length-map (kept bound (lent_rows (take i rows))) (λ r. r.1) in
+    let b = shorter (λ r. keeps bound.filter r.1) (lent_rows (take i rows)) in
+    let c : length (lent_rows (take i rows)) ≡ length (take i rows) = length-map (take i rows) (λ row. (row.0, row.1.now)) in
+    let d = short_take i rows in omega arith
 
 -- groups that are those of the rows, as a map
 pub held_are : (bound : Bound) (rows : List (List Value)) (groups : List (List Value × List Tally)) → GroupsAre bound rows groups

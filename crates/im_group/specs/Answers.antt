@@ -23,7 +23,11 @@ use Rattle.im_group.specs.Partials.{Numbered, Groups, Parts, wanted, partial}
 -- an item of one row; one row alone has no aggregates, and a query that is not grouped asks for none
 abbrev pub row_cell : List Value → Item → Cell
 row_cell row (item.Column column) = cell_of (value_at row column)
-row_cell row i = cell.Null
+row_cell row item.CountAll = cell.Null
+row_cell row (item.Count column) = cell.Null
+row_cell row (item.Sum column) = cell.Null
+row_cell row (item.Min column) = cell.Null
+row_cell row (item.Max column) = cell.Null
 
 -- the value of a group in a column of GROUP BY; a grouped query asks for no other column
 abbrev pub key_value : List ℕ → List Value → ℕ → Value
@@ -34,7 +38,11 @@ key_value (c ∷ cs) (v ∷ vs) column = if c == column then v else key_value cs
 -- an item of a group
 abbrev pub group_cell : List ℕ → List Value → Item → Tally → Cell
 group_cell columns key (item.Column column) t = cell_of (key_value columns key column)
-group_cell columns key i t = cell_of_tally t
+group_cell columns key item.CountAll t = cell_of_tally t
+group_cell columns key (item.Count column) t = cell_of_tally t
+group_cell columns key (item.Sum column) t = cell_of_tally t
+group_cell columns key (item.Min column) t = cell_of_tally t
+group_cell columns key (item.Max column) t = cell_of_tally t
 
 abbrev pub group_cells : List ℕ → List Value → List Item → List Tally → List Cell
 group_cells columns key [] ts = []

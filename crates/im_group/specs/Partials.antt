@@ -5,6 +5,7 @@ use Rattle.std.specs.Ordering.{is_eq}
 use Rattle.std.specs.declared.cmp.Ordering.{Ordering}
 use Rattle.std.specs.Cmp.Lexicographic.{slice_cmp}
 use Rattle.std.specs.FinMap as map_of
+use denote.Ref.{Bor}
 use Rattle.im_values.specs.declared.truth.Truth.{Truth}
 use Rattle.im_values.specs.declared.truth.Truth.TheVariants.{Yes, No, Unknown}
 use Rattle.im_values.specs.declared.value.Value.{Value}
@@ -20,6 +21,10 @@ use Rattle.im_group.specs.Tallies.{tally_of, all_joined, CanJoin}
 -- a row with its number
 abbrev pub Numbered : Type 0
 Numbered = ℕ × List Value
+
+-- the rows that are lent, each with its number
+abbrev pub lent_rows : List (ℕ × Bor (List Value)) → List Numbered
+lent_rows rows = map (λ row. (row.0, row.1.now)) rows
 
 -- the values that a group has in the columns of GROUP BY, and their order: from left to right, NULL last
 abbrev pub key_order : List Value → List Value → Ordering

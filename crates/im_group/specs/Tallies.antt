@@ -100,7 +100,9 @@ all_joined (t ∷ ts) (u ∷ us) = joined t u ∷ all_joined ts us
 abbrev pub counted : Tally → ℕ
 counted (tally.Count n) = n
 counted (tally.Sum s) = s.values
-counted t = 0
+counted tally.Column = 0
+counted (tally.Least v) = 0
+counted (tally.Greatest v) = 0
 
 -- the counts of two parts stay below 2^64
 abbrev pub CanJoin : List Tally → List Tally → Type 0

@@ -1,12 +1,12 @@
-ghost use Rattle.std.specs.Prelude.{◌≡◌, ◌+◌, ◌<◌, ◌≤◌, ◌++◌, ◌∷◌, [], None, IfOk, OnOk, OnErr, map, length};
+ghost use Rattle.std.specs.Prelude.{◌≡◌, ◌+◌, ◌<◌, ◌≤◌, ◌^◌, ◌++◌, ◌∷◌, [], None, IfOk, OnOk, OnErr, map, length};
 ghost use Rattle.std.specs.List.{AllByRecursion};
 ghost use Rattle.std.specs.Option.{ForSome};
 ghost use Rattle.indexmap.specs.IndexMap.{spare};
 ghost use Rattle.im_syntax.specs.BoundFits.{BoundFits, FilterFits, ItemFits};
 ghost use Rattle.im_group.specs.inner.Holding.{CanJoinGroups, CanTake, as_groups, kept_values, lent, lent_key, own, with_first, with_group, with_taken};
 ghost use Rattle.im_group.specs.Partials as spec;
-ghost use Rattle.im_group.specs.inner.Steps.{tallies_at, with_row, first_groups, GroupsAre};
-ghost use Rattle.im_group.specs.Tallies.{CanJoin};
+ghost use Rattle.im_group.specs.inner.Steps.{tallies_at, with_kept, with_row, one_group, GroupsAre};
+ghost use Rattle.im_group.specs.Tallies.{CanJoin, counted};
 
 use crate::tallies::Tallies;
 use im_eval::holds;
@@ -21,7 +21,7 @@ pub type Groups = IndexMap<Vec<Value>, Tallies>;
 /// The groups of rows that stay where they are: a key is lent by the first row that has it.
 type Lent<'a> = IndexMap<Vec<&'a Value>, Tallies>;
 
-/// Whether a query keeps a row: its condition is Yes, or it has none.
+/// Whether a query keeps a row: its condition is Yes, or it has none. It takes no memory.
 pub fn keeps(filter: &Option<Filter>, row: &Row) -> bool
     requires { ForSome filter.now (FilterFits row.now) }
     ensures { result ≡ spec.keeps filter.now row.now }
@@ -113,34 +113,65 @@ fn take_kept<'a>(
     }
 }
 
-/// The groups of no row: without GROUP BY there is one.
-fn no_rows<'a>(alloc: Global, columns: &[u32], wanted: &[Item]) -> Result<Lent<'a>, NoMemory>
-    ensures { IfOk result (λ groups. lent groups.entries ≡ first_groups columns.now wanted.now) }
-{
-    let mut groups = IndexMap::new(alloc);
-    if columns.is_empty() {
-        groups.insert(Vec::new(alloc), Tallies::new(alloc, wanted)?)?;
-    }
-    Ok(groups)
-}
-
 /// The groups of the rows that a query keeps.
 fn lent_groups<'a>(
     alloc: Global,
     bound: &Bound,
     wanted: &[Item],
-    rows: &'a [(u64, Row)],
+    rows: &[(u64, &'a Row)],
 ) -> Result<Lent<'a>, NoMemory>
     requires wanted { wanted.now ≡ spec.wanted bound.now }
-    requires fits { AllByRecursion (λ r. BoundFits r.1 bound.now) rows.now }
-    ensures groups { IfOk result (λ groups. GroupsAre bound.now (kept_values bound.now rows.now) (lent groups.entries)) }
+    requires some { 0 < length bound.now.groups }
+    requires fits { AllByRecursion (λ r. BoundFits r.1.now bound.now) rows.now }
+    ensures groups { IfOk result (λ groups.
+        GroupsAre bound.now (kept_values bound.now (spec.lent_rows rows.now)) (lent groups.entries)) }
 {
-    let mut groups = no_rows(alloc, bound.groups.items(), wanted)?;
+    let mut groups = IndexMap::new(alloc);
     let mut key = Vec::with_capacity(alloc, bound.groups.items().len())?;
     for (_, row) in rows {
-        take_kept(alloc, bound, wanted, row, &mut key, &mut groups)?;
+        take_kept(alloc, bound, wanted, *row, &mut key, &mut groups)?;
     }
     Ok(groups)
+}
+
+/// The tallies take a row, where the query keeps it.
+fn tally_kept(
+    alloc: Global,
+    bound: &Bound,
+    wanted: &[Item],
+    row: &Row,
+    tallies: &mut Tallies,
+) -> Result<(), NoMemory>
+    requires wanted { wanted.now ≡ spec.wanted bound.now }
+    requires fits { BoundFits row.now bound.now }
+    requires few { AllByRecursion (λ t. counted t + 1 < 2 ^ 64) tallies.old }
+    ensures { OnOk result (tallies.new ≡ with_kept bound.now tallies.old row.now) }
+{
+    if keeps(&bound.filter, row) {
+        tallies.take(alloc, wanted, row.values())
+    } else {
+        Ok(())
+    }
+}
+
+/// What the one group of a query without GROUP BY takes of the rows that the query keeps.
+fn whole_tallies(
+    alloc: Global,
+    bound: &Bound,
+    wanted: &[Item],
+    rows: &[(u64, &Row)],
+) -> Result<Tallies, NoMemory>
+    requires wanted { wanted.now ≡ spec.wanted bound.now }
+    requires whole { bound.now.groups ≡ [] }
+    requires fits { AllByRecursion (λ r. BoundFits r.1.now bound.now) rows.now }
+    ensures groups { IfOk result (λ tallies.
+        GroupsAre bound.now (kept_values bound.now (spec.lent_rows rows.now)) (one_group tallies)) }
+{
+    let mut tallies = Tallies::new(alloc, wanted)?;
+    for (_, row) in rows {
+        tally_kept(alloc, bound, wanted, *row, &mut tallies)?;
+    }
+    Ok(tallies)
 }
 
 /// The values of a key, copied.
@@ -163,21 +194,62 @@ fn put_new(groups: &mut Groups, key: Vec<Value>, tallies: Tallies) -> Result<(),
     Ok(())
 }
 
-/// The groups that some rows give to a grouped query.
-///
-/// It costs one look-up a row, and copies the values of a key once for each group.
-pub fn groups_of(alloc: Global, bound: &Bound, rows: &[(u64, Row)]) -> Result<Groups, NoMemory>
-    requires fits { AllByRecursion (λ r. BoundFits r.1 bound.now) rows.now }
-    ensures { IfOk result (λ groups. as_groups groups.entries ≡ spec.groups_of bound.now (kept_values bound.now rows.now)) }
+/// The group that some rows give to a query without GROUP BY, which has one also over no row.
+fn whole_group(
+    alloc: Global,
+    bound: &Bound,
+    wanted: &[Item],
+    rows: &[(u64, &Row)],
+) -> Result<Groups, NoMemory>
+    requires wanted { wanted.now ≡ spec.wanted bound.now }
+    requires whole { bound.now.groups ≡ [] }
+    requires fits { AllByRecursion (λ r. BoundFits r.1.now bound.now) rows.now }
+    ensures { IfOk result (λ groups.
+        as_groups groups.entries ≡ spec.groups_of bound.now (kept_values bound.now (spec.lent_rows rows.now))) }
 {
-    let wanted = wanted(alloc, bound)?;
-    let lent = lent_groups(alloc, bound, wanted.as_slice(), rows)?;
+    let tallies = whole_tallies(alloc, bound, wanted, rows)?;
+    let mut groups = IndexMap::new(alloc);
+    put_new(&mut groups, Vec::new(alloc), tallies)?;
+    Ok(groups)
+}
+
+/// The groups that some rows give to a query with GROUP BY.
+fn groups_by_key(
+    alloc: Global,
+    bound: &Bound,
+    wanted: &[Item],
+    rows: &[(u64, &Row)],
+) -> Result<Groups, NoMemory>
+    requires wanted { wanted.now ≡ spec.wanted bound.now }
+    requires some { 0 < length bound.now.groups }
+    requires fits { AllByRecursion (λ r. BoundFits r.1.now bound.now) rows.now }
+    ensures { IfOk result (λ groups.
+        as_groups groups.entries ≡ spec.groups_of bound.now (kept_values bound.now (spec.lent_rows rows.now))) }
+{
+    let lent = lent_groups(alloc, bound, wanted, rows)?;
     let mut groups = IndexMap::new(alloc);
     groups.reserve(lent.len())?;
     for (key, tallies) in lent {
         put_new(&mut groups, owned_key(alloc, key.as_slice())?, tallies)?;
     }
     Ok(groups)
+}
+
+/// The groups that some rows give to a grouped query. The rows stay where they are.
+///
+/// It asks the condition once of each row. With GROUP BY it costs one look-up a row that is kept, and copies the values of
+/// a key once for each group; without GROUP BY nothing is looked up.
+pub fn groups_of(alloc: Global, bound: &Bound, rows: &[(u64, &Row)]) -> Result<Groups, NoMemory>
+    requires fits { AllByRecursion (λ r. BoundFits r.1.now bound.now) rows.now }
+    ensures { IfOk result (λ groups.
+        as_groups groups.entries ≡ spec.groups_of bound.now (kept_values bound.now (spec.lent_rows rows.now))) }
+{
+    let wanted = wanted(alloc, bound)?;
+    if bound.groups.items().is_empty() {
+        whole_group(alloc, bound, wanted.as_slice(), rows)
+    } else {
+        groups_by_key(alloc, bound, wanted.as_slice(), rows)
+    }
 }
 
 fn copy_key(alloc: Global, values: &[Value]) -> Result<Vec<Value>, NoMemory>

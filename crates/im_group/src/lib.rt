@@ -19,4 +19,5 @@ mod tallies;
 mod tally;
 
 pub use cell::Cell;
+pub use grouping::keeps;
 pub use partial::Partial;

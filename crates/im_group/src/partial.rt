@@ -36,9 +36,13 @@ impl Model for Partial {
 }
 
 /// Copies of the rows that a query keeps, in their order.
-fn kept_rows(alloc: Global, bound: &Bound, rows: &[(u64, Row)]) -> Result<Vec<(u64, Row)>, NoMemory>
-    requires { AllByRecursion (λ r. BoundFits r.1 bound.now) rows.now }
-    ensures { IfOk result (λ kept. kept.items ≡ spec.kept bound.now rows.now) }
+fn kept_rows(
+    alloc: Global,
+    bound: &Bound,
+    rows: &[(u64, &Row)],
+) -> Result<Vec<(u64, Row)>, NoMemory>
+    requires { AllByRecursion (λ r. BoundFits r.1.now bound.now) rows.now }
+    ensures { IfOk result (λ kept. kept.items ≡ spec.kept bound.now (spec.lent_rows rows.now)) }
 {
     let mut kept = Vec::new(alloc);
     for (number, row) in rows {
@@ -47,6 +51,17 @@ fn kept_rows(alloc: Global, bound: &Bound, rows: &[(u64, Row)]) -> Result<Vec<(u
         }
     }
     Ok(kept)
+}
+
+/// Lends rows, each with its number.
+fn lend<'a>(alloc: Global, rows: &'a [(u64, Row)]) -> Result<Vec<(u64, &'a Row)>, NoMemory>
+    ensures { IfOk result (λ lent. spec.lent_rows lent.items ≡ rows.now) }
+{
+    let mut lent = Vec::with_capacity(alloc, rows.len())?;
+    for (number, row) in rows {
+        lent.push((*number, row))?;
+    }
+    Ok(lent)
 }
 
 fn copy_rows(alloc: Global, rows: &[(u64, Row)]) -> Result<Vec<(u64, Row)>, NoMemory>
@@ -131,12 +146,13 @@ fn records_of(
 }
 
 impl Partial {
-    /// What some rows, each with its row number, give to a query.
+    /// What some rows, each with its row number, give to a query. The rows stay where they are.
     ///
-    /// The rows are taken in their order, which is that of rising row numbers.
-    pub fn of_rows(alloc: Global, bound: &Bound, rows: &[(u64, Row)]) -> Result<Partial, NoMemory>
-        requires fits { AllByRecursion (λ r. BoundFits r.1 bound.now) rows.now }
-        ensures { IfOk result (λ partial. partial ≡ spec.partial bound.now rows.now) }
+    /// The rows are taken in their order, which is that of rising row numbers. The condition is asked once of each row. Only
+    /// the rows that a query without groups keeps are copied.
+    pub fn of_lent(alloc: Global, bound: &Bound, rows: &[(u64, &Row)]) -> Result<Partial, NoMemory>
+        requires fits { AllByRecursion (λ r. BoundFits r.1 bound.now) (spec.lent_rows rows.now) }
+        ensures { IfOk result (λ partial. partial ≡ spec.partial bound.now (spec.lent_rows rows.now)) }
     {
         if bound.grouped {
             Ok(Partial {
@@ -149,6 +165,15 @@ impl Partial {
                 groups: IndexMap::new(alloc),
             })
         }
+    }
+
+    /// What some rows, each with its row number, give to a query, as [`Partial::of_lent`] says.
+    pub fn of_rows(alloc: Global, bound: &Bound, rows: &[(u64, Row)]) -> Result<Partial, NoMemory>
+        requires fits { AllByRecursion (λ r. BoundFits r.1 bound.now) rows.now }
+        ensures { IfOk result (λ partial. partial ≡ spec.partial bound.now rows.now) }
+    {
+        let lent = lend(alloc, rows)?;
+        Partial::of_lent(alloc, bound, lent.as_slice())
     }
 
     /// The same once more.

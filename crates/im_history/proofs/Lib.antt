@@ -4,8 +4,10 @@ pub mod FitLaws
 pub mod GivenLaws
 pub mod GridLaws
 pub mod HeldLaws
+pub mod LastLaws
 pub mod Laws
 mod MemoryLemmas
+pub mod PutLaws
 pub mod Replay
 pub mod RowLaws
 pub mod ShapeLaws

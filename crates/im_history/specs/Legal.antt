@@ -14,6 +14,7 @@ use Rattle.im_history.specs.declared.task.Held.{Held}
 use Rattle.im_history.specs.Cursors.{Opened, cursor_at, is_cursor_open}
 use Rattle.im_history.specs.Grid.{Grid, IsInRange}
 use Rattle.im_history.specs.History.{History}
+pub use Rattle.im_history.specs.Puts.{put_from}
 use Rattle.im_history.specs.Refusals.{create_refusal, begin_refusal, open_refusal, insert_refusal, write_refusal}
 use Rattle.im_history.specs.Rows.{Row, row_after}
 use Rattle.im_history.specs.Tables.{table_at, given}
@@ -38,11 +39,6 @@ pub record Exists (history : History) (table : ℕ) : Type 0 where
 pub record MayOpen (history : History) (who cursor table : ℕ) : Type 0 where
   pub exists : Exists history table
   pub allowed : open_refusal history who cursor ≡ None
-
--- rows put at row numbers of a table, from the first on
-abbrev pub put_from : ℕ → ℕ → List Row → List Change
-put_from table first [] = []
-put_from table first (row ∷ rows) = record { table = table; rid = first; row = Some row } ∷ put_from table (first + 1) rows
 
 -- rows that an insert may put into a table: it exists, there are some, and each fits it
 pub record MayInsert (history : History) (table : ℕ) (rows : List Row) : Type 0 where

@@ -2,9 +2,12 @@ pub mod Commits
 pub mod Cursors
 pub mod Grid
 pub mod History
+pub mod Last
 pub mod Legal
+pub mod Puts
 pub mod Refusals
 pub mod Rows
+pub mod Serving
 pub mod Stored
 pub mod Tables
 pub mod Touched
@@ -12,3 +15,4 @@ pub mod Transactions
 pub mod Units
 pub mod Views
 pub mod Weights
+pub mod inner

@@ -1,6 +1,6 @@
 ghost use Rattle.std.specs.Prelude.{◌≡◌, IfOk};
 
-use im_values::{List, NoMemory, Row, clone_row};
+use im_values::{NoMemory, Row, clone_row};
 use std::alloc::Global;
 
 /// A row put at a row number of a table, or the row there taken away.
@@ -30,6 +30,3 @@ impl Change {
         })
     }
 }
-
-/// Changes in the order in which they were written.
-pub type Changes = List<Change>;

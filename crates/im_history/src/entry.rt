@@ -1,7 +1,7 @@
 ghost use Rattle.std.specs.Prelude.{◌≡◌};
 ghost use Rattle.im_history.specs.Commits.{moves_clock};
 
-use crate::change::Changes;
+use crate::changes::Changes;
 use crate::shape::Shape;
 use im_values::{Name, Priority, Schema};
 

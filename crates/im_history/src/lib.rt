@@ -3,17 +3,21 @@
 //! Everything else is read from this list. `specs/History.antt` says how: a history is replayed from its oldest entry
 //! on. The tables and given row numbers are in `specs/Tables.antt`, the pending changes and transactions of sessions in
 //! `specs/Transactions.antt`, the commits and the SCN in `specs/Commits.antt`, the rows committed at an SCN and the rows
-//! that a statement sees in `specs/Rows.antt`, the open cursors in `specs/Cursors.antt`, and which histories a store may
-//! have in `specs/Legal.antt`. `proofs/Laws.antt` has the law of each for one more entry.
+//! that a statement sees in `specs/Rows.antt`, what the last change to each row left in `specs/Last.antt`, the open cursors
+//! in `specs/Cursors.antt`, and which histories a store may have in `specs/Legal.antt`. `proofs/Laws.antt` has the law of
+//! each for one more entry.
 //!
 //! Contracts see a [`History`] as its entries and its spare room. [`History::append`] adds one entry at the end.
 //! Start with `entry.rt`.
 #![tactic(auto)]
 
 mod change;
+mod changes;
 mod entry;
+mod last;
 mod limits;
 mod look;
+mod own;
 mod refused;
 mod shape;
 mod stored;
@@ -22,11 +26,14 @@ mod unit;
 mod view;
 mod who;
 
-pub use change::{Change, Changes};
+pub use change::Change;
+pub use changes::{Changes, LentChange};
 pub use entry::{Entry, Mode, What};
 pub use im_values::Priority;
+pub use last::LastRows;
 pub use limits::Limits;
 pub use look::{Catalog, Look, TableInfo};
+pub use own::OwnChanges;
 pub use refused::{Refused, Why};
 pub use shape::Shape;
 pub use stored::History;

@@ -1,7 +1,7 @@
-use crate::change::Changes;
+use crate::own::OwnChanges;
 
 /// What a cursor sees of its table, from its opening on.
-#[derive(Debug, Drop)]
+#[derive(Drop)]
 pub struct View {
     /// The place of the opening.
     pub place: u64,
@@ -16,5 +16,5 @@ pub struct View {
     /// How many extents the row numbers fill, the last one in part perhaps.
     pub extents: u64,
     /// The changes to the table that the session had pending.
-    pub own: Changes,
+    pub own: OwnChanges,
 }

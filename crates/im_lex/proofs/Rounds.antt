@@ -1,15 +1,16 @@
 -- The tokens of a line, round by round, and as a relation.
 use Rattle.std.proofs.Common.{◌≡◌, ℕ, zero, suc, ◌+◌, ◌-◌, ◌<◌, ◌≤◌, List, [], ◌∷◌, ◌++◌, length, drop, length-drop, Result, Ok, Err, refl, sym, ap, subst, ◌∙◌, append_assoc, arith}
-use Rattle.std.proofs.lemmas.List.{append-nil, drop-drop}
-use Rattle.std.specs.Prelude.{IfOk, IfErr}
-use Rattle.std.specs.Global.{Vec}
+use Rattle.std.proofs.lemmas.List.{append-nil, drop-drop, map_push}
+use Rattle.std.specs.Prelude.{IfOk, IfErr, slice_index}
+use native.Mathlib.Numerals.{unary_clauses}
 use Rattle.im_syntax.specs.declared.token.Token.{Token}
 use Rattle.im_lex.specs.declared.front.Front.{Front}
 use Rattle.im_lex.specs.declared.front.Front.TheVariants.{Stop, Blank, Bad, Lexed}
 use Rattle.im_lex.specs.Bytes.{front}
-use Rattle.im_lex.specs.Lexing.{Lexes, ends, skips, takes, IsBadAt, is_bad, behind_blank, behind_token, IsLexedAs, IsFaultAt, IsBadByte}
-use Rattle.im_lex.specs.inner.Rounds.{with_token, round_of, lexed_in, Gives}
+use Rattle.im_lex.specs.Lexing.{Lexes, ends, skips, takes, IsBadAt, is_bad, behind_blank, behind_token, IsLexedApart, IsFaultAt, IsBadByte, AreApart, AreLexed, tokens_of, places_of}
+use Rattle.im_lex.specs.inner.Rounds.{with_token, round_of, lexed_in, paired_at, Finds, Gives}
 use Rattle.im_lex.specs.declared.lexing.LexFault.{LexFault}
+use Rattle.im_lex.specs.declared.lexing.Lexed.{Lexed as Found}
 use Rattle.im_lex.specs.declared.lexing.LexFault.TheVariants as fault
 use Rattle.im_lex.proofs.Fits.{token_all_fits, blank_all_fits}
 
@@ -154,7 +155,83 @@ module _ (before : Tokens) (most i at : ℕ) (line : List ℕ) (total : Result T
         token_room t more e,
       )
 
+-- ---- tokens apart from their places, round by round
+
+-- what was read so far: pairs, which stand apart, and what is still read gives the whole
+pub record SoFar (most i at : ℕ) (line : List ℕ) (tokens : List Token) (places : List ℕ) : Type 0 where
+  pub pairs : Tokens
+  pub apart : AreApart pairs tokens places
+  pub goes_on : with_tokens pairs (lexed_in (most - i) at (drop at line)) ≡ lexed_in most 0 line
+  pub within : at ≤ length line
+
+with_tokens-none : (r : Result Tokens ℕ) → with_tokens [] r ≡ r
+with_tokens-none (Ok ts) = refl
+with_tokens-none (Err n) = refl
+
+pub so_far_none : (line : List ℕ) → SoFar (length line) 0 0 line [] []
+so_far_none line = let all : length line - 0 ≡ length line = omega arith in record {
+  pairs = [];
+  apart = record { tokens_are = refl; places_are = refl };
+  goes_on = ap (λ (n : ℕ). with_tokens [] (lexed_in n 0 line)) all ∙ with_tokens-none (lexed_in (length line) 0 line);
+  within = omega arith;
+}
+
+apart_one : (pairs : Tokens) (tokens : List Token) (places : List ℕ) (t : Token) (at : ℕ) → AreApart pairs tokens places
+    → AreApart (pairs ++ (t, at) ∷ []) (tokens ++ t ∷ []) (places ++ at ∷ [])
+apart_one pairs tokens places t at apart = record {
+  tokens_are = ap (λ (x : List Token). x ++ t ∷ []) apart.tokens_are ∙ sym (map_push (λ (p : Token × ℕ). p.0) pairs (t, at));
+  places_are = ap (λ (x : List ℕ). x ++ at ∷ []) apart.places_are ∙ sym (map_push (λ (p : Token × ℕ). p.1) pairs (t, at));
+}
+
+module _ (most i at : ℕ) (line : List ℕ) (tokens : List Token) (places : List ℕ) (so_far : SoFar most i at line tokens places) where
+  pub found_at_stop : i < most → front (drop at line) ≡ Stop → Finds tokens places (lexed_in most 0 line)
+  found_at_stop lt e = record { pairs = so_far.pairs; is = at_stop so_far.pairs most i at (drop at line) _ so_far.goes_on lt e; apart = so_far.apart }
+
+  pub found_at_end : most ≤ i → Finds tokens places (lexed_in most 0 line)
+  found_at_end le = record { pairs = so_far.pairs; is = at_over so_far.pairs most i at (drop at line) _ so_far.goes_on le; apart = so_far.apart }
+
+  pub so_far-blank : i < most → front (drop at line) ≡ Blank → SoFar most (i + 1) (at + 1) line tokens places
+  so_far-blank lt e =
+      let step = blank_step so_far.pairs most i at line _ so_far.goes_on lt so_far.within e in
+      record { pairs = so_far.pairs; apart = so_far.apart; goes_on = step.0; within = step.1 }
+
+  pub so_far-token : (t : Token) (more : ℕ) → i < most → front (drop at line) ≡ Lexed t more
+      → SoFar most (i + 1) (at + 1 + more) line (tokens ++ t ∷ []) (places ++ at ∷ [])
+  so_far-token t more lt e =
+      let step = token_step so_far.pairs most i at line _ so_far.goes_on lt so_far.within t more e in
+      record { pairs = so_far.pairs ++ (t, at) ∷ []; apart = apart_one so_far.pairs tokens places t at so_far.apart; goes_on = step.0; within = step.1 }
+
 -- ---- what the code gives, as the relation
+
+pub paired_at_push : (places : List ℕ) (i : ℕ) (ts : List Token) (t : Token)
+    → paired_at places i (ts ++ t ∷ []) ≡ paired_at places i ts ++ (t, slice_index places (i + length ts)) ∷ []
+paired_at_push places i [] t = let here : i ≡ i + 0 = omega arith in ap (λ (k : ℕ). (t, slice_index places k) ∷ []) here
+paired_at_push places i (s ∷ ts) t =
+    let further : i + 1 + length ts ≡ i + suc (length ts) = omega arith in
+    ap (λ (x : Tokens). (s, slice_index places i) ∷ x)
+    (paired_at_push places (i + 1) ts t ∙ ap (λ (k : ℕ). paired_at places (i + 1) ts ++ (t, slice_index places k) ∷ []) further)
+
+-- behind a place more, places count one higher
+paired_at-behind : (p : ℕ) (places : List ℕ) (i : ℕ) (ts : List Token) → paired_at (p ∷ places) (i + 1) ts ≡ paired_at places i ts
+paired_at-behind p places i [] = refl
+paired_at-behind p places i (t ∷ ts) =
+    let next : slice_index (p ∷ places) (i + 1) ≡ slice_index places i = simp unary_clauses refl in
+    ap (λ (k : ℕ). (t, k) ∷ paired_at (p ∷ places) (i + 1 + 1) ts) next ∙ ap (λ (x : Tokens). (t, slice_index places i) ∷ x) (paired_at-behind p places (i + 1) ts)
+
+paired-parts : (ts : Tokens) → paired_at (places_of ts) 0 (tokens_of ts) ≡ ts
+paired-parts [] = refl
+paired-parts (t ∷ ts) = ap (λ (x : Tokens). t ∷ x) (paired_at-behind t.1 (places_of ts) 0 (tokens_of ts) ∙ paired-parts ts)
+
+apart_pairs : (pairs : Tokens) (tokens : List Token) (places : List ℕ) → AreApart pairs tokens places → paired_at places 0 tokens ≡ pairs
+apart_pairs pairs tokens places apart = rw (apart.tokens_are, apart.places_are) (paired-parts pairs)
+
+-- what was found, each token with its place
+pub paired_lexes : (line : List ℕ) (tokens : List Token) (places : List ℕ) (ts : Tokens) → AreLexed line tokens places → ts ≡ paired_at places 0 tokens → Lexes 0 line ts
+paired_lexes line tokens places ts found is =
+    subst (λ (x : Tokens). Lexes 0 line x) (sym (is ∙ apart_pairs found.pairs tokens places found.apart)) found.lexes
+
+pub paired_only : (pairs : Tokens) (tokens : List Token) (places : List ℕ) (ts : Tokens) → AreApart pairs tokens places → ts ≡ paired_at places 0 tokens → ts ≡ pairs
+paired_only pairs tokens places ts apart is = is ∙ apart_pairs pairs tokens places apart
 
 abbrev ok_tokens : Tokens → Result Tokens ℕ
 ok_tokens ts = Ok ts
@@ -162,21 +239,25 @@ ok_tokens ts = Ok ts
 abbrev err_place : ℕ → Result Tokens ℕ
 err_place n = Err n
 
-pub given_found : (r : Result (Vec (Token × ℕ)) LexFault) (bs : List ℕ) → Gives r (lexed_in (length bs) 0 bs) → IfOk r (λ ts. Lexes 0 bs ts.items)
-given_found (Ok found) bs e = lexes_from (length bs) 0 bs found.items e (omega arith)
+pub given_found : (r : Result Found LexFault) (bs : List ℕ) → Gives r (lexed_in (length bs) 0 bs)
+    → IfOk r (λ l. AreLexed bs l.tokens.items l.places.items)
+given_found (Ok found) bs e = record { pairs = e.pairs; lexes = lexes_from (length bs) 0 bs e.pairs e.is (omega arith); apart = e.apart }
 given_found (Err f) bs e = tt
 
-pub given_only : (r : Result (Vec (Token × ℕ)) LexFault) (bs : List ℕ) → Gives r (lexed_in (length bs) 0 bs) → (ts : Tokens) → Lexes 0 bs ts → IsLexedAs ts r
-given_only (Ok found) bs e ts l = let twice : ok_tokens found.items ≡ Ok ts = sym e ∙ from_lexes (length bs) 0 bs ts l (omega arith) in cc
+pub given_only : (r : Result Found LexFault) (bs : List ℕ) → Gives r (lexed_in (length bs) 0 bs) → (ts : Tokens) → Lexes 0 bs ts → IsLexedApart ts r
+given_only (Ok found) bs e ts l =
+    let twice : ok_tokens e.pairs ≡ Ok ts = sym e.is ∙ from_lexes (length bs) 0 bs ts l (omega arith) in
+    let same : e.pairs ≡ ts = cc in
+    subst (λ (x : Tokens). AreApart x found.tokens.items found.places.items) same e.apart
 given_only (Err (fault.At n)) bs e ts l = let twice : err_place n ≡ Ok ts = sym e ∙ from_lexes (length bs) 0 bs ts l (omega arith) in cc
 given_only (Err fault.NoMemory) bs e ts l = tt
 
-pub given_bad : (r : Result (Vec (Token × ℕ)) LexFault) (bs : List ℕ) → Gives r (lexed_in (length bs) 0 bs) → IfErr r (IsBadByte bs)
+pub given_bad : (r : Result Found LexFault) (bs : List ℕ) → Gives r (lexed_in (length bs) 0 bs) → IfErr r (IsBadByte bs)
 given_bad (Ok found) bs e = tt
 given_bad (Err (fault.At n)) bs e = bad_from (length bs) 0 bs n e
 given_bad (Err fault.NoMemory) bs e = tt
 
-pub given_bad_only : (r : Result (Vec (Token × ℕ)) LexFault) (bs : List ℕ) → Gives r (lexed_in (length bs) 0 bs) → (n : ℕ) → IsBadAt 0 bs n → IsFaultAt n r
-given_bad_only (Ok found) bs e n b = let twice : ok_tokens found.items ≡ Err n = sym e ∙ from_bad (length bs) 0 bs n b (omega arith) in cc
+pub given_bad_only : (r : Result Found LexFault) (bs : List ℕ) → Gives r (lexed_in (length bs) 0 bs) → (n : ℕ) → IsBadAt 0 bs n → IsFaultAt n r
+given_bad_only (Ok found) bs e n b = let twice : ok_tokens e.pairs ≡ Err n = sym e.is ∙ from_bad (length bs) 0 bs n b (omega arith) in cc
 given_bad_only (Err (fault.At m)) bs e n b = let twice : err_place m ≡ Err n = sym e ∙ from_bad (length bs) 0 bs n b (omega arith) in cc
 given_bad_only (Err fault.NoMemory) bs e n b = tt

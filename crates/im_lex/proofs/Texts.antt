@@ -1,11 +1,11 @@
 -- A text, piece by piece.
-use Rattle.std.proofs.Common.{◌≡◌, ℕ, ◌+◌, ◌≤◌, Bool, true, false, cond, List, [], ◌∷◌, ◌++◌, length, drop, Option, Some, None, refl, sym, ap, ◌∙◌, append_assoc, arith}
+use Rattle.std.proofs.Common.{◌≡◌, ℕ, suc, ◌+◌, ◌≤◌, Bool, true, false, cond, not, take, List, [], ◌∷◌, ◌++◌, length, drop, Option, Some, None, refl, sym, ap, ◌∙◌, append_assoc, arith}
 use Rattle.std.specs.Prelude.{◌==◌}
 use Rattle.std.proofs.lemmas.List.{append-nil, drop-drop, drop_all}
 use Rattle.im_lex.specs.declared.front.Piece.{Piece}
 use Rattle.im_lex.specs.declared.front.Piece.TheVariants.{Over, End, Byte}
-use Rattle.im_lex.specs.Bytes.{with_byte, text_of}
-use Rattle.im_lex.specs.inner.Pieces.{piece_of}
+use Rattle.im_lex.specs.Bytes.{run, with_byte, text_of}
+use Rattle.im_lex.specs.inner.Pieces.{piece_of, is_plain}
 
 -- what was read before, and what is still read
 abbrev pub with_text : List ℕ → ℕ → Option (List ℕ × ℕ) → Option (List ℕ × ℕ)
@@ -86,3 +86,56 @@ module _ (front : List ℕ) (taken : ℕ) (bs : List ℕ) (total : Option (List 
   pub at_all : length bs ≤ taken → total ≡ None
   unfolding text_of
   at_all le = sym so_far ∙ ap (λ (x : List ℕ). with_text front taken (text_of x)) (drop_all taken bs le)
+
+-- ---- a text up to its first quote
+
+with_text-none : (o : Option (List ℕ × ℕ)) → o ≡ with_text [] 0 o
+with_text-none None = refl
+with_text-none (Some (text, more)) = let place : more ≡ 0 + more = omega arith in ap (λ (k : ℕ). Some (text, k)) place
+
+with_byte-text : (b : ℕ) (front : List ℕ) (taken : ℕ) (o : Option (List ℕ × ℕ)) → with_byte b 1 (with_text front taken o) ≡ with_text (b ∷ front) (suc taken) o
+with_byte-text b front taken None = refl
+with_byte-text b front taken (Some (text, more)) =
+    let place : 1 + (taken + more) ≡ suc taken + more = omega arith in
+    ap (λ (k : ℕ). Some (b ∷ (front ++ text), k)) place
+
+text_of-next : (b : ℕ) (bs : List ℕ) → (b == 39) ≡ false → text_of (b ∷ bs) ≡ with_byte b 1 (text_of bs)
+unfolding text_of
+text_of-next b [] e = rw e refl
+text_of-next b (c ∷ bs) e = rw e refl
+
+-- the bytes before the first quote, and how many they are
+abbrev plain_of : List ℕ → List ℕ
+plain_of bs = run is_plain bs
+
+-- a text is what stands before its first quote, and then the rest
+abbrev SplitsAt : List ℕ → List ℕ → Type 0
+SplitsAt bs plain = text_of bs ≡ with_text plain (length plain) (text_of (drop (length plain) bs))
+
+plain_next : (b : ℕ) (bs : List ℕ) (is : Bool) → (b == 39) ≡ is → SplitsAt bs (plain_of bs) → SplitsAt (b ∷ bs) (cond (not is) (b ∷ plain_of bs) [])
+plain_next b bs true e rest = with_text-none (text_of (b ∷ bs))
+plain_next b bs false e rest =
+    text_of-next b bs e ∙ ap (with_byte b 1) rest ∙ with_byte-text b (plain_of bs) (length (plain_of bs)) (text_of (drop (length (plain_of bs)) bs))
+
+text_of-plain : (bs : List ℕ) → SplitsAt bs (plain_of bs)
+text_of-plain [] = with_text-none (text_of [])
+text_of-plain (b ∷ bs) = plain_next b bs (b == 39) refl (text_of-plain bs)
+
+take-next : (b : ℕ) (bs plain : List ℕ) (is : Bool) → take (length plain) bs ≡ plain
+    → take (length (cond is (b ∷ plain) [])) (b ∷ bs) ≡ cond is (b ∷ plain) []
+take-next b bs plain true rest = ap (λ (x : List ℕ). b ∷ x) rest
+take-next b bs plain false rest = refl
+
+take-plain : (bs : List ℕ) → take (length (plain_of bs)) bs ≡ plain_of bs
+take-plain [] = refl
+take-plain (b ∷ bs) = take-next b bs (plain_of bs) (is_plain b) (take-plain bs)
+
+module _ (bs : List ℕ) (plain : ℕ) (is : plain ≡ length (run is_plain bs)) where
+  plain_so_far : with_text (take plain bs) plain (text_of (drop plain bs)) ≡ text_of bs
+  plain_so_far = rw (is, take-plain bs) (sym (text_of-plain bs))
+
+  pub plain_over : piece_of (drop plain bs) ≡ Over → text_of bs ≡ None
+  plain_over e = at_over (take plain bs) plain bs (text_of bs) plain_so_far e
+
+  pub plain_end : piece_of (drop plain bs) ≡ End → text_of bs ≡ Some (take plain bs, plain + 1)
+  plain_end e = at_end (take plain bs) plain bs (text_of bs) plain_so_far e

@@ -1,9 +1,10 @@
 -- The tokens of a line, and its first bad byte.
-use Rattle.std.specs.Prelude.{◌≡◌, ℕ, ◌+◌, List, [], ◌∷◌, drop, Result, Ok, Err}
+use Rattle.std.specs.Prelude.{◌≡◌, ℕ, ◌+◌, List, [], ◌∷◌, drop, map, Result, Ok, Err}
 use Rattle.std.specs.Global.{Vec}
 use Rattle.im_syntax.specs.declared.token.Token.{Token}
 use Rattle.im_lex.specs.declared.front.Front.TheVariants.{Stop, Blank, Bad, Lexed}
 use Rattle.im_lex.specs.declared.lexing.LexFault.{LexFault}
+use Rattle.im_lex.specs.declared.lexing.Lexed.{Lexed as Found}
 use Rattle.im_lex.specs.declared.lexing.LexFault.TheVariants as fault
 use Rattle.im_lex.specs.Bytes.{front}
 
@@ -21,6 +22,25 @@ pub data IsBadAt : ℕ → List ℕ → ℕ → Type 0 where
   behind_token : (at b : ℕ) (bs : List ℕ) (t : Token) (more n : ℕ) → front (b ∷ bs) ≡ Lexed t more
       → IsBadAt (at + 1 + more) (drop more bs) n → IsBadAt at (b ∷ bs) n
 
+-- ---- tokens apart from their places
+
+abbrev pub tokens_of : List (Token × ℕ) → List Token
+tokens_of ts = map (λ t. t.0) ts
+
+abbrev pub places_of : List (Token × ℕ) → List ℕ
+places_of ts = map (λ t. t.1) ts
+
+-- these are the tokens, and these their places
+pub record AreApart (pairs : List (Token × ℕ)) (tokens : List Token) (places : List ℕ) : Type 0 where
+  pub tokens_are : tokens ≡ tokens_of pairs
+  pub places_are : places ≡ places_of pairs
+
+-- the bytes have these tokens at these places
+pub record AreLexed (bytes : List ℕ) (tokens : List Token) (places : List ℕ) : Type 0 where
+  pub pairs : List (Token × ℕ)
+  pub lexes : Lexes 0 bytes pairs
+  pub apart : AreApart pairs tokens places
+
 -- ---- what the code promises
 
 -- the answer has these tokens, unless memory ran out
@@ -29,8 +49,14 @@ IsLexedAs ts (Ok found) = found.items ≡ ts
 IsLexedAs ts (Err fault.NoMemory) = Unit {0}
 IsLexedAs ts (Err (fault.At n)) = ⊥
 
+-- the same of tokens and places apart
+abbrev pub IsLexedApart : List (Token × ℕ) → Result Found LexFault → Type 0
+IsLexedApart ts (Ok found) = AreApart ts found.tokens.items found.places.items
+IsLexedApart ts (Err fault.NoMemory) = Unit {0}
+IsLexedApart ts (Err (fault.At n)) = ⊥
+
 -- the answer is this bad byte, unless memory ran out
-abbrev pub IsFaultAt : ℕ → Result (Vec (Token × ℕ)) LexFault → Type 0
+abbrev pub IsFaultAt : {T : Type 0} → ℕ → Result T LexFault → Type 0
 IsFaultAt n (Ok found) = ⊥
 IsFaultAt n (Err fault.NoMemory) = Unit {0}
 IsFaultAt n (Err (fault.At m)) = m ≡ n

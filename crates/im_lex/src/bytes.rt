@@ -1,6 +1,7 @@
-ghost use Rattle.std.specs.Prelude.{◌≡◌, ◌+◌, ◌^◌, ◌≤◌, min, drop, length};
-ghost use Rattle.std.specs.Char.{is_ascii_digit};
+ghost use Rattle.std.specs.Prelude.{◌≡◌, ◌+◌, ◌-◌, ◌*◌, ◌^◌, ◌≤◌, min, drop, length, map};
+ghost use Rattle.std.specs.Char.{is_ascii_digit, to_ascii_uppercase};
 ghost use Rattle.im_lex.specs.Bytes as bytes_of;
+ghost use Rattle.im_lex.specs.inner.Pieces as pieces;
 
 /// Space, tab and CR.
 pub fn is_blank(byte: u8) -> bool
@@ -62,18 +63,53 @@ pub fn digit_run(bytes: &[u8]) -> &[u8]
     bytes
 }
 
+/// A number with a digit more, capped in the same way. A product is checked only where it may come near the cap.
+fn with_digit(value: u64, digit: u8) -> u64
+    ensures { result ≡ min (10 * value + (digit - 48)) (2 ^ 63 + 1) }
+{
+    let digit = u64::from(digit.saturating_sub(b'0'));
+    if value < 900_000_000_000_000_000 {
+        value * 10 + digit
+    } else {
+        value
+            .saturating_mul(10)
+            .saturating_add(digit)
+            .min(9_223_372_036_854_775_809)
+    }
+}
+
 /// The number that the digits say, or 2^63 + 1 where it is at least that.
 pub fn capped_value(digits: &[u8]) -> u64
     ensures { result ≡ min (bytes_of.value_of digits.now) (2 ^ 63 + 1) }
 {
     let mut value: u64 = 0;
     for digit in digits {
-        value = value
-            .saturating_mul(10)
-            .saturating_add(u64::from(digit.saturating_sub(b'0')))
-            .min(9_223_372_036_854_775_809);
+        value = with_digit(value, *digit);
     }
     value
+}
+
+/// How many bytes stand before the first quote, or in all.
+pub fn plain_len(bytes: &[u8]) -> usize
+    ensures count { result ≡ length (bytes_of.run pieces.is_plain bytes.now) }
+    ensures within { result ≤ length bytes.now }
+{
+    for (i, byte) in bytes.iter().enumerate() {
+        if *byte == b'\'' {
+            return i;
+        }
+    }
+    bytes.len()
+}
+
+/// Writes the letters as capitals into a buffer of their length.
+pub fn put_capitals(buffer: &mut [u8], letters: &[u8])
+    requires { length buffer.old ≡ length letters.now }
+    ensures { buffer.new ≡ map to_ascii_uppercase letters.now }
+{
+    for (i, letter) in letters.iter().enumerate() {
+        buffer[i] = letter.to_ascii_uppercase();
+    }
 }
 
 /// Whether a comment stands at the front.

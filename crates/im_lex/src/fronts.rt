@@ -1,34 +1,24 @@
-ghost use Rattle.std.specs.Prelude.{◌≡◌, ◌∷◌, map, IfOk, if◌then◌else◌};
-ghost use Rattle.std.specs.Char.{to_ascii_uppercase};
+ghost use Rattle.std.specs.Prelude.{◌≡◌, ◌∷◌, IfOk, if◌then◌else◌};
 ghost use Rattle.im_syntax.specs.declared.token.Token.TheVariants as token;
 ghost use Rattle.im_lex.specs.Bytes as bytes_of;
 ghost use Rattle.im_lex.specs.inner.Pieces as pieces;
 
-use crate::bytes::{behind, capped_value, digit_run, first, is_blank, only_ends, word_run};
+use crate::bytes::{
+    behind, capped_value, digit_run, first, is_blank, only_ends, plain_len, put_capitals, word_run,
+};
 use crate::front::{Front, Piece};
 use im_syntax::{Keyword, Sign, Token};
 use im_values::limits::MOST_WORD_BYTES;
 use im_values::{Name, NoMemory};
 use std::alloc::Global;
 
-/// A word's letters as capitals.
-fn capitals(alloc: Global, letters: &[u8]) -> Result<Name, NoMemory>
-    ensures { IfOk result (λ name. name ≡ map to_ascii_uppercase letters.now) }
-{
-    let mut capitals = Vec::with_capacity(alloc, letters.len())?;
-    for letter in letters {
-        capitals.push(letter.to_ascii_uppercase())?;
-    }
-    Ok(Name::from_vec(capitals))
-}
-
 /// The token of a word in capitals.
-fn word_token(word: Name) -> Token
-    ensures { result ≡ bytes_of.word_token word }
+fn word_token(alloc: Global, word: &[u8]) -> Result<Token, NoMemory>
+    ensures { IfOk result (λ t. t ≡ bytes_of.word_token word.now) }
 {
-    match Keyword::of(word.bytes()) {
-        Some(keyword) => Token::Keyword(keyword),
-        None => Token::Word(word),
+    match Keyword::of(word) {
+        Some(keyword) => Ok(Token::Keyword(keyword)),
+        None => Ok(Token::Word(Name::of(alloc, word)?)),
     }
 }
 
@@ -39,8 +29,11 @@ fn word(alloc: Global, run: &[u8]) -> Result<Front, NoMemory>
     if run.len() > MOST_WORD_BYTES {
         return Ok(Front::Bad);
     }
-    let word = capitals(alloc, run)?;
-    Ok(Front::Lexed(word_token(word), run.len().saturating_sub(1)))
+    let mut buffer = [0; MOST_WORD_BYTES];
+    let capitals = &mut buffer[..run.len()];
+    put_capitals(capitals, run);
+    let token = word_token(alloc, capitals)?;
+    Ok(Front::Lexed(token, run.len().saturating_sub(1)))
 }
 
 /// A number without a sign.
@@ -161,8 +154,8 @@ fn bang(next: u8) -> Front
     }
 }
 
-/// A text, behind its opening quote.
-fn text(alloc: Global, bytes: &[u8]) -> Result<Front, NoMemory>
+/// A text in which a quote stands, byte by byte, behind its opening quote.
+fn quoted_text(alloc: Global, bytes: &[u8]) -> Result<Front, NoMemory>
     ensures { IfOk result (λ f. f ≡ bytes_of.text_found (bytes_of.text_of bytes.now)) }
 {
     let mut content = Vec::new(alloc);
@@ -171,7 +164,7 @@ fn text(alloc: Global, bytes: &[u8]) -> Result<Front, NoMemory>
         match piece(behind(bytes, taken)) {
             Piece::Over => return Ok(Front::Bad),
             Piece::End => {
-                let name = Name::from_vec(content);
+                let name = Name::of(alloc, content.as_slice())?;
                 return Ok(Front::Lexed(Token::Text(name), taken + 1));
             }
             Piece::Byte(byte, length) => {
@@ -181,6 +174,21 @@ fn text(alloc: Global, bytes: &[u8]) -> Result<Front, NoMemory>
         }
     }
     Ok(Front::Bad)
+}
+
+/// A text, behind its opening quote. One in which no quote stands is copied once.
+fn text(alloc: Global, bytes: &[u8]) -> Result<Front, NoMemory>
+    ensures { IfOk result (λ f. f ≡ bytes_of.text_found (bytes_of.text_of bytes.now)) }
+{
+    let plain = plain_len(bytes);
+    match piece(behind(bytes, plain)) {
+        Piece::Over => Ok(Front::Bad),
+        Piece::End => {
+            let name = Name::of(alloc, &bytes[..plain])?;
+            Ok(Front::Lexed(Token::Text(name), plain + 1))
+        }
+        Piece::Byte(_, _) => quoted_text(alloc, bytes),
+    }
 }
 
 /// What a `;` is, by the bytes behind it.

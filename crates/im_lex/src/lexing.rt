@@ -1,4 +1,4 @@
-ghost use Rattle.std.specs.Prelude.{◌≡◌, ◌+◌, ◌≤◌, ℕ, List, length, IfOk, IfErr};
+ghost use Rattle.std.specs.Prelude.{◌≡◌, ◌+◌, ◌≤◌, ℕ, List, length, slice_index, IfOk, IfErr};
 ghost use Rattle.im_syntax.specs.declared.token.Token.{Token as AnyToken};
 ghost use Rattle.im_lex.specs.declared.lexing.LexFault.TheVariants as fault;
 ghost use Rattle.im_lex.specs.Lexing as lexing;
@@ -9,7 +9,7 @@ use crate::front::Front;
 use crate::fronts::front;
 use im_syntax::Token;
 use im_values::NoMemory;
-use std::alloc::{AllocFailed, Global};
+use std::alloc::{AllocError, AllocFailed, Global};
 
 /// Why the bytes of a line are no tokens.
 #[derive(Clone, Copy, Debug, PartialEq, Eq)]
@@ -28,6 +28,14 @@ impl From<NoMemory> for LexFault {
     }
 }
 
+impl From<AllocError> for LexFault {
+    ghost from_gives = { λ _ e. e ≡ fault.NoMemory };
+
+    fn from(_cause: AllocError) -> LexFault {
+        LexFault::NoMemory
+    }
+}
+
 impl<T: Drop> From<AllocFailed<T>> for LexFault {
     ghost from_gives = { λ _ e. e ≡ fault.NoMemory };
 
@@ -36,24 +44,73 @@ impl<T: Drop> From<AllocFailed<T>> for LexFault {
     }
 }
 
+/// The tokens of a line and their places, each in a list of its own.
+#[derive(Debug, Drop)]
+pub struct Lexed {
+    pub tokens: Vec<Token>,
+    /// How many bytes of the line stand before each token.
+    pub places: Vec<u64>,
+}
+
 /// The tokens of a line, from left to right. Each round goes on by one byte or more.
-fn lexed(alloc: Global, line: &[u8]) -> Result<Vec<(Token, u64)>, LexFault>
+///
+/// The lists begin with room for a token in three bytes, as lists of short values have.
+fn read_tokens(alloc: Global, line: &[u8]) -> Result<Lexed, LexFault>
     ensures { rounds.Gives result (rounds.lexed_in (length line.now) 0 line.now) }
 {
-    let mut tokens = Vec::new(alloc);
+    let mut tokens = Vec::with_capacity(alloc, line.len() / 3)?;
+    let mut places = Vec::with_capacity(alloc, line.len() / 3)?;
     let mut at = 0;
     for _ in 0..line.len() {
         match front(alloc, behind(line, at))? {
-            Front::Stop => return Ok(tokens),
+            Front::Stop => return Ok(Lexed { tokens, places }),
             Front::Bad => return Err(LexFault::At(at as u64)),
             Front::Blank => at += 1,
             Front::Lexed(token, more) => {
-                tokens.push((token, at as u64))?;
+                tokens.push(token)?;
+                places.push(at as u64)?;
                 at = at + 1 + more;
             }
         }
     }
-    Ok(tokens)
+    Ok(Lexed { tokens, places })
+}
+
+/// The tokens of a line and their places.
+///
+/// It answers as [`tokens`] does, and takes no time to pair what its callers part again.
+pub fn lex(alloc: Global, line: &[u8]) -> Result<Lexed, LexFault>
+    // What is found are the line's tokens and their places.
+    ensures found { IfOk result (λ l. lexing.AreLexed line.now l.tokens.items l.places.items) }
+    // The line's tokens are found, unless memory runs out.
+    ensures only { (ts : List (AnyToken × ℕ)) → lexing.Lexes 0 line.now ts → lexing.IsLexedApart ts result }
+    // A fault is the first bad byte.
+    ensures bad { IfErr result (lexing.IsBadByte line.now) }
+    // The first bad byte is a fault, unless memory runs out.
+    ensures bad_only { (n : ℕ) → lexing.IsBadAt 0 line.now n → lexing.IsFaultAt n result }
+{
+    read_tokens(alloc, line)
+}
+
+/// A place by its number, or 0 where there is none.
+fn place_at(places: &[u64], i: usize) -> u64
+    ensures { result ≡ slice_index places.now i }
+{
+    if i < places.len() { places[i] } else { 0 }
+}
+
+/// Each token with its place.
+#[tactic(auto, using(crate::proofs::Rounds::paired_at_push))]
+fn paired(alloc: Global, lexed: Lexed) -> Result<Vec<(Token, u64)>, NoMemory>
+    ensures { IfOk result (λ ts. ts.items ≡ rounds.paired_at lexed.places.items 0 lexed.tokens.items) }
+{
+    let Lexed { tokens, places } = lexed;
+    let mut pairs = Vec::with_capacity(alloc, tokens.len())?;
+    for token in tokens {
+        let place = place_at(places.as_slice(), pairs.len());
+        pairs.push((token, place))?;
+    }
+    Ok(pairs)
 }
 
 /// The tokens of a line, each with the number of bytes before it.
@@ -69,5 +126,7 @@ pub fn tokens(alloc: Global, line: &[u8]) -> Result<Vec<(Token, u64)>, LexFault>
     // The first bad byte is a fault, unless memory runs out.
     ensures bad_only { (n : ℕ) → lexing.IsBadAt 0 line.now n → lexing.IsFaultAt n result }
 {
-    lexed(alloc, line)
+    let lexed = lex(alloc, line)?;
+    let pairs = paired(alloc, lexed)?;
+    Ok(pairs)
 }

@@ -1,3 +1,4 @@
+mod BlockLemmas
 pub mod FaultLemmas
 pub mod MapLemmas
 pub mod GroupLemmas

@@ -38,7 +38,9 @@ compared v column = if is_other column.kind v then Some (WrongKind column.name) 
 -- a text is longer than the column of this name and kind
 abbrev pub too_long : List ℕ → Kind → Value → Option NameFault
 too_long name (kind.Text limit) (value.Text t) = if nat_le (length t) limit then None else Some (TooLong name (length t) limit)
-too_long name k v = None
+too_long name (kind.Text limit) (value.Int n) = None
+too_long name (kind.Text limit) value.Null = None
+too_long name kind.Int v = None
 
 -- what is wrong where a column is to hold a value: first its kind, then its length
 abbrev pub stored : Value → Column → Option NameFault

@@ -26,7 +26,7 @@ fn is_other(kind: Kind, lit: &Lit) -> bool
     match (kind, lit) {
         (Kind::Int, Lit::Text(text)) => !text.bytes().is_empty(),
         (Kind::Text(_), Lit::Int(_)) => true,
-        _ => false,
+        (Kind::Int, Lit::Int(_) | Lit::Null) | (Kind::Text(_), Lit::Text(_) | Lit::Null) => false,
     }
 }
 
@@ -57,7 +57,7 @@ fn check_length(alloc: Global, column: &Column, lit: &Lit) -> Result<(), NameFau
                 limit: u64::from(limit),
             })
         }
-        _ => Ok(()),
+        (Kind::Text(_), Lit::Text(_) | Lit::Int(_) | Lit::Null) | (Kind::Int, _) => Ok(()),
     }
 }
 

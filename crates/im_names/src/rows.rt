@@ -1,4 +1,4 @@
-ghost use Rattle.std.specs.Prelude.{◌≡◌, length, map, nat_eq, None, IfOk, OnOk, IfErr};
+ghost use Rattle.std.specs.Prelude.{◌≡◌, ◌++◌, length, map, nat_eq, None, IfOk, OnOk, IfErr};
 ghost use Rattle.std.specs.List.{range_with_len};
 ghost use Rattle.im_names.specs.Faults.{IsCause, Passes, first_fault};
 ghost use Rattle.im_names.specs.Lookups.{number_of as number};
@@ -8,7 +8,7 @@ use crate::columns::{number_of, width_of};
 use crate::fault::NameFault;
 use crate::literals::{check_stored, value_of};
 use im_syntax::Lit;
-use im_values::{List, Name, NoMemory, Row, Schema, Value};
+use im_values::{List, Name, NoMemory, Row, Schema, Value, rows_of_block};
 use std::alloc::Global;
 
 // ---- INSERT
@@ -137,17 +137,22 @@ fn taken(alloc: Global, tuple: &[Lit], source: Option<usize>) -> Result<Value, N
     }
 }
 
-fn row_of(alloc: Global, sources: &[Option<usize>], tuple: &[Lit]) -> Result<Row, NoMemory>
-    ensures { IfOk result (λ row. row ≡ map (spec.taken tuple.now) sources.now) }
+/// Puts the values of a tuple's row behind those of the rows before it.
+fn push_row(
+    alloc: Global,
+    values: &mut Vec<Value>,
+    sources: &[Option<usize>],
+    tuple: &[Lit],
+) -> Result<(), NoMemory>
+    ensures { OnOk result (values.new.items ≡ values.old.items ++ map (spec.taken tuple.now) sources.now) }
 {
-    let mut values = Vec::with_capacity(alloc, sources.len())?;
     for source in sources {
         values.push(taken(alloc, tuple, *source)?)?;
     }
-    Ok(Row::of(values))
+    Ok(())
 }
 
-/// The rows of tuples whose values are for the columns of these numbers.
+/// The rows of tuples whose values are for the columns of these numbers. They share one block.
 pub fn rows_of(
     alloc: Global,
     schema: &Schema,
@@ -160,11 +165,13 @@ pub fn rows_of(
         (rows ≡ map (λ tuple. map (spec.taken tuple) sources.now) tuples.now)) }
     ensures err { IfErr result (IsCause (first_fault (map (spec.tuple_fault schema.now numbers.now) tuples.now))) }
 {
-    let mut rows = Vec::with_capacity(alloc, tuples.len())?;
+    let width = sources.len();
+    let mut values = Vec::with_capacity(alloc, tuples.len().saturating_mul(width))?;
     for tuple in tuples {
         check_tuple(alloc, schema, numbers, tuple.items())?;
-        rows.push(row_of(alloc, sources, tuple.items())?)?;
+        push_row(alloc, &mut values, sources, tuple.items())?;
     }
+    let rows = rows_of_block(alloc, values, width, tuples.len())?;
     Ok(List::of(rows))
 }
 

@@ -1,1 +1,2 @@
 pub mod AloneLaws
+pub mod GoesLaws

@@ -1,5 +1,5 @@
 -- How a line may go while others add entries between its turns.
-use Rattle.std.specs.Prelude.{◌≡◌, ℕ, ◌&&◌, ◌⊎◌, false, [], ◌++◌, is_some}
+use Rattle.std.specs.Prelude.{◌≡◌, ℕ, ◌&&◌, ◌⊎◌, Bool, false, All, [], ◌++◌, is_some}
 use Rattle.im_history.specs.History.{History}
 use Rattle.im_plan.specs.Plan.{Plan, End, Turn, made, counted}
 
@@ -8,6 +8,15 @@ pub record After (others : History → Type 0) (old new : History) : Type 0 wher
   pub between : History
   pub lawful : others between
   pub log : new ≡ old ++ between
+
+-- others may add nothing, and go on after each other
+pub record MayGoOn (others : History → Type 0) : Type 0 where
+  pub none : others []
+  pub both : (first second : History) → others first → others second → others (first ++ second)
+
+-- others, none of whom has one of these numbers
+pub record Others (mine : ℕ → Bool) (between : History) : Type 0 where
+  pub apart : All (λ entry. mine entry.who ≡ false) between
 
 -- others who add nothing
 pub record Nobody (between : History) : Type 0 where

@@ -1,17 +1,25 @@
 -- One side of a store that several may share: whom it speaks for, and how it sees the history go on.
-use Rattle.std.specs.Prelude.{◌≡◌, ℕ, ◌==◌, Bool, true, false, [], ◌∷◌, ◌++◌, All, Option, Some, None}
+use Rattle.std.specs.Prelude.{◌≡◌, ℕ, ◌+◌, ◌==◌, Bool, true, false, [], ◌∷◌, ◌++◌, length, All, Option, Some, None, if◌then◌else◌}
+use Rattle.im_core.specs.declared.answers.Offer.{Offer}
+use Rattle.im_core.specs.declared.answers.Offer.TheVariants.{Task, Idle}
+use Rattle.im_core.specs.declared.answers.Switched.{Switched}
+use Rattle.im_core.specs.declared.answers.Switched.TheVariants.{Done, AreaFull, Cancelled}
+use Rattle.im_core.specs.Answers.{content_in, killed_of}
 use Rattle.im_history.specs.declared.entry.What.{What}
+use Rattle.im_history.specs.declared.entry.What.TheVariants.{Build, Switch, Cancel}
 use Rattle.im_history.specs.declared.limits.Limits.{Limits}
+use Rattle.im_history.specs.declared.task.Task.{Task as TaskInfo}
 use Rattle.im_history.specs.History.{History}
+use Rattle.im_history.specs.Units.{Content, builds, held_at, may_populate, task_at, unit_content}
 use Rattle.im_plan.specs.Goes.{After}
 
 -- a side of a store: whether nobody else has the store, and the number that it speaks for, if it is not every number
-pub record Side : Type 0 where
+pub record StoreSide : Type 0 where
   pub alone : Bool
   pub number : Option ℕ
 
 -- the side of a store that nobody else has
-abbrev pub sole : Side
+abbrev pub sole : StoreSide
 sole = record { alone = true; number = None }
 
 -- a side that speaks for this number, or for each
@@ -20,19 +28,24 @@ is_number None who = true
 is_number (Some number) who = number == who
 
 -- the side speaks for this number
-abbrev pub speaks : Side → ℕ → Bool
+abbrev pub speaks : StoreSide → ℕ → Bool
 speaks side who = is_number side.number who
 
 -- others may have added these entries: none where nobody else has the store, and none of a number that this side speaks for
-pub record AreOthers (side : Side) (between : History) : Type 0 where
+pub record AreOthers (side : StoreSide) (between : History) : Type 0 where
   pub alone : side.alone ≡ true → between ≡ []
   pub apart : All (λ entry. speaks side entry.who ≡ false) between
 
--- what a side knows: the limits of the store, and its history as it last saw it
+-- what a side knows: the limits of the store, its history as it last saw it, and how many calls of this side began no build
 pub record Known : Type 0 where
-  pub side : Side
+  pub side : StoreSide
   pub limits : Limits
   pub log : History
+  pub misses : ℕ
+
+-- one miss more. The count stays at the greatest number of 64 bits
+abbrev pub missed : ℕ → ℕ
+missed misses = if misses == 18446744073709551615 then misses else misses + 1
 
 -- a call added no entry: others may have gone on before it, and this was found of the history at that moment
 pub record Found (old new : Known) (holds : History → Type 0) : Type 0 where
@@ -47,3 +60,32 @@ pub record Added (old new : Known) (who : ℕ) (adds : History → What) (holds 
   pub after : After (AreOthers old.side) old.log at
   pub now : new ≡ record old { log = at ++ record { who = who; what = adds at } ∷ [] }
   pub fact : holds at
+
+-- a call began no build: others may have gone on before it, and this was found of the history at that moment
+pub record Missed (old new : Known) (holds : History → Type 0) : Type 0 where
+  pub at : History
+  pub after : After (AreOthers old.side) old.log at
+  pub now : new ≡ record old { log = at; misses = missed old.misses }
+  pub fact : holds at
+
+-- a build began, or could not
+abbrev pub Offered : Known → Known → ℕ → ℕ → ℕ → Bool → Offer → Type 0
+Offered old new who table extent trickle (Task task) =
+    Added old new who (λ at. Build (builds at + 1) table extent trickle) (λ at.
+    (may_populate at table extent ≡ true) × (task ≡ task_at at (builds at + 1) table extent trickle))
+Offered old new who table extent trickle (Idle place left) =
+    Missed old new (λ at. (may_populate at table extent ≡ false) × (place ≡ length at) × (left ≡ 0))
+
+module _ {U : Type 0} (content : U → Content) where
+  -- a finished build became current, and the unit that was current is handed back; or the build was found dead
+  abbrev pub IsSwitched : Known → Known → ℕ → TaskInfo → Switched U → Type 0
+  IsSwitched old new who task (Done place used before) =
+      Added old new who (λ at. Switch task.id) (λ at.
+      (killed_of (held_at at task.id) ≡ None)
+      × (place ≡ length at)
+      × (used ≡ 0)
+      × (content_in content before ≡ unit_content at task.table task.extent))
+  IsSwitched old new who task (AreaFull place need free) = ⊥
+  IsSwitched old new who task (Cancelled place killed) =
+      Added old new who (λ at. Cancel task.id false) (λ at.
+      (killed_of (held_at at task.id) ≡ Some killed) × (place ≡ length at))

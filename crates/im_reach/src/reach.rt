@@ -1,21 +1,23 @@
-ghost use Rattle.std.specs.Prelude.{◌≡◌, ◌+◌, ◌<◌, ◌≤◌, length, true, false, None, IfOk, IfErr};
+ghost use Rattle.std.specs.Prelude.{◌≡◌, ◌+◌, ◌<◌, ◌≤◌, length, true, false, Some, None, IfOk, IfErr};
 ghost use Rattle.im_history.specs.declared.entry.What.TheVariants as what;
 ghost use Rattle.im_history.specs.Commits.{scn};
 ghost use Rattle.im_history.specs.Cursors.{is_cursor_open};
-ghost use Rattle.im_history.specs.Legal.{Exists, IsLawful, MayInsert, MayWrite, put_from};
+ghost use Rattle.im_history.specs.Legal.{Exists, IsLawful, MayInsert, MaySetMemory, MayWrite, put_from};
 ghost use Rattle.im_history.specs.Refusals.{begin_refusal, create_refusal, insert_refusal, open_refusal, write_refusal};
 ghost use Rattle.im_history.specs.Tables.{tables, given};
 ghost use Rattle.im_history.specs.Transactions.{is_open};
 ghost use Rattle.im_history.specs.Views.{look_at, view_at};
-ghost use Rattle.im_core.specs.Answers.{IsRefusal, cursor_view, committed_in, rows_in};
-ghost use Rattle.im_reach.specs.Sides.{Added, Found, Known, speaks};
+ghost use Rattle.im_core.specs.Answers.{IsRefusal, content_in, cursor_view, evict_refusal, task_fetched, task_rows};
+ghost use Rattle.im_history.specs.Serving.{fetched_in, serving_content};
+ghost use Rattle.im_history.specs.Units.{IsOwn, task_content, unit_content};
+ghost use Rattle.im_reach.specs.Sides.{Added, Found, IsSwitched, Known, Missed, Offered, speaks};
 
-use im_core::{Begun, Committed, Made, Pin, Wrote};
-use im_history::{Change, Look, Mode, Refused, Shape, UnitLike, View};
+use im_core::{Begun, Committed, Evicted, Made, Offer, Pin, Switched, Wrote};
+use im_history::{Change, Look, Mode, Priority, Refused, Shape, Task, UnitLike, View};
 use im_values::limits::{MOST_ROWS, NUMBERS};
 use im_values::{Name, Row, Schema, Steps};
-use std::sync::Wait;
 use std::sync::ledger::Ledger;
+use std::sync::{Arc, Wait};
 
 /// The calls of a store, over column units of the type `U`, as one side of it makes them.
 ///
@@ -102,9 +104,11 @@ pub trait Reach<U: UnitLike> {
             IsRefusal at (open_refusal at who cursor) why)) }
         ensures lawful { IsLawful (known self.new).limits (known self.new).log };
 
-    /// Reads the rows of an extent that a cursor sees committed: a copy of each.
+    /// Reads what a scan needs of an extent: its current column unit, unless that is newer than the cursor's SCN, and the
+    /// rows that commits touched since the unit's SCN; without such a unit all rows. Each is the row committed at the
+    /// cursor's SCN.
     ///
-    /// Each row number of the extent below the view's `rows` is one step at most.
+    /// Each row that is read is one step at most, also where memory is out.
     fn pin<R: Wait, L: Ledger>(
         &mut self,
         rt: &R,
@@ -118,10 +122,12 @@ pub trait Reach<U: UnitLike> {
         requires within { extent < (cursor_view (known self.old).log who cursor).extents }
         ensures ok { IfOk result (λ pin. Found (known self.old) (known self.new) (λ at.
             (pin.place ≡ length at)
-            × (pin.unit ≡ None)
-            × (pin.fetched ≡ committed_in at (cursor_view at who cursor) extent))) }
-        ensures steps { steps.new ≤ steps.old + rows_in (cursor_view (known self.old).log who cursor) extent }
-        ensures err { IfErr result (λ why. Found (known self.old) (known self.new) (λ at. IsRefusal at None why)) }
+            × (content_in U.content pin.unit ≡ serving_content at (cursor_view at who cursor) extent)
+            × (pin.fetched ≡ fetched_in at (cursor_view at who cursor) extent)
+            × (steps.new ≤ steps.old + length (fetched_in at (cursor_view at who cursor) extent)))) }
+        ensures err { IfErr result (λ why. Found (known self.old) (known self.new) (λ at.
+            IsRefusal at None why
+            × (steps.new ≤ steps.old + length (fetched_in at (cursor_view at who cursor) extent)))) }
         ensures lawful { IsLawful (known self.new).limits (known self.new).log };
 
     /// Shuts a cursor, and answers the place of the entry. It takes no memory.
@@ -170,5 +176,96 @@ pub trait Reach<U: UnitLike> {
             × (place ≡ length at))) }
         ensures err { IfErr result (λ why. Found (known self.old) (known self.new) (λ at.
             IsRefusal at (write_refusal (known self.old).limits at who (cursor_view at who cursor).scn changes.items) why)) }
+        ensures lawful { IsLawful (known self.new).limits (known self.new).log };
+
+    /// Lets a table join the column store with a priority, or leave it where none is given: then the units of its extents
+    /// are gone, and its living builds are killed. It answers the place of the entry.
+    fn set_memory<R: Wait>(
+        &mut self,
+        rt: &R,
+        who: u32,
+        table: u32,
+        priority: Option<Priority>,
+    ) -> Result<u64, Refused>
+        requires session { who < NUMBERS }
+        requires speaks { speaks (known self.old).side who ≡ true }
+        requires may { MaySetMemory (known self.old).log who table }
+        ensures ok { IfOk result (λ place. Added (known self.old) (known self.new) who (λ at. what.Memory table priority)
+            (λ at. place ≡ length at)) }
+        ensures err { IfErr result (λ why. Found (known self.old) (known self.new) (λ at. IsRefusal at None why)) }
+        ensures lawful { IsLawful (known self.new).limits (known self.new).log };
+
+    /// Begins a build of an extent: of a table in the column store, which has a row number and no living build. Where it
+    /// is none of these there is nothing to build.
+    fn build_of<R: Wait>(
+        &mut self,
+        rt: &R,
+        who: u32,
+        table: u32,
+        extent: u64,
+        trickle: bool,
+    ) -> Result<Offer, Refused>
+        requires session { who < NUMBERS }
+        requires speaks { speaks (known self.old).side who ≡ true }
+        requires exists { Exists (known self.old).log table }
+        ensures ok { IfOk result (λ offer. Offered (known self.old) (known self.new) who table extent trickle offer) }
+        ensures err { IfErr result (λ why. Missed (known self.old) (known self.new) (λ at. IsRefusal at None why)) }
+        ensures lawful { IsLawful (known self.new).limits (known self.new).log };
+
+    /// Reads what a build's unit will hold: the rows of its extent that were committed at its SCN.
+    ///
+    /// Each row number of the extent that was given when the build began is one step at most.
+    fn read_task<R: Wait, L: Ledger>(
+        &mut self,
+        rt: &R,
+        who: u32,
+        task: &Task,
+        steps: &mut Steps<L>,
+    ) -> Result<Pin<U>, Refused>
+        requires session { who < NUMBERS }
+        requires speaks { speaks (known self.old).side who ≡ true }
+        requires own { IsOwn (known self.old).log who task.now }
+        ensures ok { IfOk result (λ pin. Found (known self.old) (known self.new) (λ at.
+            (pin.place ≡ length at) × (pin.unit ≡ None) × (pin.fetched ≡ task_fetched at task.now))) }
+        ensures steps { steps.new ≤ steps.old + task_rows (known self.old).log task.now }
+        ensures err { IfErr result (λ why. Found (known self.old) (known self.new) (λ at. IsRefusal at None why)) }
+        ensures lawful { IsLawful (known self.new).limits (known self.new).log };
+
+    /// Makes the unit of a finished build current, with the journal of what was touched since the build began, and hands
+    /// back the unit that was. A build that was killed is cancelled. It takes no memory.
+    fn switch<R: Wait>(&mut self, rt: &R, who: u32, task: Task, unit: Arc<U>) -> Switched<U>
+        requires session { who < NUMBERS }
+        requires speaks { speaks (known self.old).side who ≡ true }
+        requires own { IsOwn (known self.old).log who task }
+        requires holds { U.content unit.value ≡ task_content (known self.old).log task }
+        ensures switched { IsSwitched U.content (known self.old) (known self.new) who task result }
+        ensures lawful { IsLawful (known self.new).limits (known self.new).log };
+
+    /// Cancels a build, and answers the place of the entry. It takes no memory.
+    fn cancel<R: Wait>(&mut self, rt: &R, who: u32, task: Task) -> u64
+        requires session { who < NUMBERS }
+        requires speaks { speaks (known self.old).side who ≡ true }
+        requires own { IsOwn (known self.old).log who task }
+        ensures added { Added (known self.old) (known self.new) who (λ at. what.Cancel task.id false) (λ at. result ≡ length at) }
+        ensures lawful { IsLawful (known self.new).limits (known self.new).log };
+
+    /// Evicts an extent's current unit, which it hands back, and kills its living build. It is refused where there is no
+    /// unit.
+    fn evict<R: Wait>(
+        &mut self,
+        rt: &R,
+        who: u32,
+        table: u32,
+        extent: u64,
+    ) -> Result<Evicted<U>, Refused>
+        requires session { who < NUMBERS }
+        requires speaks { speaks (known self.old).side who ≡ true }
+        requires exists { Exists (known self.old).log table }
+        ensures ok { IfOk result (λ evicted. Added (known self.old) (known self.new) who (λ at. what.Evict table extent) (λ at.
+            (evicted.place ≡ length at)
+            × (evicted.used ≡ 0)
+            × (unit_content at table extent ≡ Some (U.content evicted.old.value)))) }
+        ensures err { IfErr result (λ why. Found (known self.old) (known self.new) (λ at.
+            IsRefusal at (evict_refusal at table extent) why)) }
         ensures lawful { IsLawful (known self.new).limits (known self.new).log };
 }

@@ -1,21 +1,25 @@
-ghost use Rattle.std.specs.Prelude.{◌≡◌};
-ghost use Rattle.im_reach.specs.Sides.{sole};
+ghost use Rattle.std.specs.Prelude.{◌≡◌, ◌<◌};
+ghost use Rattle.im_history.specs.Legal.{IsLawful};
+ghost use Rattle.im_history.specs.Units.{IsOwn, task_content};
+ghost use Rattle.im_reach.specs.Sides.{IsSwitched, missed, sole};
 
 use crate::reach::Reach;
-use im_core::{Begun, Committed, Core, Made, Pin, Wrote};
-use im_history::{Change, Look, Mode, Refused, Shape, UnitLike, View};
+use im_core::{Begun, Committed, Core, Evicted, Made, Offer, Pin, Switched, Wrote};
+use im_history::{Change, Look, Mode, Priority, Refused, Shape, Task, UnitLike, View};
+use im_values::limits::NUMBERS;
 use im_values::{Name, Row, Schema, Steps};
-use std::sync::Wait;
 use std::sync::ledger::Ledger;
+use std::sync::{Arc, Wait};
 
 /// A store that nobody else has. It speaks for every number, and no call of it waits.
 #[derive(Drop)]
 pub struct Sole<U: UnitLike> {
     core: Core<U>,
+    misses: u64,
 }
 
 impl<U: UnitLike> Reach<U> for Sole<U> {
-    ghost known = { λ s. record { side = sole; limits = s.core.limits; log = s.core.log } };
+    ghost known = { λ s. record { side = sole; limits = s.core.limits; log = s.core.log; misses = s.misses } };
 
     fn look<R: Wait>(&mut self, _rt: &R, who: u32) -> Result<Look, Refused> {
         let answer = self.core.look(who);
@@ -108,21 +112,103 @@ impl<U: UnitLike> Reach<U> for Sole<U> {
         self.core.known();
         answer
     }
+
+    fn set_memory<R: Wait>(
+        &mut self,
+        _rt: &R,
+        who: u32,
+        table: u32,
+        priority: Option<Priority>,
+    ) -> Result<u64, Refused> {
+        let answer = self.core.set_memory(who, table, priority);
+        self.core.known();
+        answer
+    }
+
+    fn build_of<R: Wait>(
+        &mut self,
+        _rt: &R,
+        who: u32,
+        table: u32,
+        extent: u64,
+        trickle: bool,
+    ) -> Result<Offer, Refused> {
+        let answer = self.core.build_of(who, table, extent, trickle);
+        self.core.known();
+        match answer {
+            Ok(Offer::Task(task)) => Ok(Offer::Task(task)),
+            missed => {
+                self.miss();
+                missed
+            }
+        }
+    }
+
+    fn read_task<R: Wait, L: Ledger>(
+        &mut self,
+        _rt: &R,
+        who: u32,
+        task: &Task,
+        steps: &mut Steps<L>,
+    ) -> Result<Pin<U>, Refused> {
+        let answer = self.core.read_task(who, task, steps);
+        self.core.known();
+        answer
+    }
+
+    fn switch<R: Wait>(&mut self, _rt: &R, who: u32, task: Task, unit: Arc<U>) -> Switched<U>
+        requires session { who < NUMBERS }
+        requires own { IsOwn self.old.core.log who task }
+        requires holds { U.content unit.value ≡ task_content self.old.core.log task }
+        ensures switched { IsSwitched U.content (⟦<Sole<U> as Reach<U>>⟧.known self.old)
+            (⟦<Sole<U> as Reach<U>>⟧.known self.new) who task result }
+        ensures lawful { IsLawful self.new.core.limits self.new.core.log }
+    {
+        let answer = self.core.switch(who, task, unit);
+        self.core.known();
+        answer
+    }
+
+    fn cancel<R: Wait>(&mut self, _rt: &R, who: u32, task: Task) -> u64 {
+        let answer = self.core.cancel(who, task);
+        self.core.known();
+        answer
+    }
+
+    fn evict<R: Wait>(
+        &mut self,
+        _rt: &R,
+        who: u32,
+        table: u32,
+        extent: u64,
+    ) -> Result<Evicted<U>, Refused> {
+        let answer = self.core.evict(who, table, extent);
+        self.core.known();
+        answer
+    }
 }
 
 impl<U: UnitLike> Sole<U> {
     /// This store, with nobody else. It takes no memory.
     pub fn new(core: Core<U>) -> Sole<U>
-        ensures { ⟦<Sole<U> as Reach<U>>⟧.known result ≡ record { side = sole; limits = core.limits; log = core.log } }
+        ensures { ⟦<Sole<U> as Reach<U>>⟧.known result ≡ record { side = sole; limits = core.limits; log = core.log; misses = 0 } }
     {
-        Sole { core }
+        Sole { core, misses: 0 }
     }
 
     /// The store, handed back. It takes no memory.
     pub fn into_core(self) -> Core<U>
-        ensures { ⟦<Sole<U> as Reach<U>>⟧.known self ≡ record { side = sole; limits = result.limits; log = result.log } }
+        ensures { ⟦<Sole<U> as Reach<U>>⟧.known self
+            ≡ record { side = sole; limits = result.limits; log = result.log; misses = self.misses } }
     {
-        let Sole { core } = self;
+        let Sole { core, misses: _ } = self;
         core
+    }
+
+    /// Counts a call that began no build.
+    fn miss(&mut self)
+        ensures { self.new ≡ record self.old { misses = missed self.old.misses } }
+    {
+        self.misses = self.misses.saturating_add(1);
     }
 }

@@ -1,20 +1,17 @@
 -- A query may be asked of each row that a scan takes.
-use Rattle.std.proofs.Common.{◌≡◌, ℕ, zero, suc, ◌+◌, ◌-◌, ◌<◌, ◌==◌, ◌&&◌, Bool, true, false, if◌then◌else◌, List, [], ◌∷◌, ◌++◌, length, get_or, map, filter, Option, Some, None, refl, sym, ap, ◌∙◌, arith}
+use Rattle.std.proofs.Common.{◌≡◌, ℕ, zero, suc, ◌+◌, ◌-◌, ◌<◌, ◌==◌, ◌&&◌, Bool, true, false, if◌then◌else◌, List, [], ◌∷◌, ◌++◌, length, get_or, Option, Some, None, refl, arith}
 use Rattle.std.specs.Prelude.{nat_lt}
 use Rattle.std.specs.List.{AllByRecursion, fold}
-use Rattle.std.specs.Option.{ForSome, option_copied}
-use Rattle.std.specs.FinMap as map_of
-use Rattle.std.proofs.lemmas.List.{get_or-map}
-use denote.Ref.{Bor}
+use Rattle.std.specs.Option.{ForSome}
 use Rattle.im_syntax.specs.declared.bound.Bound.{Bound}
 use Rattle.im_syntax.specs.BoundFits.{BoundFits}
 use Rattle.im_history.specs.declared.change.Change.{Change}
 use Rattle.im_history.specs.declared.view.View.{View}
 use Rattle.im_history.specs.Rows.{Row, row_after}
 use Rattle.im_history.specs.Units.{Content}
-use Rattle.im_group.specs.Partials.{Numbered, Parts, groups_of, keeps, kept, partial}
+use Rattle.im_group.specs.Partials.{Numbered}
 use Rattle.im_scan.specs.Parts.{MayAsk, unit_row, fetched_after, taken_row}
-use Rattle.im_scan.specs.inner.Steps.{lent, numbered, numbered_from}
+use Rattle.im_scan.specs.inner.Steps.{numbered, numbered_from}
 use Rattle.im_scan.proofs.SlotLemmas.{AreTaken}
 
 no_row : (bound : Bound) → MayAsk bound None
@@ -79,54 +76,15 @@ pub slots-fit : (bound : Bound) (unit : Option Content) (fetched : List (ℕ × 
 slots-fit bound unit fetched view first count slots may taken =
     all-at (MayAsk bound) slots None (λ i within. rw (taken.at i within) (taken-fits bound unit fetched view (first + i) may))
 
--- one of the rows that are lent
-pub lent-fits : (bound : Bound) (slots : List (Option (Bor Row))) (i : ℕ) (row : Option (Bor Row)) → i < length slots
-    → row ≡ get_or slots i row → AllByRecursion (MayAsk bound) (lent slots) → MayAsk bound (option_copied row)
-lent-fits bound slots i row within is all =
-    let fits = at-all (MayAsk bound) (lent slots) i None (no_row bound) all in
-    rw (get_or-map option_copied slots i row None within ∙ ap option_copied (sym is)) at fits
-
--- ---- rows that are kept, and kept again
+-- ---- the rows that there are
 
 numbered-fits : (bound : Bound) (rid : ℕ) (slot : Option Row) (later : List Numbered) → MayAsk bound slot
     → AllByRecursion (λ r. BoundFits r.1 bound) later → AllByRecursion (λ r. BoundFits r.1 bound) (numbered rid slot ++ later)
 numbered-fits bound rid None later fits rest = rest
 numbered-fits bound rid (Some row) later fits rest = (fits row refl, rest)
 
-numbered_from-fits : (bound : Bound) (first : ℕ) (slots : List (Option Row)) → AllByRecursion (MayAsk bound) slots
+pub numbered_from-fits : (bound : Bound) (first : ℕ) (slots : List (Option Row)) → AllByRecursion (MayAsk bound) slots
     → AllByRecursion (λ r. BoundFits r.1 bound) (numbered_from first slots)
 numbered_from-fits bound first [] all = tt
 numbered_from-fits bound first (slot ∷ slots) all =
     numbered-fits bound first slot (numbered_from (first + 1) slots) all.0 (numbered_from-fits bound (first + 1) slots all.1)
-
-filter-fits : {X : Type 0} (P : X → Type 0) (p : X → Bool) (xs : List X) → AllByRecursion P xs → AllByRecursion P (filter p xs)
-filter-fits P p [] all = tt
-filter-fits {X} P p (x ∷ xs) all = by (p x) (filter-fits P p xs all.1)
-  where
-    by : (b : Bool) → AllByRecursion P (filter p xs) → AllByRecursion P (if b then x ∷ filter p xs else filter p xs)
-    by true rest = (all.0, rest)
-    by false rest = rest
-
-pub kept-fits : (bound : Bound) (first : ℕ) (slots : List (Option Row)) (rows : List Numbered)
-    → AllByRecursion (MayAsk bound) slots → rows ≡ kept bound (numbered_from first slots)
-    → AllByRecursion (λ r. BoundFits r.1 bound) rows
-kept-fits bound first slots rows all is =
-    rw is (filter-fits (λ r. BoundFits r.1 bound) (λ r. keeps bound.filter r.1) (numbered_from first slots)
-    (numbered_from-fits bound first slots all))
-
-filter-twice : {X : Type 0} (p : X → Bool) (xs : List X) → filter p (filter p xs) ≡ filter p xs
-filter-twice p [] = refl
-filter-twice {X} p (x ∷ xs) = by (p x) refl (filter-twice p xs)
-  where
-    by : (b : Bool) → p x ≡ b → filter p (filter p xs) ≡ filter p xs
-        → filter p (if b then x ∷ filter p xs else filter p xs) ≡ (if b then x ∷ filter p xs else filter p xs)
-    by true e rest = rw e (ap (λ (l : List X). x ∷ l) rest)
-    by false e rest = rest
-
--- the rows that a query keeps give it what all of them do
-pub partial-kept : (bound : Bound) (rows : List Numbered) → partial bound (kept bound rows) ≡ partial bound rows
-partial-kept bound rows =
-    ap {A = List Numbered} {B = Parts}
-    (λ keeps_these. if bound.grouped then record { rows = []; groups = groups_of bound (map (λ r. r.1) keeps_these) } else
-    record { rows = keeps_these; groups = map_of.empty })
-    (filter-twice (λ (r : Numbered). keeps bound.filter r.1) rows)

@@ -1,9 +1,11 @@
 -- What callers know of the parts of a scan: what each may be asked, how they are merged, and what all of them are.
-use Rattle.std.proofs.Common.{◌≡◌, ℕ, zero, suc, ◌+◌, ◌-◌, ◌*◌, ◌/◌, ◌<◌, ◌≤◌, ◌^◌, min, List, [], ◌∷◌, ◌++◌, length, map, Option, Some, None, sym, ap, ◌∙◌, ⊎_elim, arith, append-nil}
+use Rattle.std.proofs.Common.{◌≡◌, ℕ, zero, suc, ◌+◌, ◌-◌, ◌*◌, ◌/◌, ◌<◌, ◌≤◌, ◌^◌, min, Bool, true, false, if◌then◌else◌, List, [], ◌∷◌, ◌++◌, length, map, Option, Some, None, refl, sym, subst, ap, ◌∙◌, ⊎_elim, arith, append-nil}
+use Rattle.std.specs.Prelude.{nat_le}
 use Rattle.std.specs.List.{AllByRecursion, fold, range_with_len, filter_map, cons_option}
 use Rattle.std.specs.Option.{ForSome, option_map}
 use Rattle.std.proofs.Math.Nat.{lt-mul-div-succ}
 use Rattle.std.proofs.lemmas.Bool.{cases_lt}
+use Rattle.std.proofs.lemmas.Bool.Decides.{nat_tests}
 use Rattle.std.proofs.lemmas.List.Elements.{filter_map-append}
 use Rattle.im_syntax.specs.declared.bound.Bound.{Bound}
 use Rattle.im_history.specs.declared.view.View.{View}
@@ -11,14 +13,14 @@ use Rattle.im_history.specs.Commits.{scn}
 use Rattle.im_history.specs.Grid.{extents_for}
 use Rattle.im_history.specs.History.{History}
 use Rattle.im_history.specs.Rows.{Row, rows, row_after, seen, present}
-use Rattle.im_history.specs.Units.{Content, rows_of_extent, stale}
+use Rattle.im_history.specs.Units.{Content, content_at, rows_of_extent, stale, unit as current}
 use Rattle.im_history.specs.Views.{per_at, seen_by}
 use Rattle.im_history.proofs.RowLaws.{rows-append}
-use Rattle.im_core.specs.Answers.{rows_in, committed_in}
+use Rattle.im_history.specs.Serving.{not_newer, serving, serving_content, rows_in, committed_in, fetched_by}
 use Rattle.im_group.specs.Partials.{Numbered, Parts, partial, merged, CanMerge}
 use Rattle.im_group.proofs.ForCallers.{merged-partial, CanMerge-partial}
 use Rattle.im_scan.specs.Parts.{MayAsk}
-use Rattle.im_scan.specs.Pinned.{IsPinned, seen_in, seen_to, seen_all}
+use Rattle.im_scan.specs.Pinned.{Serves, IsPinned, seen_in, seen_to, seen_all}
 use Rattle.im_scan.proofs.PinLemmas.{present-same}
 
 -- ---- what was pinned
@@ -27,6 +29,34 @@ use Rattle.im_scan.proofs.PinLemmas.{present-same}
 pub pinned-blocks : (h : History) (view : View) (extent : ℕ) (fetched : List (ℕ × Option Row)) → view.per ≡ per_at h view.table
     → fetched ≡ committed_in h view extent → IsPinned h view extent None fetched
 pinned-blocks h view extent fetched per is = record { per = per; serves = λ content some. absurd cc; is = is }
+
+not_newer-old : (scn : ℕ) (current : Option ℕ) (n : ℕ) → not_newer scn current ≡ Some n → n ≤ scn
+not_newer-old scn None n is = absurd cc
+not_newer-old scn (Some unit_scn) n is = by (nat_le unit_scn scn) refl is
+  where
+    by : (b : Bool) → nat_le unit_scn scn ≡ b → ◌≡◌ {A = Option ℕ} (if b then Some unit_scn else None) (Some n) → n ≤ scn
+    by true within some = let same : unit_scn ≡ n = cc in grind (arith, nat_tests, same, within)
+    by false newer some = absurd cc
+
+pinned-at : (h : History) (view : View) (extent : ℕ) (current : Option ℕ) → view.per ≡ per_at h view.table
+    → ((n : ℕ) → current ≡ Some n → n ≤ view.scn)
+    → IsPinned h view extent (option_map (content_at h view.table extent) current) (fetched_by h view extent current)
+pinned-at h view extent None per old = record { per = per; serves = λ content some. absurd cc; is = refl }
+pinned-at h view extent (Some n) per old = record { per = per; serves = served; is = refl }
+  where
+    served : (content : Content) → Some (content_at h view.table extent n) ≡ Some content → Serves h view extent content
+    served content some =
+        let same : content_at h view.table extent n ≡ content = cc in
+        let whole : Serves h view extent (content_at h view.table extent n) = record { holds = refl; old = old n refl } in
+        subst (Serves h view extent) same whole
+
+-- an extent that was pinned: the unit that serves the view was lent, and what is to be fetched beside it was fetched
+pub pinned-serving : (h : History) (view : View) (extent : ℕ) (unit : Option Content) (fetched : List (ℕ × Option Row))
+    → view.per ≡ per_at h view.table → unit ≡ serving_content h view extent
+    → fetched ≡ fetched_by h view extent (serving h view extent) → IsPinned h view extent unit fetched
+pinned-serving h view extent unit fetched per lent is =
+    rw (lent, is) (pinned-at h view extent (serving h view extent) per
+    (not_newer-old view.scn (current h view.table extent)))
 
 -- a query may be asked of each row that was ever committed to a table
 pub record MayAskOf (bound : Bound) (history : History) (table : ℕ) : Type 0 where

@@ -1,4 +1,5 @@
 mod SlotLemmas
+mod InPlace
 mod FitLemmas
 mod PartLemmas
 mod PinLemmas

@@ -1,5 +1,5 @@
 -- What a part is made of.
-use Rattle.std.proofs.Common.{◌≡◌, ℕ, ◌+◌, ◌*◌, ◌<◌, ◌^◌, List, length, Option, sym, ap, ◌∙◌, arith}
+use Rattle.std.proofs.Common.{◌≡◌, ℕ, ◌+◌, ◌*◌, ◌<◌, ◌^◌, List, length, Option, sym, ap, subst, ◌∙◌, arith}
 use Rattle.std.specs.List.{AllByRecursion}
 use Rattle.std.specs.Option.{option_copied}
 use Rattle.std.proofs.lemmas.List.{length-map}
@@ -11,11 +11,11 @@ use Rattle.im_history.specs.Grid.{extents_for}
 use Rattle.im_history.specs.Rows.{Row, present}
 use Rattle.im_history.specs.Units.{Content}
 use Rattle.im_history.proofs.GridLaws.{first_within}
-use Rattle.im_group.specs.Partials.{Numbered, Parts, kept, partial}
-use Rattle.im_scan.specs.Parts.{MayAsk, taken_row}
+use Rattle.im_group.specs.Partials.{Numbered}
+use Rattle.im_scan.specs.Parts.{taken_row}
 use Rattle.im_scan.specs.inner.Steps.{lent, gathered, numbered_from}
 use Rattle.im_scan.proofs.SlotLemmas.{are_taken, gathered-present}
-use Rattle.im_scan.proofs.FitLemmas.{MayScan, kept-fits, partial-kept, slots-fit}
+use Rattle.im_scan.proofs.FitLemmas.{MayScan, numbered_from-fits, slots-fit}
 
 -- an extent of a view, whose row numbers are cut into extents, begins at a row number of it
 pub begins : (view : View) (extent : ℕ) → view.extents ≡ extents_for view.rows view.per → extent < view.extents
@@ -34,25 +34,12 @@ module _ (unit : Option Content) (fetched : List (ℕ × Option Row)) (view : Vi
       (ap length are.is ∙ (are_taken unit fetched view first count).long) in
       omega (arith, within, long)
 
-  module _ (bound : Bound) where
-    pub slots-may : (slots : List (Option (Bor Row))) → MayScan bound unit fetched view.own → AreGathered slots
-        → AllByRecursion (MayAsk bound) (lent slots)
-    slots-may slots may are =
-        rw are.is (slots-fit bound unit fetched view first count (gathered unit fetched view first count) may
-        (are_taken unit fetched view first count))
-
-    pub rows-may : (slots : List (Option (Bor Row))) (rows : List Numbered) → MayScan bound unit fetched view.own
-        → AreGathered slots → rows ≡ kept bound (numbered_from first (lent slots))
-        → AllByRecursion (λ r. BoundFits r.1 bound) rows
-    rows-may slots rows may are keeps = kept-fits bound first (lent slots) rows (slots-may slots may are) keeps
-
-    pub rows-are : (slots : List (Option (Bor Row))) (rows : List Numbered) → AreGathered slots
-        → rows ≡ kept bound (numbered_from first (lent slots))
-        → rows ≡ kept bound (present (taken_row unit fetched view) first count)
-    rows-are slots rows are keeps =
-        keeps ∙ ap (kept bound) (ap (numbered_from first) are.is ∙ gathered-present unit fetched view first count)
-
--- the rows that a query keeps give it what all of them do
-pub part-is : (bound : Bound) (rows all : List Numbered) (answer : Parts) → answer ≡ partial bound rows → rows ≡ kept bound all
-    → answer ≡ partial bound all
-part-is bound rows all answer is keeps = is ∙ (ap (partial bound) keeps ∙ partial-kept bound all)
+-- a query may be asked of all rows that a scan takes
+pub taken-may : (bound : Bound) (unit : Option Content) (fetched : List (ℕ × Option Row)) (view : View) (first count : ℕ)
+    → MayScan bound unit fetched view.own
+    → AllByRecursion (λ r. BoundFits r.1 bound) (present (taken_row unit fetched view) first count)
+taken-may bound unit fetched view first count may =
+    subst (AllByRecursion (λ (r : Numbered). BoundFits r.1 bound)) (gathered-present unit fetched view first count)
+    (numbered_from-fits bound first (gathered unit fetched view first count)
+    (slots-fit bound unit fetched view first count (gathered unit fetched view first count) may
+    (are_taken unit fetched view first count)))

@@ -12,10 +12,10 @@ use Rattle.im_history.specs.Rows.{Row, rows, row_after, seen, present}
 use Rattle.im_history.specs.Units.{Content, content_at, rows_of_extent, stale, touched_between}
 use Rattle.im_history.specs.Views.{per_at, seen_by}
 use Rattle.im_history.proofs.StaleLaws.{rows-mended}
-use Rattle.im_core.specs.Answers.{rows_in, committed_in}
+use Rattle.im_history.specs.Serving.{rows_in, committed_in, fetched_by}
 use Rattle.im_unit.specs.Holding.{row_of}
 use Rattle.im_scan.specs.Parts.{unit_row, fetched_after, taken_row, taken_rows}
-use Rattle.im_scan.specs.Pinned.{Serves, stale_in, IsPinned, seen_in}
+use Rattle.im_scan.specs.Pinned.{Serves, IsPinned, seen_in}
 
 -- ---- a row number among those fetched
 
@@ -79,7 +79,7 @@ content-row h table extent n rid from below =
 
 fetched-stale : (h : History) (view : View) (extent rid : ℕ) (content : Content) (row : Option Row)
     → extent * per_at h view.table ≤ rid → rid < extent * per_at h view.table + per_at h view.table
-    → fold (fetched_after rid) row (stale_in h view extent content) ≡
+    → fold (fetched_after rid) row (fetched_by h view extent (Some content.scn)) ≡
     (if touched_between h content.scn view.scn view.table rid then rows h view.table view.scn rid else row)
 fetched-stale h view extent rid content row from below =
     looked-up (rows h view.table view.scn) (stale h view.table extent content.scn view.scn) rid row
@@ -89,7 +89,7 @@ fetched-stale h view extent rid content row from below =
 
 served-row : (h : History) (view : View) (extent rid : ℕ) (content : Content) → Serves h view extent content
     → extent * per_at h view.table ≤ rid → rid < extent * per_at h view.table + per_at h view.table
-    → fold (fetched_after rid) (row_of content rid) (stale_in h view extent content) ≡ rows h view.table view.scn rid
+    → fold (fetched_after rid) (row_of content rid) (fetched_by h view extent (Some content.scn)) ≡ rows h view.table view.scn rid
 served-row h view extent rid content serves from below =
     fetched-stale h view extent rid content (row_of content rid) from below
     ∙ (ap (λ (row : Option Row). if touched_between h content.scn view.scn view.table rid then rows h view.table view.scn rid

@@ -5,16 +5,17 @@ use Rattle.std.specs.List.{fold, cons_option}
 use Rattle.std.specs.Option.{option_copied, option_map}
 use Rattle.std.proofs.lemmas.Bool.{cases_lt}
 use Rattle.std.proofs.lemmas.Bool.Decides.{nat_tests}
-use Rattle.std.proofs.lemmas.List.{take_all, drop_all, get_or-set_same, get_or-set_other, length-map, length-set, length-take-le, map-set, map_more, map_push}
+use Rattle.std.proofs.lemmas.List.{take_all, drop_all, get_or-set_same, get_or-set_other, length-map, length-set, length-take-le, map-set, map_more, map_push, ext_get_or}
 use Rattle.std.proofs.lemmas.List.Elements.{filter-append}
 use Rattle.std.proofs.lemmas.List.FromFn.{length-map-range_with_len, get_or-map-range_with_len, map-range_with_len_more}
 use denote.Ref.{Bor}
-use Rattle.im_syntax.specs.declared.bound.Bound.{Bound}
 use Rattle.im_history.specs.declared.change.Change.{Change}
 use Rattle.im_history.specs.declared.view.View.{View}
+use Rattle.im_history.specs.Last.{Slot, ArePut}
 use Rattle.im_history.specs.Rows.{Row, row_after, present}
+use Rattle.im_history.proofs.LastLaws.{put-more, put-all}
 use Rattle.im_history.specs.Units.{Content}
-use Rattle.im_group.specs.Partials.{Numbered, keeps, kept}
+use Rattle.im_group.specs.Partials.{Numbered}
 use Rattle.im_scan.specs.Parts.{unit_row, fetched_after, taken_row}
 use Rattle.im_scan.specs.inner.Steps.{lent, unit_rows, put_at, with_fetched, with_change, with_changes, gathered, numbered, numbered_from}
 
@@ -87,7 +88,7 @@ length-with_fetched first slots [] = refl
 length-with_fetched first slots (f ∷ fetched) =
     length-with_fetched first (put_at first slots f.0 f.1) fetched ∙ length-put_at first slots f.0 f.1
 
-at-with_fetched : (first : ℕ) (slots : List (Option Row)) (fetched : List (ℕ × Option Row)) (i : ℕ) → i < length slots
+pub at-with_fetched : (first : ℕ) (slots : List (Option Row)) (fetched : List (ℕ × Option Row)) (i : ℕ) → i < length slots
     → get_or (with_fetched first slots fetched) i None ≡ fold (fetched_after (first + i)) (get_or slots i None) fetched
 at-with_fetched first slots [] i within = refl
 at-with_fetched first slots (f ∷ fetched) i within =
@@ -127,6 +128,24 @@ at-with_changes table first slots (change ∷ changes) i within =
     (let same = length-with_change table first slots change in omega (arith, same, within))
     ∙ ap (λ (row : Option Row). fold (row_after table (first + i)) row changes)
     (at-with_change table first slots change i within)
+
+-- ---- what the own changes left
+
+pub own-more : (view : View) (first rid : ℕ) (row : Option Row) (left : List Slot) (before now new : List (Option Row))
+    → ArePut view.own view.table first ((rid, row) ∷ left) before now → new ≡ put_at first now rid row
+    → ArePut view.own view.table first left before new
+own-more view first rid row left before now new are is =
+    put-more view.own view.table first (rid, row) left before now new are (ap length is ∙ length-put_at first now rid row)
+    (λ place within. ap (λ (l : List (Option Row)). get_or l place None) is ∙ at-put_at first now rid place row within)
+
+pub own-all : (view : View) (first : ℕ) (before now : List (Option Row)) → ArePut view.own view.table first [] before now
+    → now ≡ with_changes view.table first before view.own
+own-all view first before now are =
+    ext_get_or None now (with_changes view.table first before view.own)
+    (are.long ∙ sym (length-with_changes view.table first before view.own))
+    (λ place within.
+    let inside : place < length before = let long = are.long in omega (arith, within, long) in
+    put-all view.own view.table first before now are place inside ∙ sym (at-with_changes view.table first before view.own place inside))
 
 -- ---- what is gathered
 
@@ -171,25 +190,37 @@ written_back n xs ys n_is long =
     let none : drop (length xs) ys ≡ [] = drop_all (length xs) ys (omega (arith, long)) in
     rw (none, append-nil xs) (take_all n xs (omega (arith, n_is, long)))
 
+lent-back : (n : ℕ) (slots new : List (Option (Bor Row))) → n ≡ length slots → length (lent new) ≡ length (lent slots)
+    → lent (take n (new ++ drop (length new) slots)) ≡ lent new
+lent-back n slots new n_is same =
+    ap lent (written_back n new slots n_is (sym (length-map new option_copied) ∙ (same ∙ length-map slots option_copied)))
+
+-- there are as many slots as row numbers
+pub length-committed : (unit : Option Content) (fetched : List (ℕ × Option Row)) (first count : ℕ) (slots : List (Option (Bor Row)))
+    → lent slots ≡ with_fetched first (unit_rows unit first count) fetched → length slots ≡ count
+length-committed unit fetched first count slots is =
+    sym (length-map slots option_copied)
+    ∙ (ap length is
+    ∙ (length-with_fetched first (unit_rows unit first count) fetched ∙ length-map-range_with_len (unit_row unit) first count))
+
+-- what was fetched, put over what the unit has
+pub fetched-back : (unit : Option Content) (fetched : List (ℕ × Option Row)) (first count n : ℕ)
+    (slots new : List (Option (Bor Row)))
+    → n ≡ length slots → lent slots ≡ unit_rows unit first count → lent new ≡ with_fetched first (lent slots) fetched
+    → lent (take n (new ++ drop (length new) slots)) ≡ with_fetched first (unit_rows unit first count) fetched
+fetched-back unit fetched first count n slots new n_is shown put =
+    lent-back n slots new n_is (ap length put ∙ length-with_fetched first (lent slots) fetched)
+    ∙ (put ∙ ap (λ (l : List (Option Row)). with_fetched first l fetched) shown)
+
+-- and the view's own changes, put over that
 pub gathered-back : (unit : Option Content) (fetched : List (ℕ × Option Row)) (view : View) (first count n : ℕ)
     (slots new : List (Option (Bor Row)))
-    → n ≡ length slots → lent slots ≡ unit_rows unit first count
-    → lent new ≡ with_changes view.table first (with_fetched first (lent slots) fetched) view.own
+    → n ≡ length slots → lent slots ≡ with_fetched first (unit_rows unit first count) fetched
+    → lent new ≡ with_changes view.table first (lent slots) view.own
     → lent (take n (new ++ drop (length new) slots)) ≡ gathered unit fetched view first count
 gathered-back unit fetched view first count n slots new n_is shown put =
-    ap lent (written_back n new slots n_is same) ∙ all
-  where
-    all : lent new ≡ gathered unit fetched view first count
-    all = put ∙ ap (λ (l : List (Option Row)). with_changes view.table first (with_fetched first l fetched) view.own) shown
-
-    same : length new ≡ length slots
-    same =
-        sym (length-map new option_copied)
-        ∙ (ap length all
-        ∙ ((are_taken unit fetched view first count).long
-        ∙ (sym (length-map-range_with_len (unit_row unit) first count)
-        ∙ (sym (ap length shown)
-        ∙ length-map slots option_copied))))
+    lent-back n slots new n_is (ap length put ∙ length-with_changes view.table first (lent slots) view.own)
+    ∙ (put ∙ ap (λ (l : List (Option Row)). with_changes view.table first l view.own) shown)
 
 -- ---- those that there are
 
@@ -219,7 +250,7 @@ gathered-present unit fetched view first count =
     numbered_from-present (taken_row unit fetched view) first (gathered unit fetched view first count) taken.at
     ∙ ap (present (taken_row unit fetched view) first) taken.long
 
--- ---- one more row kept
+-- ---- one more row numbered
 
 numbered_from-push : (first : ℕ) (slots : List (Option Row)) (slot : Option Row) (rid : ℕ) → first + length slots ≡ rid
     → numbered_from first (slots ++ slot ∷ []) ≡ numbered_from first slots ++ numbered rid slot
@@ -233,20 +264,18 @@ numbered_from-push first (s ∷ slots) slot rid is =
     ap (λ (l : List Numbered). numbered first s ++ l) (numbered_from-push (first + 1) slots slot rid (omega (arith, is)))
     ∙ sym (append_assoc (numbered first s) (numbered_from (first + 1) slots) (numbered rid slot))
 
-pub kept-more : (bound : Bound) (first : ℕ) (slots : List (Option (Bor Row))) (i : ℕ) (row : Option (Bor Row))
+pub numbered-more : (first : ℕ) (slots : List (Option (Bor Row))) (i : ℕ) (row : Option (Bor Row))
     (rows longer : List Numbered)
-    → i < length slots → row ≡ get_or slots i row → rows ≡ kept bound (numbered_from first (lent (take i slots)))
-    → longer ≡ rows ++ kept bound (numbered (first + i) (option_copied row))
-    → longer ≡ kept bound (numbered_from first (lent (take (i + 1) slots)))
-kept-more bound first slots i row rows longer within is so_far pushed =
+    → i < length slots → row ≡ get_or slots i row → rows ≡ numbered_from first (lent (take i slots))
+    → longer ≡ rows ++ numbered (first + i) (option_copied row)
+    → longer ≡ numbered_from first (lent (take (i + 1) slots))
+numbered-more first slots i row rows longer within is so_far pushed =
     pushed
-    ∙ (ap (λ (l : List Numbered). l ++ kept bound (numbered (first + i) (option_copied row))) so_far
-    ∙ (sym (filter-append (λ r. keeps bound.filter r.1) (numbered_from first (lent (take i slots)))
-    (numbered (first + i) (option_copied row)))
-    ∙ (ap (kept bound) (sym (numbered_from-push first (lent (take i slots)) (option_copied row) (first + i) long))
-    ∙ ap (λ (l : List (Option Row)). kept bound (numbered_from first l))
+    ∙ (ap (λ (l : List Numbered). l ++ numbered (first + i) (option_copied row)) so_far
+    ∙ (sym (numbered_from-push first (lent (take i slots)) (option_copied row) (first + i) long)
+    ∙ ap (numbered_from first)
     (sym (map_more option_copied slots i row within ∙ ap
-    (λ (r : Option (Bor Row)). lent (take i slots) ++ option_copied r ∷ []) (sym is))))))
+    (λ (r : Option (Bor Row)). lent (take i slots) ++ option_copied r ∷ []) (sym is)))))
   where
     long : first + length (lent (take i slots)) ≡ first + i
     long = ap (λ (n : ℕ). first + n) (length-map (take i slots) option_copied ∙ length-take-le i slots (omega (arith, within)))

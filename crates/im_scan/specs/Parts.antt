@@ -6,7 +6,7 @@ use Rattle.im_syntax.specs.BoundFits.{BoundFits}
 use Rattle.im_history.specs.declared.view.View.{View}
 use Rattle.im_history.specs.Rows.{Row, row_after, present}
 use Rattle.im_history.specs.Units.{Content}
-use Rattle.im_core.specs.Answers.{rows_in}
+use Rattle.im_history.specs.Serving.{rows_in}
 use Rattle.im_group.specs.Partials.{Numbered, Parts, partial}
 use Rattle.im_unit.specs.Holding.{row_of}
 

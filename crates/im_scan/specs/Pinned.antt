@@ -1,12 +1,12 @@
 -- What is known of an extent that was pinned for a view.
-use Rattle.std.specs.Prelude.{◌≡◌, ℕ, ◌*◌, ◌≤◌, min, List, map, Option, Some, None}
-use Rattle.std.specs.Option.{ForSome}
+use Rattle.std.specs.Prelude.{◌≡◌, ℕ, ◌*◌, ◌≤◌, min, List, Option}
+use Rattle.std.specs.Option.{ForSome, option_map}
 use Rattle.im_history.specs.declared.view.View.{View}
 use Rattle.im_history.specs.History.{History}
-use Rattle.im_history.specs.Rows.{Row, rows, present}
-use Rattle.im_history.specs.Units.{Content, content_at, stale}
+use Rattle.im_history.specs.Rows.{Row, present}
+use Rattle.im_history.specs.Units.{Content, content_at}
 use Rattle.im_history.specs.Views.{per_at, seen_by}
-use Rattle.im_core.specs.Answers.{committed_in, rows_in}
+use Rattle.im_history.specs.Serving.{fetched_by, rows_in}
 use Rattle.im_group.specs.Partials.{Numbered}
 
 -- a unit serves a view: it holds the rows of the extent at its SCN, and that is not later than the view's
@@ -14,15 +14,9 @@ pub record Serves (history : History) (view : View) (extent : ℕ) (content : Co
   pub holds : content ≡ content_at history view.table extent content.scn
   pub old : content.scn ≤ view.scn
 
--- the row numbers that a unit's journal calls stale at the view's SCN, each with the row committed at that SCN
-abbrev pub stale_in : History → View → ℕ → Content → List (ℕ × Option Row)
-stale_in history view extent content =
-    map (λ rid. (rid, rows history view.table view.scn rid)) (stale history view.table extent content.scn view.scn)
-
 -- what is fetched from the versions: the stale rows beside a unit, and else all rows of the extent
 abbrev pub fetched_in : History → View → ℕ → Option Content → List (ℕ × Option Row)
-fetched_in history view extent None = committed_in history view extent
-fetched_in history view extent (Some content) = stale_in history view extent content
+fetched_in history view extent unit = fetched_by history view extent (option_map (λ content. content.scn) unit)
 
 -- an extent was pinned for a view at this history: a unit was lent that serves the view, or none, and this was fetched
 pub record IsPinned (history : History) (view : View) (extent : ℕ) (unit : Option Content) (fetched : List (ℕ × Option Row))

@@ -1,12 +1,12 @@
-ghost use Rattle.std.specs.Prelude.{◌≡◌, ◌+◌, ◌<◌, ◌^◌, IfOk};
-ghost use Rattle.std.specs.Option.{option_copied};
+ghost use Rattle.std.specs.Prelude.{◌≡◌, ◌+◌, ◌<◌, ◌^◌, length, None, IfOk};
+ghost use Rattle.std.specs.Option.{ForSome, option_copied};
 ghost use Rattle.im_scan.specs.Faces.{unit_of};
 ghost use Rattle.im_unit.specs.Holding as holding;
 ghost use Rattle.im_scan.specs.Parts.{unit_row};
-ghost use Rattle.im_scan.specs.inner.Steps.{gathered, lent, put_at, unit_rows, with_change, with_changes, with_fetched};
+ghost use Rattle.im_scan.specs.inner.Steps.{gathered, lent, put_at, unit_rows, with_changes, with_fetched};
 
 use crate::faces::Face;
-use im_history::{Change, View};
+use im_history::View;
 use im_unit::ColumnUnit;
 use im_values::{NoMemory, Row};
 use std::alloc::Global;
@@ -67,41 +67,94 @@ fn put_fetched<'a>(slots: &mut [Option<&'a Row>], first: u64, fetched: &'a [(u64
     }
 }
 
-/// Puts a change, if it is one to the table.
-fn put_change<'a>(slots: &mut [Option<&'a Row>], table: u32, first: u64, change: &'a Change)
-    ensures { lent slots.new ≡ with_change table first (lent slots.old) change.now }
+/// Puts what the view's own changes left: of each row number what the last change to it left.
+///
+/// It costs those of the row numbers that the view's own changes are to.
+fn put_own<'a>(slots: &mut [Option<&'a Row>], first: u64, view: &'a View)
+    requires { first + length slots.old < 2 ^ 64 }
+    ensures { lent slots.new ≡ with_changes view.now.table first (lent slots.old) view.now.own }
 {
-    if change.table == table {
-        put(slots, first, change.rid, &change.row);
+    let count = slots.len() as u64;
+    for (rid, row) in view.own.between(view.table, first, count) {
+        put(slots, first, *rid, row);
     }
 }
 
-/// Puts the changes to the table, in order.
-fn put_changes<'a>(slots: &mut [Option<&'a Row>], table: u32, first: u64, changes: &'a [Change])
-    ensures { lent slots.new ≡ with_changes table first (lent slots.old) changes.now }
-{
-    for change in changes {
-        put_change(slots, table, first, change);
-    }
-}
-
-/// Puts what was fetched, and then the changes of the view's own.
-fn put_all<'a>(
-    slots: &mut [Option<&'a Row>],
-    first: u64,
+/// The rows that a face shows, with what was fetched in their place.
+fn overlaid<'a>(
+    alloc: Global,
+    face: Face<'a>,
     fetched: &'a [(u64, Option<Row>)],
-    view: &'a View,
-)
-    ensures { lent slots.new
-        ≡ with_changes view.now.table first (with_fetched first (lent slots.old) fetched.now) view.now.own }
+    first: u64,
+    count: u64,
+) -> Result<Vec<Option<&'a Row>>, NoMemory>
+    requires { first + count < 2 ^ 64 }
+    ensures { IfOk result (λ slots. lent slots.items ≡ with_fetched first (unit_rows (unit_of face.entry) first count) fetched.now) }
 {
-    put_fetched(slots, first, fetched);
-    put_changes(slots, view.table, first, view.own.items());
+    let mut slots = shown_rows(alloc, face, first, count)?;
+    put_fetched(slots.as_mut_slice(), first, fetched);
+    Ok(slots)
+}
+
+/// The rows that were fetched, where these are of all row numbers from the first on, in order.
+fn in_place<'a>(
+    alloc: Global,
+    fetched: &'a [(u64, Option<Row>)],
+    first: u64,
+) -> Result<Option<Vec<Option<&'a Row>>>, NoMemory>
+    requires { first + length fetched.now < 2 ^ 64 }
+    ensures { IfOk result (λ slots. ForSome slots (λ slots.
+        lent slots.items ≡ with_fetched first (unit_rows None first (length fetched.now)) fetched.now)) }
+{
+    let mut slots = Vec::with_capacity(alloc, fetched.len())?;
+    for (i, (rid, row)) in fetched.iter().enumerate() {
+        if *rid != first + i as u64 {
+            return Ok(None);
+        }
+        slots.push(row.as_ref())?;
+    }
+    Ok(Some(slots))
+}
+
+/// The rows that were fetched of an extent without a unit. Where each row number was fetched, in order, nothing is laid below
+/// them.
+fn bare_rows<'a>(
+    alloc: Global,
+    fetched: &'a [(u64, Option<Row>)],
+    first: u64,
+    count: u64,
+) -> Result<Vec<Option<&'a Row>>, NoMemory>
+    requires { first + count < 2 ^ 64 }
+    ensures { IfOk result (λ slots. lent slots.items ≡ with_fetched first (unit_rows None first count) fetched.now) }
+{
+    if fetched.len() as u64 == count {
+        if let Some(slots) = in_place(alloc, fetched, first)? {
+            return Ok(slots);
+        }
+    }
+    overlaid(alloc, Face::Bare, fetched, first, count)
+}
+
+/// The rows before the changes of the view's own: what was fetched, else what the face shows.
+fn committed_rows<'a>(
+    alloc: Global,
+    face: Face<'a>,
+    fetched: &'a [(u64, Option<Row>)],
+    first: u64,
+    count: u64,
+) -> Result<Vec<Option<&'a Row>>, NoMemory>
+    requires { first + count < 2 ^ 64 }
+    ensures { IfOk result (λ slots. lent slots.items ≡ with_fetched first (unit_rows (unit_of face.entry) first count) fetched.now) }
+{
+    match face {
+        Face::Whole(_) => overlaid(alloc, face, fetched, first, count),
+        Face::Bare => bare_rows(alloc, fetched, first, count),
+    }
 }
 
 /// The rows that a scan takes at so many row numbers from the first on. They stay where they are.
 ///
-/// It costs the row numbers, what was fetched, and one pass over the view's own changes.
+/// It costs the row numbers, what was fetched, and those of the row numbers that the view's own changes are to.
 pub fn gather<'a>(
     alloc: Global,
     face: Face<'a>,
@@ -113,7 +166,7 @@ pub fn gather<'a>(
     requires { first + count < 2 ^ 64 }
     ensures { IfOk result (λ slots. lent slots.items ≡ gathered (unit_of face.entry) fetched.now view.now first count) }
 {
-    let mut slots = shown_rows(alloc, face, first, count)?;
-    put_all(slots.as_mut_slice(), first, fetched, view);
+    let mut slots = committed_rows(alloc, face, fetched, first, count)?;
+    put_own(slots.as_mut_slice(), first, view);
     Ok(slots)
 }

@@ -2,3 +2,4 @@ pub mod Told
 pub mod Cuts
 pub mod Once
 pub mod Sessions
+pub mod Feeds

@@ -6,7 +6,7 @@ use Rattle.im_syntax.specs.declared.statement.Side.{Side}
 use Rattle.im_syntax.specs.declared.statement.Side.TheVariants as side
 use Rattle.im_syntax.specs.declared.statement.Stmt.{Stmt}
 use Rattle.im_syntax.specs.Rules.{IsStmtOf}
-use Rattle.im_lex.specs.Lexing.{Lexes, IsBadAt}
+use Rattle.im_lex.specs.Lexing.{Lexes, IsBadAt, tokens_of, places_of}
 use Rattle.im_lex.proofs.Rounds.{from_lexes, from_bad}
 use Rattle.im_parse.specs.Parsing.{IsPlaceAmong}
 use Rattle.im_parse.proofs.Places.{same_spelling}
@@ -14,7 +14,7 @@ use Rattle.im_script.specs.declared.form.Form.{Form}
 use Rattle.im_script.specs.declared.form.Form.TheVariants as form
 use Rattle.im_script.specs.declared.line.LineKind.{LineKind}
 use Rattle.im_script.specs.declared.line.LineKind.TheVariants as kind
-use Rattle.im_script.specs.Lines.{tokens_of, places_of, byte_of, Says, statement, bad_byte, bad_token, no_memory, HasKind}
+use Rattle.im_script.specs.Lines.{byte_of, Says, statement, bad_byte, bad_token, no_memory, HasKind}
 
 abbrev Tokens : Type 0
 Tokens = List (Token × ℕ)

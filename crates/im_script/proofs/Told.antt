@@ -6,12 +6,12 @@ use Rattle.im_syntax.specs.declared.statement.Side.{Side}
 use Rattle.im_syntax.specs.declared.statement.Stmt.{Stmt}
 use Rattle.im_lex.specs.declared.lexing.LexFault.{LexFault}
 use Rattle.im_lex.specs.declared.lexing.LexFault.TheVariants as lex_fault
-use Rattle.im_lex.specs.Lexing.{Lexes, ends, skips, takes, IsBadAt, is_bad, behind_blank, behind_token, IsBadByte}
+use Rattle.im_lex.specs.Lexing.{Lexes, ends, skips, takes, IsBadAt, is_bad, behind_blank, behind_token, IsBadByte, tokens_of, places_of, AreLexed}
 use Rattle.im_lex.proofs.Fits.{token_all_fits}
 use Rattle.im_script.specs.declared.reading.Trouble.{Trouble}
 use Rattle.im_script.specs.declared.reading.Trouble.TheVariants as trouble
 use Rattle.im_script.specs.declared.line.LineKind.TheVariants as kind
-use Rattle.im_script.specs.Lines.{tokens_of, places_of, Says, statement, bad_byte, bad_token, no_memory}
+use Rattle.im_script.specs.Lines.{Says, statement, bad_byte, bad_token, no_memory}
 use Rattle.im_script.specs.inner.Troubles.{trouble_of_byte, FitsByte, FitPlaces, IsParsed, IsTold}
 
 -- the first bad byte stands in the line
@@ -59,3 +59,16 @@ told_parsed whose before line ts (Ok s) l p = record { says = λ of. statement t
 told_parsed whose before line ts (Err trouble.NoMemory) l p = record { says = λ of. no_memory }
 told_parsed whose before line ts (Err (trouble.Bad b)) l p =
     record { says = λ of. subst (λ (x : ℕ). Says whose before line of (kind.Bad x)) (sym p.2) (bad_token ts p.0 l p.1) }
+
+-- the same of tokens and places apart
+pub lexed_fit : (before : ℕ) (line : List ℕ) (tokens : List Token) (places : List ℕ) → before ≤ length line → length line < 2 ^ 32
+    → AreLexed (drop before line) tokens places → FitPlaces before (length line) places
+lexed_fit before line tokens places le short l =
+    subst (λ (x : List ℕ). FitPlaces before (length line) x) (sym l.apart.places_are) (places_fit before line l.pairs le short l.lexes)
+
+pub told_lexed : (whose : Side) (before : ℕ) (line : List ℕ) (tokens : List Token) (places : List ℕ) (r : Result Stmt Trouble)
+    → AreLexed (drop before line) tokens places → IsParsed whose before (length line) tokens places r → IsTold whose before line r
+told_lexed whose before line tokens places r l p =
+    let by_tokens = subst (λ (x : List Token). IsParsed whose before (length line) x places r) l.apart.tokens_are p in
+    told_parsed whose before line l.pairs r l.lexes
+    (subst (λ (x : List ℕ). IsParsed whose before (length line) (tokens_of l.pairs) x r) l.apart.places_are by_tokens)

@@ -1,5 +1,5 @@
 -- What the lines of a script are.
-use Rattle.std.specs.Prelude.{◌≡◌, ℕ, ◌+◌, ◌≤◌, nat_lt, List, [], ◌∷◌, length, drop, map, slice_index, if◌then◌else◌, Option, Some, IfSome}
+use Rattle.std.specs.Prelude.{◌≡◌, ℕ, ◌+◌, ◌≤◌, nat_lt, List, [], ◌∷◌, length, drop, slice_index, if◌then◌else◌, Option, Some, IfSome}
 use Rattle.im_values.specs.declared.limits.TheConstants.{SESSIONS}
 use Rattle.im_syntax.specs.declared.token.Token.{Token}
 use Rattle.im_syntax.specs.declared.statement.Side.{Side}
@@ -7,7 +7,7 @@ use Rattle.im_syntax.specs.declared.statement.Side.TheVariants as side
 use Rattle.im_syntax.specs.declared.statement.Stmt.{Stmt}
 use Rattle.im_syntax.specs.Spelling.{spelling}
 use Rattle.im_syntax.specs.Rules.{IsStmtOf}
-use Rattle.im_lex.specs.Lexing.{Lexes, IsBadAt}
+use Rattle.im_lex.specs.Lexing.{Lexes, IsBadAt, tokens_of, places_of}
 use Rattle.im_parse.specs.Parsing.{IsPlaceAmong}
 use Rattle.im_script.specs.declared.form.Form.{Form}
 use Rattle.im_script.specs.declared.form.Form.TheVariants as form
@@ -15,12 +15,6 @@ use Rattle.im_script.specs.declared.line.LineKind.{LineKind}
 use Rattle.im_script.specs.declared.line.LineKind.TheVariants as kind
 use Rattle.im_script.specs.declared.line.Line.{Line}
 use Rattle.im_script.specs.Forms.{first_of, form_of, who_of}
-
-abbrev pub tokens_of : List (Token × ℕ) → List Token
-tokens_of ts = map (λ t. t.0) ts
-
-abbrev pub places_of : List (Token × ℕ) → List ℕ
-places_of ts = map (λ t. t.1) ts
 
 -- The byte of a token, from 1: so many bytes stand before the statement. Behind the last token it is one past the line.
 abbrev pub byte_of : ℕ → ℕ → List ℕ → ℕ → ℕ

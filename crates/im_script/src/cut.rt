@@ -2,12 +2,17 @@ ghost use Rattle.std.specs.Prelude.{◌≡◌, ◌==◌, ◌∷◌, ◌+◌, ◌
 ghost use Rattle.std.specs.List.{prefix_len};
 ghost use Rattle.im_script.specs.Forms.{lines_of};
 
+use memchr::memchr;
+
 /// How many bytes stand before the first line feed, or in all.
 fn line_len(text: &[u8]) -> usize
     ensures len { result ≡ prefix_len (λ byte. not (byte == 10)) text.now }
     ensures within { result ≤ length text.now }
 {
-    text.iter().take_while(|byte| **byte != b'\n').count()
+    match memchr(b'\n', text) {
+        Some(place) => place,
+        None => text.len(),
+    }
 }
 
 /// The first line of a text that is not empty, and what stands behind its line feed.

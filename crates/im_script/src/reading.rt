@@ -1,4 +1,4 @@
-ghost use Rattle.std.specs.Prelude.{◌≡◌, ◌+◌, ◌≤◌, ◌<◌, ◌^◌, length, IfOk};
+ghost use Rattle.std.specs.Prelude.{◌≡◌, ◌+◌, ◌≤◌, ◌<◌, ◌^◌, length};
 ghost use Rattle.im_syntax.specs.declared.statement.Side.TheVariants as side;
 ghost use Rattle.im_script.specs.declared.line.LineKind.TheVariants as kind;
 ghost use Rattle.im_script.specs.Forms as forms;
@@ -8,32 +8,10 @@ ghost use Rattle.im_script.specs.inner.Troubles as troubles;
 use crate::form::Form;
 use crate::forms::{first, form, who};
 use crate::line::{Line, LineKind};
-use im_lex::{LexFault, behind, tokens};
+use im_lex::{LexFault, Lexed, behind, lex};
 use im_parse::{ParseFault, parse_for};
-use im_syntax::{Side, Stmt, Token};
-use im_values::NoMemory;
+use im_syntax::{Side, Stmt};
 use std::alloc::Global;
-
-/// Tokens apart from their places.
-#[derive(Drop)]
-struct Parted {
-    tokens: Vec<Token>,
-    places: Vec<u64>,
-}
-
-/// The tokens and their places, each in a list of its own. No token is copied.
-fn part(alloc: Global, lexed: Vec<(Token, u64)>) -> Result<Parted, NoMemory>
-    ensures tokens { IfOk result (λ p. p.tokens.items ≡ lines_are.tokens_of lexed.items) }
-    ensures places { IfOk result (λ p. p.places.items ≡ lines_are.places_of lexed.items) }
-{
-    let mut tokens = Vec::with_capacity(alloc, lexed.len())?;
-    let mut places = Vec::with_capacity(alloc, lexed.len())?;
-    for (token, place) in lexed {
-        tokens.push(token)?;
-        places.push(place)?;
-    }
-    Ok(Parted { tokens, places })
-}
 
 /// The byte of the n-th token, from 1, or the one past the line.
 fn byte_of(before: usize, long: usize, places: &[u64], n: u64) -> u64
@@ -80,14 +58,14 @@ fn parsed(
     side: Side,
     before: usize,
     long: usize,
-    parted: Parted,
+    lexed: Lexed,
 ) -> Result<Stmt, Trouble>
-    requires { troubles.FitPlaces before long parted.places.items }
-    ensures { troubles.IsParsed side before long parted.tokens.items parted.places.items result }
+    requires { troubles.FitPlaces before long lexed.places.items }
+    ensures { troubles.IsParsed side before long lexed.tokens.items lexed.places.items result }
 {
-    match parse_for(alloc, side, parted.tokens.as_slice()) {
+    match parse_for(alloc, side, lexed.tokens.as_slice()) {
         Ok(stmt) => Ok(stmt),
-        Err(fault) => Err(trouble_of_place(before, long, parted.places.as_slice(), fault)),
+        Err(fault) => Err(trouble_of_place(before, long, lexed.places.as_slice(), fault)),
     }
 }
 
@@ -97,11 +75,8 @@ fn statement(alloc: Global, side: Side, before: usize, line: &[u8]) -> Result<St
     requires short { length line.now < 2 ^ 32 }
     ensures { troubles.IsTold side before line.now result }
 {
-    match tokens(alloc, behind(line, before)) {
-        Ok(lexed) => match part(alloc, lexed) {
-            Ok(parted) => parsed(alloc, side, before, line.len(), parted),
-            Err(NoMemory) => Err(Trouble::NoMemory),
-        },
+    match lex(alloc, behind(line, before)) {
+        Ok(lexed) => parsed(alloc, side, before, line.len(), lexed),
         Err(fault) => Err(trouble_of_byte(before, fault)),
     }
 }

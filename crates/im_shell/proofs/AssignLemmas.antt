@@ -1,6 +1,6 @@
 -- A row that fits its table still does once values that may stand there are assigned to its columns.
 use Rattle.std.proofs.lemmas.List.{length-set}
-use Rattle.std.proofs.Common.{◌≡◌, ◌&&◌, length, ℕ, zero, suc, Bool, true, false, List, [], ◌∷◌, Option, Some, None, refl, ap, ◌∙◌, sym}
+use Rattle.std.proofs.Common.{◌≡◌, ◌&&◌, length, ℕ, zero, suc, Bool, true, false, List, [], ◌∷◌, Some, refl, ◌∙◌}
 use Rattle.std.specs.Prelude.{slice_set, slice_get}
 use Rattle.std.specs.List.{AllByRecursion}
 use Rattle.im_values.specs.declared.schema.Column.{Column}

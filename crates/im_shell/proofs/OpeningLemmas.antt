@@ -1,5 +1,5 @@
 -- A scan's plan, from its opening to its end.
-use Rattle.std.proofs.Common.{◌≡◌, ℕ, zero, suc, ◌+◌, ◌≤◌, ◌==◌, Bool, false, true, if◌then◌else◌, List, [], fold, length, Option, Some, None, refl, sym, ap, ◌∙◌, subst}
+use Rattle.std.proofs.Common.{◌≡◌, ℕ, zero, suc, ◌+◌, ◌≤◌, ◌==◌, Bool, false, true, if◌then◌else◌, List, [], fold, length, Option, None, refl, sym, ap, ◌∙◌, subst}
 use Rattle.std.specs.List.{cons_option, list_any}
 use Rattle.std.specs.Option.{option_map}
 use Rattle.im_core.specs.Seen.{Seen, Adds}
@@ -18,7 +18,8 @@ use Rattle.im_history.proofs.RowLaws.{rows-push_quiet}
 use Rattle.im_plan.specs.Plan.{Plan}
 use Rattle.im_values.specs.declared.limits.TheConstants.{MOST_ROWS}
 use Rattle.im_replies.specs.declared.reply.Reply.{Reply}
-use Rattle.im_shell.specs.inner.Scans.{IsOpening, EachSeen, seen_in, shut_by}
+use Rattle.im_scan.specs.Pinned.{seen_all}
+use Rattle.im_shell.specs.inner.Scans.{IsOpening, shut_by}
 use Rattle.im_shell.specs.Statements.{seen_rows}
 use Rattle.im_shell.specs.Turns.{or_told, unless_refused, scan}
 use Rattle.im_shell.specs.inner.Answers.{IsRest}
@@ -49,7 +50,7 @@ present-same f g first (suc count) same =
     ∙ ap (cons_option (option_map (λ row. (first, row)) (g first))) (present-same f g (first + 1) count same)
 
 -- what is seen after the opening is what the session sees before it
-seen-opening : (h : History) (who : ℕ) (view : View) → (o : IsOpening h who view) → seen_in h view ≡ seen_rows o.before who o.table
+seen-opening : (h : History) (who : ℕ) (view : View) → (o : IsOpening h who view) → seen_all h view ≡ seen_rows o.before who o.table
 unfolding seen
 seen-opening h who view o =
     present-same (seen_by h view) (seen_by o.before view) 0 view.rows
@@ -62,7 +63,7 @@ seen-opening h who view o =
 pub scan-done : (who table : ℕ) (old middle late new : Seen) (view : View) (tail : ℕ → ℕ → List (ℕ × Row) → Plan Reply) (reply : Reply) →
     Exists old.log table → opened old.log who ≡ [] → open_refusal old.log who 0 ≡ None → Adds old who (what.Open 0 table) middle →
     view ≡ view_at old.log who table → 1 ≤ view.per → view.rows ≤ MOST_ROWS →
-    IsRest who 1 middle (tail view.place view.scn (seen_in middle.log view)) reply (shut_by who late) → Adds late who (what.Shut 0) new →
+    IsRest who 1 middle (tail view.place view.scn (seen_all middle.log view)) reply (shut_by who late) → Adds late who (what.Shut 0) new →
     IsRest who 0 old (scan who table (λ at. tail (length at) (snapshot at who) (seen_rows at who table))) reply new
 scan-done who table old middle late new view tail reply exists shut allowed added view_is some few rest ended =
     rest-adds who 0 old (what.Open 0 table) (λ at. unless_refused (open_refusal at who 0) (what.Open 0 table))
@@ -77,7 +78,7 @@ scan-done who table old middle late new view tail reply exists shut allowed adde
     o : IsOpening middle.log who view
     o = opening-of old middle who table view exists shut added view_is some few
 
-    same : tail view.place view.scn (seen_in middle.log view) ≡ on old.log
+    same : tail view.place view.scn (seen_all middle.log view) ≡ on old.log
     same =
         ap (λ (rows : List (ℕ × Row)). tail view.place view.scn rows) (seen-opening middle.log who view o)
         ∙ ap (λ (v : View). tail v.place v.scn (seen_rows old.log who table)) view_is
@@ -103,8 +104,3 @@ seen_by-opening h who rid view o =
     (ap (λ (log : History). rows log view.table view.scn rid) o.is
     ∙ rows-push_quiet o.before (record { who = who; what = what.Open 0 o.table }) view.table view.scn rid refl)
     ∙ ap (λ (v : View). seen_by o.before v rid) o.view_is
-
--- what holds of each row that a session sees holds of each that its opening sees
-pub each-opening : (P : Row → Type 0) (h : History) (who : ℕ) (view : View) → (o : IsOpening h who view) →
-    ((rid : ℕ) (row : Row) → seen_by o.before (view_at o.before who o.table) rid ≡ Some row → P row) → EachSeen P h view
-each-opening P h who view o each = record { each = λ rid row saw. each rid row (sym (seen_by-opening h who rid view o) ∙ saw) }

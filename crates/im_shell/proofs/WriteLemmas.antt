@@ -1,8 +1,7 @@
 -- Changes to rows that a scan saw may be written.
-use Rattle.std.proofs.Common.{◌≡◌, ℕ, zero, suc, ◌+◌, ◌<◌, ◌≤◌, ◌==◌, ◌&&◌, ◌⊎◌, inl, inr, Bool, true, false, if◌then◌else◌, IsTrue, List, [], ◌∷◌, length, map, filter, fold, get_or, Option, Some, None, is_some, refl, sym, ap, ◌∙◌, subst, arith, rules, All}
+use Rattle.std.proofs.Common.{◌≡◌, ℕ, zero, suc, ◌+◌, ◌<◌, ◌≤◌, ◌==◌, ◌&&◌, ◌⊎◌, inl, inr, Bool, true, false, if◌then◌else◌, IsTrue, List, [], ◌∷◌, length, map, filter, fold, get_or, Option, Some, None, is_some, refl, sym, ap, ◌∙◌, arith, rules, All}
 use Rattle.std.proofs.lemmas.List.Elements.{All-nil, All-cons}
-use Rattle.std.specs.Prelude.{slice_get}
-use Rattle.std.specs.List.{AllAdjacentBelow, AllByRecursion, cons_option}
+use Rattle.std.specs.List.{AllAdjacentBelow, cons_option}
 use Rattle.std.specs.Option.{option_map}
 use Rattle.im_history.specs.declared.change.Change.{Change}
 use Rattle.im_history.specs.declared.look.TableInfo.{TableInfo}
@@ -11,18 +10,19 @@ use Rattle.im_history.specs.declared.entry.What.TheVariants.{Open}
 use Rattle.im_history.specs.History.{History}
 use Rattle.im_history.specs.Legal.{Exists, MayWrite, still_seen, row_fits}
 use Rattle.im_history.specs.Rows.{Row, rows, row_after, seen, present, own_changes}
-use Rattle.im_history.specs.Tables.{tables, table_at}
+use Rattle.im_history.specs.Tables.{table_at}
 use Rattle.im_history.specs.Transactions.{pending, pending_after}
 use Rattle.im_history.specs.Views.{seen_by}
-use Rattle.im_history.proofs.Laws.{tables-push, pending-push}
-use Rattle.im_shell.specs.inner.Scans.{IsOpening, AreSeen, EachSeen, MayAssign, seen_in}
+use Rattle.im_history.proofs.Laws.{pending-push}
+use Rattle.im_scan.specs.Pinned.{seen_all}
+use Rattle.im_shell.specs.inner.Scans.{IsOpening, AreSeen, MayAssign}
 use Rattle.im_syntax.specs.Condition.{CondOf}
 use Rattle.im_values.specs.declared.value.Value.{Value}
 use Rattle.im_values.specs.Fits.{fits}
 use Rattle.im_group.specs.Partials.{keeps}
 use Rattle.im_shell.specs.Assigned.{assigned}
 use Rattle.im_shell.specs.Statements.{kept_rows, removals, revisions}
-use Rattle.im_shell.proofs.ScanLemmas.{itself, opening_cursor, cursor_at-opening}
+use Rattle.im_shell.proofs.ScanLemmas.{itself, opening_cursor, cursor_at-opening, table_at-opening}
 
 -- ---- own changes, applied once more
 
@@ -100,20 +100,6 @@ still h who view rid o =
     ap (λ (row : Option Row). fold (row_after view.table rid) row (pending h who)) own
     ∙ (twice view.table rid (pending h who) x ∙ sym own)
 
--- the table is what it was before the opening
-pub table_at-opening : (h : History) (who : ℕ) (view : View) → (o : IsOpening h who view) → table_at h view.table ≡ table_at o.before o.table
-table_at-opening h who view o = ap (table_at h) table_is ∙ same o.table
-  where
-    table_is : view.table ≡ o.table
-    table_is = ap (λ (v : View). v.table) o.view_is
-
-    tables_are : tables h ≡ tables o.before
-    tables_are = ap tables o.is ∙ tables-push o.before (record { who = who; what = Open 0 o.table })
-
-    same : (table : ℕ) → table_at h table ≡ table_at o.before table
-    same zero = refl
-    same (suc before) = ap (λ (ts : List TableInfo). slice_get ts before) tables_are
-
 exists-opening : (h : History) (who : ℕ) (view : View) → IsOpening h who view → Exists h view.table
 exists-opening h who view o = record { made = o.exists.made; is = table_at-opening h who view o ∙ o.exists.is }
 
@@ -135,8 +121,8 @@ present-seen h view low first (suc count) from whole =
     by None e lower higher = lower
     by (Some row) e lower higher = (from, omega (arith, whole), e, higher)
 
-pub seen_in-are : (h : History) (view : View) → AreSeen h view 0 (seen_in h view)
-seen_in-are h view = present-seen h view 0 0 view.rows (omega arith) (omega arith)
+pub seen_all-are : (h : History) (view : View) → AreSeen h view 0 (seen_all h view)
+seen_all-are h view = present-seen h view 0 0 view.rows (omega arith) (omega arith)
 
 -- ---- the changes
 
@@ -213,21 +199,21 @@ seen-kept h view low test (row ∷ rows) are = by (test row) (seen-kept h view (
 
 -- the kept ones of the rows that an opening sees may be taken away
 pub may-remove : (h : History) (who : ℕ) (view : View) (kept : Option (CondOf ℕ Value)) → IsOpening h who view →
-    1 ≤ length (removals view.table (kept_rows kept (seen_in h view))) → MayWrite h who 0 (removals view.table (kept_rows kept (seen_in h view)))
+    1 ≤ length (removals view.table (kept_rows kept (seen_all h view))) → MayWrite h who 0 (removals view.table (kept_rows kept (seen_all h view)))
 may-remove h who view kept o some =
-    may-write h who view 0 (λ row. None) (kept_rows kept (seen_in h view)) o
-    (seen-kept h view 0 (λ row. keeps kept row.1) (seen_in h view) (seen_in-are h view)) (λ made is row saw. fits_none) some
+    may-write h who view 0 (λ row. None) (kept_rows kept (seen_all h view)) o
+    (seen-kept h view 0 (λ row. keeps kept row.1) (seen_all h view) (seen_all-are h view)) (λ made is row saw. fits_none) some
   where
     fits_none : IsTrue true
     fits_none = search rules
 
 -- and values assigned to their columns
 pub may-revise : (h : History) (who : ℕ) (view : View) (kept : Option (CondOf ℕ Value)) (sets : List (ℕ × Value)) → IsOpening h who view →
-    MayAssign sets h view → 1 ≤ length (revisions view.table sets (kept_rows kept (seen_in h view))) →
-    MayWrite h who 0 (revisions view.table sets (kept_rows kept (seen_in h view)))
+    MayAssign sets h view → 1 ≤ length (revisions view.table sets (kept_rows kept (seen_all h view))) →
+    MayWrite h who 0 (revisions view.table sets (kept_rows kept (seen_all h view)))
 may-revise h who view kept sets o may some =
-    may-write h who view 0 (λ row. Some (assigned sets row.1)) (kept_rows kept (seen_in h view)) o
-    (seen-kept h view 0 (λ row. keeps kept row.1) (seen_in h view) (seen_in-are h view)) fit some
+    may-write h who view 0 (λ row. Some (assigned sets row.1)) (kept_rows kept (seen_all h view)) o
+    (seen-kept h view 0 (λ row. keeps kept row.1) (seen_all h view) (seen_all-are h view)) fit some
   where
     true_is : (b : Bool) → b ≡ true → IsTrue b
     true_is true e = search rules
@@ -241,12 +227,3 @@ may-revise h who view kept sets o may some =
     fit made is row saw =
         true_is (fits (assigned sets row.1) made.schema)
         (ap (λ (t : TableInfo). fits (assigned sets row.1) t.schema) (some-inj (sym is ∙ may.is)) ∙ may.each row.0 row.1 saw)
-
--- what holds of each row that a view sees holds of the rows
-pub all-fit : (h : History) (view : View) (low : ℕ) (P : Row → Type 0) (rows : List (ℕ × Row)) → EachSeen P h view → AreSeen h view low rows →
-    AllByRecursion (λ row. P row.1) rows
-all-fit h view low P [] each are = tt
-all-fit h view low P (row ∷ rows) each are = (each.each row.0 row.1 are.2, all-fit h view (row.0 + 1) P rows each are.3)
-
-pub all-seen_in : (h : History) (view : View) (P : Row → Type 0) → EachSeen P h view → AllByRecursion (λ row. P row.1) (seen_in h view)
-all-seen_in h view P each = all-fit h view 0 P (seen_in h view) each (seen_in-are h view)

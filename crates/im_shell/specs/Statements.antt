@@ -33,7 +33,6 @@ use Rattle.im_shell.specs.declared.rewriting.Rewriting.{Rewriting}
 use Rattle.im_shell.specs.declared.rewriting.Rewriting.TheVariants.{Updating, Deleting}
 use Rattle.im_replies.specs.declared.body.Body.{Body}
 use Rattle.im_replies.specs.declared.body.Body.TheVariants.{Created, Begun, Inserted, Updated, Deleted, Committed, RolledBack, Answer, Error}
-use Rattle.im_replies.specs.declared.fault.Fault.{Fault}
 use Rattle.im_replies.specs.declared.fault.Fault.TheVariants as fault
 use Rattle.im_replies.specs.declared.reply.Reply.{Reply}
 use Rattle.im_shell.specs.Turns.{answer_at, refusal, look, unless_refused, or_refused, decide, memory_reply, scan, end_scan, settled_reply}

@@ -1,5 +1,5 @@
 -- What plans of statements are made of: looks, entries that may be refused, and scans.
-use Rattle.std.specs.Prelude.{ℕ, true, false, List, [], length, Option, Some, None, if◌then◌else◌}
+use Rattle.std.specs.Prelude.{ℕ, true, false, [], length, Option, Some, None, if◌then◌else◌}
 use Rattle.im_history.specs.declared.entry.What.{What}
 use Rattle.im_history.specs.declared.entry.What.TheVariants as what
 use Rattle.im_history.specs.declared.refused.Why.{Why}

@@ -4,7 +4,7 @@ ghost use Rattle.im_shell.specs.Statements as plan;
 
 use crate::put_at::put_at;
 use im_history::Change;
-use im_values::{NoMemory, Row, Value};
+use im_values::{NoMemory, Row, Value, copied};
 use std::alloc::Global;
 
 /// Changes that take these rows of a table away.
@@ -36,19 +36,19 @@ pub fn revisions(
         changes.push(Change {
             table,
             rid,
-            row: Some(row_with(alloc, row, sets)?),
+            row: Some(row_with(alloc, &row, sets)?),
         })?;
     }
     Ok(changes)
 }
 
 /// A row with values assigned to its columns.
-fn row_with(alloc: Global, row: Row, sets: &[(u32, Value)]) -> Result<Row, NoMemory>
-    ensures { IfOk result (λ made. made ≡ assigned sets.now row) }
+fn row_with(alloc: Global, row: &Row, sets: &[(u32, Value)]) -> Result<Row, NoMemory>
+    ensures { IfOk result (λ made. made ≡ assigned sets.now row.now) }
 {
-    let mut values = row.into_values();
-    assign(alloc, values.as_mut_slice(), sets)?;
-    Ok(Row::of(values))
+    let mut copy = copied(alloc, row.values())?;
+    assign(alloc, copy.as_mut_slice(), sets)?;
+    Ok(Row::of(copy))
 }
 
 /// Assigns values to columns.

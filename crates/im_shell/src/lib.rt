@@ -23,7 +23,6 @@ mod scan;
 mod statement;
 mod status;
 mod top;
-mod unit;
 mod writing;
 
 pub use im_words::Word;

@@ -9,12 +9,12 @@ ghost use Rattle.im_shell.specs.Requests.{script_limits};
 
 use crate::refusals::out_of_memory;
 use crate::statement::play_statement;
-use crate::unit::NoUnit;
 use im_core::Core;
 use im_edge::{Sink, WriteFault, write_all};
 use im_history::Limits;
 use im_replies::{Fault, Reply};
 use im_script::{Line, LineKind, first_line, line_of};
+use im_unit::ColumnUnit;
 use im_values::limits::{MOST_CHANGES, MOST_WEIGHT};
 use im_values::{NoMemory, Steps};
 use std::alloc::Global;
@@ -72,7 +72,7 @@ fn read_line(alloc: Global, number: u64, bytes: &[u8]) -> Line
 /// Plays one line. Blanks, comments and the end of a prelude have no reply.
 fn play_line<L: Ledger>(
     alloc: Global,
-    store: &mut Core<NoUnit>,
+    store: &mut Core<ColumnUnit>,
     line: &Line,
     steps: &mut Steps<L>,
 ) -> Option<Reply>
@@ -99,7 +99,7 @@ fn play_line<L: Ledger>(
 /// Reads the next line, and plays it.
 fn play_bytes<L: Ledger>(
     alloc: Global,
-    store: &mut Core<NoUnit>,
+    store: &mut Core<ColumnUnit>,
     bytes: &[u8],
     number: u64,
     steps: &mut Steps<L>,
@@ -132,7 +132,7 @@ fn put_reply(
 /// Plays the next line, and puts the text of its reply behind what waits to be written.
 fn play_next<L: Ledger>(
     alloc: Global,
-    store: &mut Core<NoUnit>,
+    store: &mut Core<ColumnUnit>,
     bytes: &[u8],
     number: u64,
     waiting: &mut Vec<u8>,
@@ -174,7 +174,7 @@ fn flush_piece<K: Sink>(sink: &mut K, waiting: &mut Vec<u8>) -> Result<(), Write
 }
 
 /// The store in which nothing has happened.
-fn empty_store(alloc: Global) -> Result<Core<NoUnit>, NoMemory>
+fn empty_store(alloc: Global) -> Result<Core<ColumnUnit>, NoMemory>
     ensures { IfOk result (λ store. store ≡ record { limits = script_limits; log = [] }) }
 {
     match Core::new(alloc, LIMITS) {

@@ -11,19 +11,19 @@ ghost use Rattle.im_shell.specs.inner.Answers.{IsRest};
 
 use crate::query::select;
 use crate::refusals::{creation_refused, out_of_memory, refused_reply};
-use crate::unit::NoUnit;
 use crate::writing::{delete, update};
 use im_core::Core;
 use im_history::{Look, Mode, Shape};
 use im_names::Resolved;
 use im_replies::{Body, Fault, Reply};
+use im_unit::ColumnUnit;
 use im_values::limits::NUMBERS;
 use im_values::{Name, Row, Schema, Steps};
 use std::alloc::Global;
 use std::sync::ledger::Ledger;
 
 /// Begins a transaction of a mode.
-fn set_mode(alloc: Global, store: &mut Core<NoUnit>, who: u32, mode: Mode) -> Reply
+fn set_mode(alloc: Global, store: &mut Core<ColumnUnit>, who: u32, mode: Mode) -> Reply
     requires session { who < NUMBERS }
     requires closed { opened store.old.log who ≡ [] }
     ensures { IsRest who 0 store.old (plan.set_mode who mode) result store.new }
@@ -35,7 +35,7 @@ fn set_mode(alloc: Global, store: &mut Core<NoUnit>, who: u32, mode: Mode) -> Re
 }
 
 /// Commits what a session has pending.
-fn commit(alloc: Global, store: &mut Core<NoUnit>, who: u32) -> Reply
+fn commit(alloc: Global, store: &mut Core<ColumnUnit>, who: u32) -> Reply
     requires session { who < NUMBERS }
     requires closed { opened store.old.log who ≡ [] }
     ensures { IsRest who 0 store.old plan.commit result store.new }
@@ -47,7 +47,7 @@ fn commit(alloc: Global, store: &mut Core<NoUnit>, who: u32) -> Reply
 }
 
 /// Rolls back what a session has pending.
-fn roll_back(alloc: Global, store: &mut Core<NoUnit>, who: u32, look: &Look) -> Reply
+fn roll_back(alloc: Global, store: &mut Core<ColumnUnit>, who: u32, look: &Look) -> Reply
     requires session { who < NUMBERS }
     requires look { look.now ≡ look_at store.old.log who }
     ensures { IsRest who 0 store.old (plan.roll_back who store.old.log) result store.new }
@@ -59,7 +59,13 @@ fn roll_back(alloc: Global, store: &mut Core<NoUnit>, who: u32, look: &Look) -> 
 }
 
 /// Inserts rows into a table.
-fn insert(alloc: Global, store: &mut Core<NoUnit>, who: u32, table: u32, rows: Vec<Row>) -> Reply
+fn insert(
+    alloc: Global,
+    store: &mut Core<ColumnUnit>,
+    who: u32,
+    table: u32,
+    rows: Vec<Row>,
+) -> Reply
     requires session { who < NUMBERS }
     requires closed { opened store.old.log who ≡ [] }
     requires may { MayInsert store.old.log table rows.items }
@@ -129,7 +135,7 @@ impl NewTable {
 /// Creates a table, once the line has made so many entries.
 pub fn create(
     alloc: Global,
-    store: &mut Core<NoUnit>,
+    store: &mut Core<ColumnUnit>,
     who: u32,
     table: NewTable,
     entries: u64,
@@ -163,7 +169,7 @@ pub fn create(
 /// Plays a statement, other than a definition, whose names are found.
 pub fn play_resolved<L: Ledger>(
     alloc: Global,
-    store: &mut Core<NoUnit>,
+    store: &mut Core<ColumnUnit>,
     who: u32,
     look: &Look,
     resolved: Resolved,

@@ -4,20 +4,19 @@ ghost use Rattle.im_history.specs.Cursors.{opened, is_cursor_open};
 ghost use Rattle.im_history.specs.Legal.{IsLegal};
 ghost use Rattle.im_history.specs.Tables.{tables};
 ghost use Rattle.im_names.specs.Fitting.{OfTable, QueryServes};
-ghost use Rattle.im_syntax.specs.BoundFits.{BoundFits};
 ghost use Rattle.im_syntax.specs.BoundQuery.{IsQuery};
+ghost use Rattle.im_scan.specs.Pinned.{seen_all};
 ghost use Rattle.im_shell.specs.inner.Scans as scans;
 ghost use Rattle.im_shell.specs.Statements as plan;
 ghost use Rattle.im_shell.specs.inner.Answers.{IsRest};
 
 use crate::refusals::{out_of_memory, refused_reply};
-use crate::scan::seen_rows;
-use crate::unit::NoUnit;
+use crate::scan::seen_part;
 use im_core::Core;
-use im_group::Partial;
 use im_history::View;
 use im_replies::{Body, Records, Reply};
 use im_syntax::Bound;
+use im_unit::ColumnUnit;
 use im_values::limits::NUMBERS;
 use im_values::{NoMemory, Steps};
 use std::alloc::Global;
@@ -26,7 +25,7 @@ use std::sync::ledger::Ledger;
 /// Answers a query over the rows of its table that a session sees, by a scan.
 pub fn select<L: Ledger>(
     alloc: Global,
-    store: &mut Core<NoUnit>,
+    store: &mut Core<ColumnUnit>,
     who: u32,
     bound: Bound,
     steps: &mut Steps<L>,
@@ -50,7 +49,7 @@ pub fn select<L: Ledger>(
 /// Answers a query over the rows that the open cursor 0 of a session sees. The cursor is still open then.
 fn answer_seen<L: Ledger>(
     alloc: Global,
-    store: &mut Core<NoUnit>,
+    store: &mut Core<ColumnUnit>,
     who: u32,
     view: View,
     bound: &Bound,
@@ -59,10 +58,10 @@ fn answer_seen<L: Ledger>(
     requires session { who < NUMBERS }
     requires opening { scans.IsOpening store.old.log who view }
     requires query { IsQuery bound.now }
-    requires fits { scans.EachSeen (λ row. BoundFits row bound.now) store.old.log view }
+    requires reads { scans.MayRead bound.now store.old.log view }
     ensures cursor { is_cursor_open store.new.log who 0 ≡ true }
     ensures rest { IsRest who 1 store.old
-        (plan.answering bound.now view.place view.scn (scans.seen_in store.old.log view))
+        (plan.answering bound.now view.place view.scn (seen_all store.old.log view))
         result (scans.shut_by who store.new) }
 {
     let (place, scn) = (view.place, view.scn);
@@ -75,7 +74,7 @@ fn answer_seen<L: Ledger>(
 /// The answer of a query over the rows that the open cursor 0 of a session sees.
 fn seen_answer<L: Ledger>(
     alloc: Global,
-    store: &mut Core<NoUnit>,
+    store: &mut Core<ColumnUnit>,
     who: u32,
     view: View,
     bound: &Bound,
@@ -84,11 +83,10 @@ fn seen_answer<L: Ledger>(
     requires session { who < NUMBERS }
     requires opening { scans.IsOpening store.old.log who view }
     requires query { IsQuery bound.now }
-    requires fits { scans.EachSeen (λ row. BoundFits row bound.now) store.old.log view }
+    requires reads { scans.MayRead bound.now store.old.log view }
     ensures same { store.new ≡ store.old }
-    ensures answer { IfOk result (λ records. records ≡ answer bound.now (scans.seen_in store.old.log view)) }
+    ensures answer { IfOk result (λ records. records ≡ answer bound.now (seen_all store.old.log view)) }
 {
-    let rows = seen_rows(alloc, store, who, view, steps)?;
-    let partial = Partial::of_rows(alloc, bound, rows.as_slice())?;
+    let partial = seen_part(alloc, store, who, &view, bound, steps)?;
     Ok(Records::of(partial.finish(alloc, bound)?))
 }

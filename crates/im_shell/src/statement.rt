@@ -9,12 +9,12 @@ ghost use Rattle.im_shell.specs.inner.Answers.{IsRest};
 use crate::built::{is_built, is_definition};
 use crate::player::{NewTable, create, play_resolved};
 use crate::refusals::{name_reply, out_of_memory};
-use crate::unit::NoUnit;
 use im_core::Core;
 use im_history::Look;
 use im_names::resolve;
 use im_replies::{Fault, Reply};
 use im_syntax::Stmt;
+use im_unit::ColumnUnit;
 use im_values::Steps;
 use im_values::limits::NUMBERS;
 use std::alloc::Global;
@@ -23,7 +23,7 @@ use std::sync::ledger::Ledger;
 /// Plays a statement, other than a definition, whose names are looked up now.
 fn play_named<L: Ledger>(
     alloc: Global,
-    store: &mut Core<NoUnit>,
+    store: &mut Core<ColumnUnit>,
     who: u32,
     statement: &Stmt,
     steps: &mut Steps<L>,
@@ -46,7 +46,7 @@ fn play_named<L: Ledger>(
 /// Plays a definition whose names are looked up now, once the line has made so many entries.
 fn define(
     alloc: Global,
-    store: &mut Core<NoUnit>,
+    store: &mut Core<ColumnUnit>,
     who: u32,
     statement: &Stmt,
     look: &Look,
@@ -71,7 +71,7 @@ fn define(
 }
 
 /// Plays a definition. An open transaction of the session is committed first.
-fn play_definition(alloc: Global, store: &mut Core<NoUnit>, who: u32, statement: &Stmt) -> Reply
+fn play_definition(alloc: Global, store: &mut Core<ColumnUnit>, who: u32, statement: &Stmt) -> Reply
     requires session { who < NUMBERS }
     requires closed { opened store.old.log who ≡ [] }
     requires statement { IsStmt statement.now }
@@ -91,7 +91,7 @@ fn play_definition(alloc: Global, store: &mut Core<NoUnit>, who: u32, statement:
 }
 
 /// Plays a definition once the line has committed.
-fn define_later(alloc: Global, store: &mut Core<NoUnit>, who: u32, statement: &Stmt) -> Reply
+fn define_later(alloc: Global, store: &mut Core<ColumnUnit>, who: u32, statement: &Stmt) -> Reply
     requires session { who < NUMBERS }
     requires closed { opened store.old.log who ≡ [] }
     requires idle { is_open store.old.log who ≡ false }
@@ -109,7 +109,7 @@ fn define_later(alloc: Global, store: &mut Core<NoUnit>, who: u32, statement: &S
 /// Plays a statement of a session.
 pub fn play_statement<L: Ledger>(
     alloc: Global,
-    store: &mut Core<NoUnit>,
+    store: &mut Core<ColumnUnit>,
     who: u32,
     statement: &Stmt,
     steps: &mut Steps<L>,

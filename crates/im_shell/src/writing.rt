@@ -4,25 +4,40 @@ ghost use Rattle.im_history.specs.Legal.{IsLegal};
 ghost use Rattle.im_history.specs.Tables.{tables};
 ghost use Rattle.im_history.specs.Views.{look_at};
 ghost use Rattle.im_names.specs.Fitting.{OfTable, FilterServes, UpdateServes};
+ghost use Rattle.im_shell.specs.inner.Scans as scans;
 ghost use Rattle.im_shell.specs.Statements as plan;
 ghost use Rattle.im_shell.specs.inner.Answers.{IsRest};
 
 use crate::refusals::refused_reply;
 use crate::rewrite::{remove_seen, revise_seen};
-use crate::unit::NoUnit;
 use im_core::Core;
 use im_history::{Look, Mode};
 use im_replies::{Body, Fault, Reply};
-use im_syntax::Filter;
+use im_syntax::{Bound, Filter};
+use im_unit::ColumnUnit;
 use im_values::limits::NUMBERS;
 use im_values::{List, Steps, Value};
 use std::alloc::Global;
 use std::sync::ledger::Ledger;
 
+/// The query whose rows are those of a table that a condition keeps. It takes no memory.
+fn rows_query(alloc: Global, table: u32, filter: Option<Filter>) -> Bound
+    ensures { result ≡ scans.rows_query table filter }
+{
+    Bound {
+        table,
+        filter,
+        items: List::of(Vec::new(alloc)),
+        groups: List::of(Vec::new(alloc)),
+        keys: List::of(Vec::new(alloc)),
+        grouped: false,
+    }
+}
+
 /// Takes away the rows of a table that a session sees and a condition keeps, unless its transaction is READ ONLY.
 pub fn delete<L: Ledger>(
     alloc: Global,
-    store: &mut Core<NoUnit>,
+    store: &mut Core<ColumnUnit>,
     who: u32,
     look: &Look,
     table: u32,
@@ -48,7 +63,7 @@ pub fn delete<L: Ledger>(
 /// Takes away the rows of a table that a session sees and a condition keeps, by a scan and a write.
 fn delete_rows<L: Ledger>(
     alloc: Global,
-    store: &mut Core<NoUnit>,
+    store: &mut Core<ColumnUnit>,
     who: u32,
     table: u32,
     filter: Option<Filter>,
@@ -62,7 +77,8 @@ fn delete_rows<L: Ledger>(
 {
     match store.open_cursor(who, 0, table) {
         Ok(view) => {
-            let reply = remove_seen(alloc, store, who, view, &filter, steps);
+            let query = rows_query(alloc, table, filter);
+            let reply = remove_seen(alloc, store, who, view, &query, steps);
             store.shut(who, 0);
             reply
         }
@@ -74,7 +90,7 @@ fn delete_rows<L: Ledger>(
 /// READ ONLY.
 pub fn update<L: Ledger>(
     alloc: Global,
-    store: &mut Core<NoUnit>,
+    store: &mut Core<ColumnUnit>,
     who: u32,
     look: &Look,
     table: u32,
@@ -101,7 +117,7 @@ pub fn update<L: Ledger>(
 /// Assigns values to columns of the rows of a table that a session sees and a condition keeps, by a scan and a write.
 fn update_rows<L: Ledger>(
     alloc: Global,
-    store: &mut Core<NoUnit>,
+    store: &mut Core<ColumnUnit>,
     who: u32,
     table: u32,
     filter: Option<Filter>,
@@ -116,7 +132,8 @@ fn update_rows<L: Ledger>(
 {
     match store.open_cursor(who, 0, table) {
         Ok(view) => {
-            let reply = revise_seen(alloc, store, who, view, &filter, sets.items(), steps);
+            let query = rows_query(alloc, table, filter);
+            let reply = revise_seen(alloc, store, who, view, &query, sets.items(), steps);
             store.shut(who, 0);
             reply
         }

@@ -33,6 +33,21 @@ HasCell-where empty cells table number some =
     (λ (past : length (row_of cells table) ≤ number). absurd (some (get_or_past (row_of cells table) number empty past)))
     (cases_lt number (length (row_of cells table)))
 
+-- a cell is there, or it is the empty one
+pub HasCell-or-empty : {T : Type 0} (empty : T) (cells : List (List T)) (table number : ℕ) →
+    HasCell cells table number ⊎ (cell_at empty cells table number ≡ empty)
+unfolding cell_at
+HasCell-or-empty empty cells table number =
+    ⊎_elim (λ (inside : number < length (row_of cells table)). inl (record { below = inside }))
+    (λ (past : length (row_of cells table) ≤ number). inr (get_or_past (row_of cells table) number empty past))
+    (cases_lt number (length (row_of cells table)))
+
+-- past the end of its table a cell is empty
+pub cell_at-past : {T : Type 0} (empty : T) (cells : List (List T)) (table number : ℕ) → length (row_of cells table) ≤ number →
+    cell_at empty cells table number ≡ empty
+unfolding cell_at
+cell_at-past empty cells table number past = get_or_past (row_of cells table) number empty past
+
 -- where there are no cells, each is empty
 pub cell_at-nil : {T : Type 0} (empty : T) (table number : ℕ) → cell_at empty [] table number ≡ empty
 unfolding cell_at
@@ -79,6 +94,12 @@ with_cell-past cells table number cell past = set_past cells table (set (row_of 
 past_where_none : {T : Type 0} (xs : List T) (i : ℕ) → slice_get xs i ≡ None → length xs ≤ i
 past_where_none xs i none =
     ⊎_elim (λ found. absurd (cc)) (λ past. past.0) ((slice_get_cases xs i).1)
+
+-- a cell that was found is there
+pub HasCell-found : {T : Type 0} (cells : List (List T)) (table number : ℕ) (cell : T) → found_at cells table number ≡ Some cell →
+    HasCell cells table number
+HasCell-found cells table number cell is =
+    ⊎_elim (λ found. record { below = found.1 }) (λ past. absurd (cc)) ((slice_get_cases (row_of cells table) number).1)
 
 -- where nothing is found, nothing is changed
 pub with_cell-none : {T : Type 0} (cells : List (List T)) (table number : ℕ) (cell : T) → found_at cells table number ≡ None →

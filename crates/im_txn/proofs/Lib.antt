@@ -1,6 +1,7 @@
 mod CellLemmas
 mod StandingLemmas
 mod AgreesLemmas
+mod LastsLemmas
 mod LockLemmas
 mod GivenLemmas
 pub mod ForCallers

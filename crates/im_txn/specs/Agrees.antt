@@ -3,7 +3,7 @@ use Rattle.std.specs.Prelude.{◌≡◌, ℕ, suc, ◌+◌, ◌==◌, ◌≤◌,
 use Rattle.std.specs.List.{range_with_len, sum_by}
 use Rattle.im_values.specs.declared.limits.TheConstants.{NUMBERS}
 use Rattle.im_history.specs.declared.entry.What.{What}
-use Rattle.im_history.specs.declared.entry.What.TheVariants.{Begin, Open, Shut, Write, Commit, Rollback}
+use Rattle.im_history.specs.declared.entry.What.TheVariants.{Create, Memory, Begin, Open, Shut, Write, Commit, Rollback, Build, Switch, Cancel, Trickle, Evict, Leave}
 use Rattle.im_history.specs.Cursors.{Opened, opened}
 use Rattle.im_history.specs.History.{History}
 use Rattle.im_history.specs.Rows.{snapshot}
@@ -51,4 +51,11 @@ is_apart (Shut cursor) = false
 is_apart (Write changes) = false
 is_apart Commit = false
 is_apart Rollback = false
-is_apart _ = true
+is_apart (Create name schema shape) = true
+is_apart (Memory table priority) = true
+is_apart (Build id table extent trickle) = true
+is_apart (Switch id) = true
+is_apart (Cancel id full) = true
+is_apart (Trickle n) = true
+is_apart (Evict table extent) = true
+is_apart Leave = true

@@ -4,3 +4,4 @@ pub mod Agrees
 pub mod Effects
 pub mod LockCells
 pub mod Standing
+pub mod inner

@@ -13,6 +13,7 @@
 
 mod agreement;
 mod cursor;
+mod lasts;
 mod locks;
 mod session;
 mod sessions;

@@ -5,7 +5,8 @@ ghost use Rattle.im_txn.specs.Effects.{IsRoomier};
 ghost use Rattle.im_txn.specs.Standing.{IsFew};
 
 use crate::cursor::{Cursor, count_beside_0, remove_number, with_number};
-use im_history::{Change, Changes, Mode};
+use crate::lasts::Lasts;
+use im_history::{Change, Mode, OwnChanges};
 use im_values::NoMemory;
 use std::alloc::Global;
 use std::marker::Model;
@@ -14,7 +15,7 @@ use std::marker::Model;
 const MOST_OPEN: u64 = 1 << 32;
 
 /// What one session has going on.
-#[derive(Debug, Drop)]
+#[derive(Drop)]
 pub struct Session {
     alloc: Global,
     pending: Vec<Change>,
@@ -23,11 +24,13 @@ pub struct Session {
     mode: Mode,
     cursors: Vec<Cursor>,
     cursor_room: u64,
+    lasts: Lasts,
 }
 
 impl Model for Session {
     ghost use Rattle.std.specs.Prelude.{◌+◌, ◌≤◌, vec_len, vec_capacity};
     ghost use Rattle.im_txn.specs.Activity.{Activity};
+    ghost use Rattle.im_txn.specs.inner.Lasts.{AreLasts};
 
     ghost Value = { Activity };
 
@@ -41,7 +44,8 @@ impl Model for Session {
     } };
 
     ghost invariant = { λ s. (vec_len s.pending + s.room ≤ vec_capacity s.pending)
-        × (vec_len s.cursors + s.cursor_room ≤ vec_capacity s.cursors) };
+        × (vec_len s.cursors + s.cursor_room ≤ vec_capacity s.cursors)
+        × AreLasts s.lasts.known s.lasts.tables.items s.pending.items };
 }
 
 impl Session {
@@ -57,6 +61,7 @@ impl Session {
             mode: Mode::Committed,
             cursors: Vec::new(alloc),
             cursor_room: 0,
+            lasts: Lasts::new(alloc),
         }
     }
 
@@ -95,17 +100,14 @@ impl Session {
         count_beside_0(self.cursors.as_slice())
     }
 
-    /// A copy of the pending changes to a table.
-    pub fn own(&self, alloc: Global, table: u32) -> Result<Changes, NoMemory>
-        ensures { IfOk result (λ own. own ≡ own_in self.now table) }
+    /// The pending changes to a table. Each pending change is looked at once, however often this is asked.
+    pub fn own(&mut self, table: u32) -> Result<OwnChanges, NoMemory>
+        ensures same { self.new ≡ self.old }
+        ensures own { IfOk result (λ own. own ≡ own_in self.old table) }
     {
-        let mut own = Vec::new(alloc);
-        for change in &self.pending {
-            if change.table == table {
-                own.push(change.copy(alloc)?)?;
-            }
-        }
-        Ok(Changes::of(own))
+        self.lasts.learn(self.alloc, self.pending.as_slice())?;
+        let last = self.lasts.of_table(self.alloc, table)?;
+        Ok(OwnChanges::of(table, last, &self.pending))
     }
 
     /// A statement set the mode: a transaction begins at this place where none is open. It answers how many
@@ -200,13 +202,14 @@ impl Session {
     }
 
     /// Ends the open transaction, and hands its pending changes out. It takes no memory.
-    pub fn end(&mut self) -> Changes
+    pub fn end(&mut self) -> Vec<Change>
         ensures after { self.new ≡ ended self.old }
-        ensures handed { result ≡ self.old.pending }
+        ensures handed { result.items ≡ self.old.pending }
     {
         self.begun = None;
         self.mode = Mode::Committed;
         self.room = 0;
-        Changes::of(std::mem::replace(&mut self.pending, Vec::new(self.alloc)))
+        self.lasts = Lasts::new(self.alloc);
+        std::mem::replace(&mut self.pending, Vec::new(self.alloc))
     }
 }

@@ -7,14 +7,14 @@ ghost use Rattle.im_txn.specs.Standing.{HasRoom, IsFree, activity_at, holder_in}
 use crate::cursor::Cursor;
 use crate::locks::Locks;
 use crate::session::Session;
-use im_history::{Change, Changes, Mode, Who};
+use im_history::{Change, Mode, OwnChanges, Who};
 use im_values::NoMemory;
 use im_values::limits::NUMBERS;
 use std::alloc::Global;
 use std::marker::Model;
 
 /// What each caller of the store has going on, and which rows it holds.
-#[derive(Debug, Drop)]
+#[derive(Drop)]
 pub struct Sessions {
     sessions: Vec<Session>,
     locks: Locks,
@@ -98,11 +98,12 @@ impl Sessions {
         other_in(who.number(), self.locks.cell(table, rid))
     }
 
-    /// A copy of a session's pending changes to a table. It costs what the session has pending.
-    pub fn own(&self, alloc: Global, who: Who, table: u32) -> Result<Changes, NoMemory>
-        ensures { IfOk result (λ own. own ≡ own_in (activity_at self.now who) table) }
+    /// A session's pending changes to a table. Each pending change is looked at once, however often this is asked.
+    pub fn own(&mut self, who: Who, table: u32) -> Result<OwnChanges, NoMemory>
+        ensures same { self.new ≡ self.old }
+        ensures own { IfOk result (λ own. own ≡ own_in (activity_at self.old who) table) }
     {
-        self.sessions[who.index()].own(alloc, table)
+        self.sessions[who.index()].own(table)
     }
 
     /// A session's statement sets the mode at this place of the history: its transaction begins there where none is
@@ -169,15 +170,15 @@ impl Sessions {
     /// are free.
     ///
     /// It takes no memory.
-    pub fn clear(&mut self, who: Who) -> Changes
+    pub fn clear(&mut self, who: Who) -> Vec<Change>
         ensures after { IsEnded self.old self.new who }
-        ensures handed { result ≡ (activity_at self.old who).pending }
+        ensures handed { result.items ≡ (activity_at self.old who).pending }
     {
         let at = who.index();
         let fewer = self.sessions[at].transactions();
         let changes = self.sessions[at].end();
         self.owed -= fewer;
-        self.locks.set_all(changes.items(), 0);
+        self.locks.set_all(changes.as_slice(), 0);
         changes
     }
 }

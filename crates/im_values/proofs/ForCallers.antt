@@ -1,5 +1,6 @@
--- What callers know of the order of values: it is a total order, and only equal values tie in it.
-use Rattle.std.proofs.Common.{◌≡◌, refl, ap}
+-- What callers know of the order of values (it is a total order, and only equal values tie in it), and of a block of values.
+use Rattle.std.proofs.Common.{◌≡◌, ℕ, ◌+◌, ◌*◌, ◌≤◌, List, [], ◌∷◌, ◌++◌, zero, suc, length, take, drop, refl, ap, ◌∙◌, arith}
+use Rattle.std.proofs.lemmas.List.{length-drop, nil_from_length, take-append-le, drop-append-le, take_all}
 use Rattle.std.specs.Cmp.{IsTotalOrder, int_cmp_total}
 use Rattle.std.specs.FinMap.{int_cmp-IsAntisymmetric, slice_cmp-IsAntisymmetric, nat_cmp-IsAntisymmetric}
 use Rattle.std.specs.Cmp.Lexicographic.{nat_list_cmp_total}
@@ -8,6 +9,7 @@ use Rattle.std.specs.declared.cmp.Ordering.TheVariants.{Less, Equal}
 use Rattle.im_values.specs.declared.value.Value.{Value}
 use Rattle.im_values.specs.declared.value.Value.TheVariants.{Int, Text, Null}
 use Rattle.im_values.specs.Order.{order}
+use Rattle.im_values.specs.Stretches.{cut}
 
 order-antisymm : (x y : Value) → order x y ≡ ordering_reverse (order y x)
 order-antisymm (Int a) (Int b) = int_cmp_total.antisymm a b
@@ -61,3 +63,25 @@ order_total = record {
   trans = order-trans;
   congr = λ x y z e. ap (λ v. order v z) (order_same x y e);
 }
+
+-- ---- A block of values
+
+one_more : (count width : ℕ) → suc count * width ≡ width + count * width
+one_more count width = grind arith
+
+rest_of : (count width : ℕ) (values : List Value) → length values ≡ suc count * width → length (drop width values) ≡ count * width
+rest_of count width values long =
+    let more = one_more count width in
+    let rest = length-drop width values in
+    omega (arith, more, rest, long)
+
+-- the values of one more row behind a block are one more row
+pub cut-push : (count width : ℕ) (values row : List Value) → length values ≡ count * width → length row ≡ width →
+    cut (suc count) width (values ++ row) ≡ cut count width values ++ row ∷ []
+cut-push zero width values row long wide =
+    rw (nil_from_length values (long ∙ (grind arith))) (ap (λ r. r ∷ []) (take_all width row (grind (arith, wide))))
+cut-push (suc count) width values row long wide =
+    let more = one_more count width in
+    let enough : width ≤ length values = omega (arith, more, long) in
+    rw (take-append-le width values row enough, drop-append-le width values row enough)
+    (ap (λ rows. take width values ∷ rows) (cut-push count width (drop width values) row (rest_of count width values long) wide))

@@ -1,3 +1,6 @@
 pub mod Fits
 pub mod Order
+pub mod Sizes
+pub mod Stretches
+pub mod Text
 pub mod Truth

@@ -25,7 +25,7 @@ pub use list::List;
 pub use name::Name;
 pub use no_memory::NoMemory;
 pub use priority::Priority;
-pub use row::{Row, clone_row};
+pub use row::{Row, clone_row, copied, rows_of_block};
 pub use schema::{Column, Kind, Schema, fits};
 pub use steps::Steps;
 pub use truth::Truth;

@@ -1,17 +1,31 @@
-ghost use Rattle.std.specs.Prelude.{◌≡◌, IfOk};
+ghost use Rattle.std.specs.Prelude.{◌≡◌, ◌≤◌, IfOk, length};
 
 use crate::no_memory::NoMemory;
 use std::alloc::Global;
 use std::cmp::Ordering;
 use std::hash::{Hash, Hasher};
 use std::marker::Model;
+use std::sync::Arc;
+
+/// The most bytes that a text keeps in place, without taking memory.
+const IN_PLACE: usize = 14;
+
+/// How the bytes of a text are kept.
+#[derive(Debug, Drop)]
+enum Form {
+    /// The first so many bytes of the array.
+    Short(u8, [u8; IN_PLACE]),
+    /// Bytes that copies of the text share.
+    Long(Arc<Vec<u8>>),
+}
 
 /// A text of bytes: the name of a table or of a column, or the text in a value.
 ///
-/// Any bytes may stand in it, so it is no `String`. Names compare by their bytes.
+/// Any bytes may stand in it, so it is no `String`. Names compare by their bytes. Up to 14 bytes stand in place and take no
+/// memory; longer ones are shared by all copies. A name takes 16 bytes itself.
 #[derive(Debug, Drop)]
 pub struct Name {
-    bytes: Vec<u8>,
+    form: Form,
 }
 
 impl Model for Name {
@@ -19,7 +33,23 @@ impl Model for Name {
 
     ghost Value = { List ℕ };
 
-    ghost view = { λ n. n.bytes.items };
+    ghost use Rattle.im_values.specs.Text.{text_of, IsInPlace};
+
+    ghost view = { λ n. text_of n.form };
+
+    ghost invariant = { λ n. IsInPlace n.form };
+}
+
+/// A text that stands in place.
+fn short(bytes: &[u8]) -> Name
+    requires { length bytes.now ≤ IN_PLACE }
+    ensures { result ≡ bytes.now }
+{
+    let mut text = [0; IN_PLACE];
+    text[..bytes.len()].copy_from_slice(bytes);
+    Name {
+        form: Form::Short(bytes.len() as u8, text),
+    }
 }
 
 impl Name {
@@ -27,30 +57,33 @@ impl Name {
     pub fn of(alloc: Global, bytes: &[u8]) -> Result<Name, NoMemory>
         ensures { IfOk result (λ name. name ≡ bytes.now) }
     {
+        if bytes.len() <= IN_PLACE {
+            return Ok(short(bytes));
+        }
         Ok(Name {
-            bytes: Vec::from_slice(alloc, bytes)?,
+            form: Form::Long(Arc::new(alloc, Vec::from_slice(alloc, bytes)?)?),
         })
-    }
-
-    /// A text of these bytes. It takes no memory.
-    pub fn from_vec(bytes: Vec<u8>) -> Name
-        ensures { result ≡ bytes.items }
-    {
-        Name { bytes }
     }
 
     /// The bytes, in order.
     pub fn bytes(&self) -> &[u8]
         ensures { result.now ≡ self.now }
     {
-        self.bytes.as_slice()
+        match &self.form {
+            Form::Short(length, text) => &text[..usize::from(*length)],
+            Form::Long(text) => text.as_slice(),
+        }
     }
 
-    /// The same text once more.
-    pub fn copy(&self, alloc: Global) -> Result<Name, NoMemory>
+    /// The same text once more. It takes no memory: a copy is refused only where as many share the text as can.
+    pub fn copy(&self, _alloc: Global) -> Result<Name, NoMemory>
         ensures { IfOk result (λ name. name ≡ self.now) }
     {
-        Name::of(alloc, self.bytes())
+        let form = match &self.form {
+            Form::Short(length, text) => Form::Short(*length, *text),
+            Form::Long(text) => Form::Long(text.clone()?),
+        };
+        Ok(Name { form })
     }
 }
 

@@ -1,14 +1,28 @@
-ghost use Rattle.std.specs.Prelude.{◌≡◌, IfOk};
+ghost use Rattle.std.specs.Prelude.{◌≡◌, ◌*◌, IfOk, length};
+ghost use Rattle.im_values.specs.Stretches.{cut};
 
 use crate::no_memory::NoMemory;
 use crate::value::Value;
 use std::alloc::Global;
 use std::marker::Model;
+use std::sync::Arc;
+
+/// How the values of a row are kept.
+#[derive(Debug, Drop)]
+enum Form {
+    /// In memory of the row's own.
+    Owned(Vec<Value>),
+    /// In a block that rows share: from this place on, so many.
+    Stretch(Arc<Vec<Value>>, usize, usize),
+}
 
 /// The values of one row, in the order of the table's columns.
+///
+/// A row has memory of its own, or is a stretch of a block that rows share (see [`rows_of_block`]). It takes 32 bytes beside
+/// its values. A block lives as long as any of its rows.
 #[derive(Debug, Drop)]
 pub struct Row {
-    values: Vec<Value>,
+    form: Form,
 }
 
 impl Model for Row {
@@ -17,7 +31,11 @@ impl Model for Row {
 
     ghost Value = { List AnyValue };
 
-    ghost view = { λ r. r.values.items };
+    ghost use Rattle.im_values.specs.Stretches.{values_of, IsInside};
+
+    ghost view = { λ r. values_of r.form };
+
+    ghost invariant = { λ r. IsInside r.form };
 }
 
 impl Row {
@@ -25,32 +43,62 @@ impl Row {
     pub fn of(values: Vec<Value>) -> Row
         ensures { result ≡ values.items }
     {
-        Row { values }
+        Row {
+            form: Form::Owned(values),
+        }
     }
 
     /// The values, in order.
     pub fn values(&self) -> &[Value]
         ensures { result.now ≡ self.now }
     {
-        self.values.as_slice()
-    }
-
-    /// The values, handed out. It takes no memory.
-    pub fn into_values(self) -> Vec<Value>
-        ensures { result.items ≡ self }
-    {
-        let Row { values } = self;
-        values
+        match &self.form {
+            Form::Owned(values) => values.as_slice(),
+            Form::Stretch(block, first, count) => &block.as_slice()[*first..*first + *count],
+        }
     }
 }
 
-/// The same row once more.
+/// The same row once more. Where it is a stretch of a block, the copy shares the block and takes no memory.
 pub fn clone_row(alloc: Global, row: &Row) -> Result<Row, NoMemory>
     ensures { IfOk result (λ copy. copy ≡ row.now) }
 {
-    let mut values = Vec::with_capacity(alloc, row.values().len())?;
-    for value in row.values() {
-        values.push(value.copy(alloc)?)?;
+    match &row.form {
+        Form::Owned(values) => Ok(Row::of(copied(alloc, values.as_slice())?)),
+        Form::Stretch(block, first, count) => Ok(Row {
+            form: Form::Stretch(block.clone()?, *first, *count),
+        }),
     }
-    Ok(Row::of(values))
+}
+
+/// The same values once more.
+pub fn copied(alloc: Global, values: &[Value]) -> Result<Vec<Value>, NoMemory>
+    ensures { IfOk result (λ copies. copies.items ≡ values.now) }
+{
+    let mut copies = Vec::with_capacity(alloc, values.len())?;
+    for value in values {
+        copies.push(value.copy(alloc)?)?;
+    }
+    Ok(copies)
+}
+
+/// Rows that share one block: the first so many values are the first row, and so on.
+#[tactic(auto, using(crate::proofs::Cutting::cut_next))]
+pub fn rows_of_block(
+    alloc: Global,
+    values: Vec<Value>,
+    width: usize,
+    count: usize,
+) -> Result<Vec<Row>, NoMemory>
+    requires { length values.items ≡ count * width }
+    ensures { IfOk result (λ rows. rows.items ≡ cut count width values.items) }
+{
+    let block = Arc::new(alloc, values)?;
+    let mut rows = Vec::with_capacity(alloc, count)?;
+    for at in 0..count {
+        rows.push(Row {
+            form: Form::Stretch(block.clone()?, at * width, width),
+        })?;
+    }
+    Ok(rows)
 }

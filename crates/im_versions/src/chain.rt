@@ -1,5 +1,6 @@
-ghost use Rattle.std.specs.Prelude.{◌≡◌, ◌+◌, ◌-◌, ◌<◌, [], ◌∷◌, ◌++◌, max, OnOk, OnErr};
+ghost use Rattle.std.specs.Prelude.{◌≡◌, ℕ, ◌+◌, ◌-◌, ◌<◌, [], ◌∷◌, ◌++◌, max, OnOk, OnErr};
 ghost use Rattle.std.specs.Option.{ForSome, option_copied};
+ghost use Rattle.im_versions.specs.Form as kept;
 ghost use Rattle.im_versions.specs.Versions.{no_chain, row_at, latest, newest_row, versions_to, IsRising};
 
 use crate::version::Version;
@@ -9,25 +10,39 @@ use std::alloc::Global;
 use std::marker::Model;
 use std::sync::ledger::Ledger;
 
+/// How the versions of a chain are kept.
+#[derive(Debug, Drop)]
+enum Form {
+    /// No version, and room in place for one.
+    Empty,
+    /// One version, in place.
+    One(Version),
+    /// Versions in memory of their own.
+    Many(Vec<Version>),
+}
+
 /// The versions of one row, oldest first.
 ///
 /// Contracts see the versions and the spare room, the number of versions that [`Chain::push`] can add without taking
-/// memory. A chain of one version has room for that one alone; longer ones grow by doubling.
+/// memory. The first version stands in the chain itself and takes no memory. The second takes memory for both; longer
+/// chains grow by doubling. A chain takes 64 bytes beside that, with a version or without.
 #[derive(Debug, Drop)]
 pub struct Chain {
-    versions: Vec<Version>,
+    form: Form,
     spare: u64,
+    alloc: Global,
 }
 
 impl Model for Chain {
-    ghost use Rattle.std.specs.Prelude.{◌+◌, ◌≤◌, vec_len, vec_capacity};
     ghost use Rattle.im_versions.specs.Versions.{Versions, IsRising};
 
     ghost Value = { Versions };
 
-    ghost view = { λ c. record { versions = c.versions.items; spare = c.spare } };
+    ghost use Rattle.im_versions.specs.Form.{versions_in, HasRoom};
 
-    ghost invariant = { λ c. (vec_len c.versions + c.spare ≤ vec_capacity c.versions) × IsRising c.versions.items };
+    ghost view = { λ c. record { versions = versions_in c.form; spare = c.spare } };
+
+    ghost invariant = { λ c. HasRoom c.form c.spare × IsRising (versions_in c.form) };
 }
 
 impl Chain {
@@ -36,8 +51,9 @@ impl Chain {
         ensures { result ≡ no_chain }
     {
         Chain {
-            versions: Vec::new(alloc),
+            form: Form::Empty,
             spare: 0,
+            alloc,
         }
     }
 
@@ -49,11 +65,7 @@ impl Chain {
         if self.spare > 0 {
             return Ok(());
         }
-        if self.versions.is_empty() {
-            self.versions.reserve_exact(1)?;
-        } else {
-            self.versions.reserve(1)?;
-        }
+        make_room(self.alloc, &mut self.form)?;
         self.spare = 1;
         Ok(())
     }
@@ -68,7 +80,7 @@ impl Chain {
         ensures spare { self.new.spare ≡ self.old.spare - 1 }
     {
         self.spare -= 1;
-        self.versions.push(Version { scn, row }).unwrap();
+        put(&mut self.form, Version { scn, row });
     }
 
     /// The row at an SCN, or none where there was none. It is one step.
@@ -79,14 +91,14 @@ impl Chain {
         ensures step { steps.new ≡ steps.old + 1 }
     {
         steps.tick();
-        newest_row(versions_to(self.versions.as_slice(), scn))
+        newest_row(versions_to(versions_in(&self.form), scn))
     }
 
     /// The SCN of the newest version, or none where there is no version.
     pub fn latest(&self) -> Option<u64>
         ensures { result ≡ latest self.now.versions }
     {
-        Some(self.versions.last()?.scn)
+        Some(versions_in(&self.form).last()?.scn)
     }
 }
 
@@ -95,6 +107,53 @@ impl Cell for Chain {
 
     fn empty(alloc: Global) -> Chain {
         Chain::new(alloc)
+    }
+}
+
+/// The versions, oldest first.
+fn versions_in(form: &Form) -> &[Version]
+    ensures { result.now ≡ kept.versions_in form.now }
+{
+    match form {
+        Form::Empty => &[],
+        Form::One(version) => std::slice::from_ref(version),
+        Form::Many(versions) => versions.as_slice(),
+    }
+}
+
+/// Makes room for one version more.
+fn make_room(alloc: Global, form: &mut Form) -> Result<(), NoMemory>
+    ensures same { kept.versions_in form.new ≡ kept.versions_in form.old }
+    ensures ok { OnOk result (kept.HasRoom form.new 1) }
+    ensures err { OnErr result (kept.HasRoom form.new 0) }
+{
+    match form {
+        Form::Empty => Ok(()),
+        Form::One(_) => {
+            let mut versions = Vec::with_capacity(alloc, 2)?;
+            if let Form::One(version) = std::mem::replace(form, Form::Empty) {
+                versions.push(version).unwrap();
+            }
+            *form = Form::Many(versions);
+            Ok(())
+        }
+        Form::Many(versions) => {
+            versions.reserve(1)?;
+            Ok(())
+        }
+    }
+}
+
+/// Puts a version on top, where there is room.
+fn put(form: &mut Form, version: Version)
+    requires { kept.HasRoom form.old 1 }
+    ensures versions { kept.versions_in form.new ≡ kept.versions_in form.old ++ version ∷ [] }
+    ensures room { (spare : ℕ) → kept.HasRoom form.old (spare + 1) → kept.HasRoom form.new spare }
+{
+    match form {
+        Form::Empty => *form = Form::One(version),
+        Form::One(_) => unreachable!(),
+        Form::Many(versions) => versions.push(version).unwrap(),
     }
 }
 

@@ -10,7 +10,7 @@ ghost use Rattle.im_values.specs.declared.value.Value.TheVariants.{Int};
 ghost use Rattle.im_scan.specs.Parts.{MayAsk};
 
 use im_core::{Fetched, Pin};
-use im_history::{Change, Changes, View};
+use im_history::{Change, LastRows, OwnChanges, View};
 use im_scan::{How, face, how, part};
 use im_syntax::{Bound, Filter, Item, Test, TestForm, Tests};
 use im_unit::ColumnUnit;
@@ -88,19 +88,22 @@ fn fetched(alloc: Global, bound: &Bound, numbers: &[(u64, Option<i64>)]) -> Resu
 }
 
 /// Changes to table 1.
-fn own(alloc: Global, bound: &Bound, numbers: &[(u64, Option<i64>)]) -> Result<Changes, Fail>
+fn own(alloc: Global, bound: &Bound, numbers: &[(u64, Option<i64>)]) -> Result<OwnChanges, Fail>
     requires asks { (k : ℤ) → BoundFits (Int k ∷ []) bound.now }
     ensures { IfOk result (AllByRecursion (λ change. MayAsk bound.now change.row)) }
 {
+    let mut last = LastRows::new(alloc)?;
     let mut changes = Vec::new(alloc);
     for (rid, number) in numbers {
+        let row = row(alloc, bound, *number)?;
+        last.put(alloc, *rid, &row)?;
         changes.push(Change {
             table: 1,
             rid: *rid,
-            row: row(alloc, bound, *number)?,
+            row,
         })?;
     }
-    Ok(Changes::of(changes))
+    Ok(OwnChanges::of(1, last, &changes))
 }
 
 /// An extent that was pinned: what its unit has, if there is one, and what was fetched.

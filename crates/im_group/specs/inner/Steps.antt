@@ -46,9 +46,17 @@ with_row bound groups row =
     (all_taken (wanted bound) (so_far (wanted bound) (tallies_at groups (key_of bound.groups row))) row)
     else groups
 
+-- what a group has taken, once one row more has come
+abbrev pub with_kept : Bound → List Tally → List Value → List Tally
+with_kept bound ts row = if keeps bound.filter row then all_taken (wanted bound) ts row else ts
+
+-- the one group of a query without GROUP BY
+abbrev pub one_group : List Tally → List (List Value × List Tally)
+one_group ts = ([], ts) ∷ []
+
 -- the groups of no row: without GROUP BY there is one
 abbrev pub first_groups : List ℕ → List Item → List (List Value × List Tally)
-first_groups [] is = ([], map (λ i. tally_of i []) is) ∷ []
+first_groups [] is = one_group (map (λ i. tally_of i []) is)
 first_groups (c ∷ cs) is = []
 
 -- the groups of rows, in any order, as each key finds them

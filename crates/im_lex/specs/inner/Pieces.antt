@@ -1,5 +1,5 @@
 -- Texts, piece by piece.
-use Rattle.std.specs.Prelude.{ℕ, ◌==◌, List, [], ◌∷◌, if◌then◌else◌}
+use Rattle.std.specs.Prelude.{ℕ, ◌==◌, Bool, not, List, [], ◌∷◌, if◌then◌else◌}
 use Rattle.im_lex.specs.declared.front.Piece.{Piece}
 use Rattle.im_lex.specs.declared.front.Piece.TheVariants.{Over, End, Byte}
 
@@ -8,3 +8,7 @@ abbrev pub piece_of : List ℕ → Piece
 piece_of [] = Over
 piece_of (b ∷ []) = if b == 39 then End else Byte b 1
 piece_of (b ∷ c ∷ bs) = if b == 39 then (if c == 39 then Byte 39 2 else End) else Byte b 1
+
+-- no quote, so what follows is not asked
+abbrev pub is_plain : ℕ → Bool
+is_plain b = not (b == 39)

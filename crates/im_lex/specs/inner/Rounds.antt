@@ -1,12 +1,13 @@
 -- The tokens of a line, computed from left to right in so many rounds.
-use Rattle.std.specs.Prelude.{◌≡◌, ℕ, zero, suc, ◌+◌, List, [], ◌∷◌, drop, Result, Ok, Err}
-use Rattle.std.specs.Global.{Vec}
+use Rattle.std.specs.Prelude.{◌≡◌, ℕ, zero, suc, ◌+◌, List, [], ◌∷◌, drop, slice_index, Result, Ok, Err}
 use Rattle.im_syntax.specs.declared.token.Token.{Token}
 use Rattle.im_lex.specs.declared.front.Front.{Front}
 use Rattle.im_lex.specs.declared.front.Front.TheVariants.{Stop, Blank, Bad, Lexed}
 use Rattle.im_lex.specs.declared.lexing.LexFault.{LexFault}
 use Rattle.im_lex.specs.declared.lexing.LexFault.TheVariants as fault
+use Rattle.im_lex.specs.declared.lexing.Lexed.{Lexed as Found}
 use Rattle.im_lex.specs.Bytes.{front}
+use Rattle.im_lex.specs.Lexing.{AreApart}
 
 abbrev pub with_token : Token → ℕ → Result (List (Token × ℕ)) ℕ → Result (List (Token × ℕ)) ℕ
 with_token t at (Ok ts) = Ok ((t, at) ∷ ts)
@@ -27,7 +28,18 @@ abbrev pub Halts : LexFault → Result (List (Token × ℕ)) ℕ → Type 0
 Halts fault.NoMemory read = Unit {0}
 Halts (fault.At n) read = read ≡ Err n
 
+-- tokens, each with its place, the first having the place of this number
+abbrev pub paired_at : List ℕ → ℕ → List Token → List (Token × ℕ)
+paired_at places i [] = []
+paired_at places i (t ∷ ts) = (t, slice_index places i) ∷ paired_at places (i + 1) ts
+
+-- what was found, apart from each other, is what reading gives
+pub record Finds (tokens : List Token) (places : List ℕ) (read : Result (List (Token × ℕ)) ℕ) : Type 0 where
+  pub pairs : List (Token × ℕ)
+  pub is : read ≡ Ok pairs
+  pub apart : AreApart pairs tokens places
+
 -- the code gives what reading gives, unless memory ran out
-abbrev pub Gives : Result (Vec (Token × ℕ)) LexFault → Result (List (Token × ℕ)) ℕ → Type 0
-Gives (Ok found) read = read ≡ Ok found.items
+abbrev pub Gives : Result Found LexFault → Result (List (Token × ℕ)) ℕ → Type 0
+Gives (Ok found) read = Finds found.tokens.items found.places.items read
 Gives (Err f) read = Halts f read

@@ -1,7 +1,7 @@
-use Rattle.im_shell.specs.Statements.{answering, select}
+use Rattle.im_shell.specs.Statements.{answering}
 use Rattle.im_shell.proofs.OpeningLemmas.{opening-of, scan-done}
 use Rattle.im_shell.proofs.PlanLemmas.{scan-told}
-use Rattle.im_shell.proofs.ServeLemmas.{query-serves}
+use Rattle.im_shell.proofs.ServeLemmas.{query-reads}
 use Rattle.im_shell.proofs.StatementLemmas.{exists-of}
 use Rattle.im_shell.proofs.query.select.Goals as goal
 
@@ -16,9 +16,9 @@ returns g c =
 pub answer_seen-reply-requires-clause-query : goal.answer_seen-reply-requires-clause-query
 answer_seen-reply-requires-clause-query g c = c.requires.serves.is.query
 
-pub answer_seen-reply-requires-clause-fits : goal.answer_seen-reply-requires-clause-fits
-answer_seen-reply-requires-clause-fits g c =
-    query-serves c.args.store.now.limits c.open_cursor.new.self.log c.args.who c.in-Ok.view
+pub answer_seen-reply-requires-clause-reads : goal.answer_seen-reply-requires-clause-reads
+answer_seen-reply-requires-clause-reads g c =
+    query-reads c.args.store.now.limits c.open_cursor.new.self.log c.args.who c.in-Ok.view
     (opening-of c.args.store.now c.open_cursor.new.self c.args.who c.args.bound.table c.in-Ok.view
     (exists-of c.args.store.now.log c.args.bound.table _ c.requires.serves) c.requires.closed c.in-Ok.ensures.ok c.in-Ok.ensures.view
     c.in-Ok.ensures.some c.in-Ok.ensures.few)

@@ -1,11 +1,12 @@
-use Rattle.std.proofs.Common.{◌≡◌, ◌∙◌, ap, subst, List, ℕ}
+use Rattle.std.proofs.Common.{◌∙◌, ap, subst, List}
 use Rattle.im_core.specs.Answers.{cursor_view}
 use Rattle.im_core.specs.Seen.{Seen}
 use Rattle.im_history.specs.declared.change.Change.{Change}
 use Rattle.im_history.specs.declared.view.View.{View}
 use Rattle.im_history.specs.Cursors.{is_cursor_open}
 use Rattle.im_shell.specs.declared.rewriting.Rewriting.TheVariants.{Deleting}
-use Rattle.im_shell.specs.inner.Scans.{seen_in, shut_by}
+use Rattle.im_scan.specs.Pinned.{seen_all}
+use Rattle.im_shell.specs.inner.Scans.{shut_by}
 use Rattle.im_shell.specs.Statements.{removal, rewrite, written}
 use Rattle.im_shell.specs.inner.Answers.{IsRest}
 use Rattle.im_shell.proofs.OpeningLemmas.{opening-open}
@@ -37,5 +38,5 @@ pub returns-in-Err-clause-rest : goal.returns-in-Err-clause-rest
 returns-in-Err-clause-rest g c =
     rw c.out_of_memory.ensures
     (rest-lacks_open c.args.who 1 c.args.store.now
-    (removal c.args.store.now.limits c.args.who c.args.view.table c.args.filter.now c.args.view.place c.args.view.scn
-    (seen_in c.args.store.now.log c.args.view)) _ (opening-open c.args.store.now.log c.args.who c.args.view c.requires.opening) c.in-Err.ensures.same)
+    (removal c.args.store.now.limits c.args.who c.args.view.table c.args.query.now.filter c.args.view.place c.args.view.scn
+    (seen_all c.args.store.now.log c.args.view)) _ (opening-open c.args.store.now.log c.args.who c.args.view c.requires.opening) c.in-Err.ensures.same)

@@ -1,10 +1,9 @@
-use Rattle.std.proofs.Common.{◌≡◌, ◌≤◌, ◌∙◌, ap, sym, subst, List, ℕ, length}
+use Rattle.std.proofs.Common.{◌≤◌, ◌∙◌, ap, sym, subst, List, ℕ, length}
 use Rattle.std.proofs.lemmas.Result.{IfOk-weaker}
 use Rattle.im_history.specs.declared.change.Change.{Change}
 use Rattle.im_history.specs.Legal.{MayWrite}
 use Rattle.im_history.specs.Rows.{Row}
-use Rattle.im_shell.specs.inner.Scans.{seen_in}
-use Rattle.im_shell.specs.Statements.{revisions, kept_rows}
+use Rattle.im_shell.specs.Statements.{revisions}
 use Rattle.im_shell.proofs.WriteLemmas.{may-revise}
 use Rattle.im_shell.proofs.rewrite.revisions_of.Goals as goal
 
@@ -20,6 +19,6 @@ returns-clause-may g c =
     (λ changes e some.
     let are = e ∙ ap (λ (rows : List (ℕ × Row)). revisions c.args.view.table c.args.sets.now rows) c.in_ok-rows.ensures.rows in
     subst (λ (cs : List Change). MayWrite c.args.store.now.log c.args.who 0 cs) (sym are)
-    (may-revise c.args.store.now.log c.args.who c.args.view c.args.filter.now c.args.sets.now c.requires.opening c.requires.assigns
+    (may-revise c.args.store.now.log c.args.who c.args.view c.args.query.now.filter c.args.sets.now c.requires.opening c.requires.assigns
     (subst (λ (cs : List Change). 1 ≤ length cs) are some)))
     c.revisions.ensures

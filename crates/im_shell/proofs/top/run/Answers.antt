@@ -1,5 +1,4 @@
 use Rattle.std.proofs.Common.{◌≡◌}
-use Rattle.im_words.specs.declared.fault.WordsFault.{WordsFault}
 use Rattle.im_words.specs.declared.fault.WordsFault.TheVariants.{Usage, NoMemory}
 use Rattle.im_shell.proofs.PlayLemmas.{unwritten-part}
 use Rattle.im_shell.proofs.top.run.Goals as goal

@@ -1,5 +1,6 @@
 use Rattle.std.proofs.Common.{◌<◌, refl, sym, subst, ap, ◌∙◌, arith}
-use Rattle.im_core.specs.Answers.{cursor_view, committed_in, rows_in}
+use Rattle.im_core.specs.Answers.{cursor_view}
+use Rattle.im_history.specs.Serving.{committed_in, rows_in}
 use Rattle.im_core.specs.Seen.{Seen}
 use Rattle.im_core.proofs.FetchLemmas.{store_view, view_found, fetched_is, rows_in_is}
 use Rattle.im_core.proofs.store.Core.fetch.Goals as goal

@@ -9,5 +9,5 @@ use Rattle.im_core.proofs.store.Core.insert.Goals as goal
 pub record_write-requires-clause-gives : goal.record_write-requires-clause-gives
 record_write-requires-clause-gives g c =
     let light = subst (λ (s : Seen). given s.log c.args.table * CHANGE_WEIGHT ≤ weight s.log) c.self.view_is (c.self.invariant.tables.light c.args.table) in
-    rw (c.in-Ok.ensures, c.given_of-first.ensures.given, c.len.ensures ∙ c.args.rows.ok.0)
+    rw (c.in-Ok.ensures, c.as_slice.ensures.value, c.given_of-first.ensures.given, c.len.ensures ∙ c.args.rows.ok.0)
     (Gives-insert c.args.self.now.log c.args.table c.args.rows.items c.requires.may.some light)

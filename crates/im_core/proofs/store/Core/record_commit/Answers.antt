@@ -40,5 +40,5 @@ invariant_of-self-2 g c =
     (is-number _ _ c.number.ensures.same c.number.ensures.few) (c.scn.ensures.scn ∙ ap scn made) c.reserve.ensures.same
     (grew-who _ _ _ _ _ _ c.number.ensures.same
     (grew-reserved c.self.inside.history c.reserve-3.new.self _ _ _ (rw c.owed.ensures.owed at c.in_ok-reserve-3.ensures.ok) c.append.ensures.added))
-    (c.into_items.ensures ∙ changes) c.clear-changes.ensures.after c.apply.ensures c.reserve-2.ensures.same
-    (rw (c.items.ensures ∙ sym c.into_items.ensures) at c.note.ensures)
+    changes c.clear-changes.ensures.after c.apply.ensures c.reserve-2.ensures.same
+    (rw c.as_slice.ensures.value at c.note.ensures)

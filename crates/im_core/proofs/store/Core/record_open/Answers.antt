@@ -18,9 +18,9 @@ invariant_of-self-in_err-reserve g c =
 
 pub invariant_of-self-2 : goal.invariant_of-self-2
 invariant_of-self-2 g c =
-    let exists = subst (λ (s : Seen). Exists s.log c.args.table) (sym c.self.view_is) c.requires.exists in
-    let allowed = subst (λ (s : Seen). open_refusal s.log c.args.who c.args.cursor ≡ None) (sym c.self.view_is) c.requires.allowed in
-    let view = c.in_ok-view.ensures.view ∙ ap (λ (s : Seen). view_at s.log c.args.who c.args.table) (sym c.self.view_is) in
+    let exists = subst (λ (s : Seen). Exists s.log c.args.table) (sym (c.self.view_is ∙ c.view.ensures.same)) c.requires.exists in
+    let allowed = subst (λ (s : Seen). open_refusal s.log c.args.who c.args.cursor ≡ None) (sym (c.self.view_is ∙ c.view.ensures.same)) c.requires.allowed in
+    let view = c.in_ok-view.ensures.view ∙ ap (λ (s : Seen). view_at s.log c.args.who c.args.table) (sym (c.self.view_is ∙ c.view.ensures.same)) in
     let opened =
     subst
     (λ (v : View). IsOpened c.reserve_cursor.new.self c.open_cursor.new.self c.args.who

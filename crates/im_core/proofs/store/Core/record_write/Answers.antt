@@ -3,7 +3,6 @@ use Rattle.im_history.specs.declared.entry.What.TheVariants.{Write}
 use Rattle.im_history.specs.Legal.{IsAllowed}
 use Rattle.im_history.specs.Stored.{Stored}
 use Rattle.im_history.specs.Tables.{tables}
-use Rattle.im_history.specs.Weights.{changes_weight}
 use Rattle.im_txn.proofs.ForCallers.{IsFree-grown}
 use Rattle.im_core.specs.inner.Kept.{Gives, beginning_at}
 use Rattle.im_core.specs.Seen.{Seen}
@@ -38,8 +37,8 @@ invariant_of-self-2 g c =
     Holds-write _ _ c.self.inside.history _ _ c.args.who _ _ c.args.table c.args.count _ _ c.args.changes.items _ _ c.self.invariant
     (is-number _ _ c.number.ensures.same c.number.ensures.few) c.index.ensures.same c.requires.table.0
     (rw (c.self.invariant.tables.long ∙ ap length c.self.invariant.tables.tables) last) allowed gives (c.len-place.ensures ∙ ap length made) begins
-    (c.in_ok-weight.ensures ∙ ap changes_weight c.as_slice.ensures.value) c.reserve_write.ensures.same free
-    (grew-write c.self.inside.history _ c.args.who _ c.in_ok-kept.kept c.args.changes.items (c.in_ok-kept.ensures ∙ c.as_slice-2.ensures.value)
+    c.requires.weight c.reserve_write.ensures.same free
+    (grew-write c.self.inside.history _ c.args.who _ c.args.kept c.args.changes.items c.requires.kept
     (grew-who _ _ _ _ _ _ c.number.ensures.same
     (grew-reserved c.self.inside.history c.reserve.new.self _ _ _ (rw c.owed.ensures.owed at c.in_ok-reserve.ensures.ok) c.append.ensures.added)))
     c.write.ensures

@@ -15,8 +15,8 @@ unwrap-view-requires g c =
     ∙ kept_is c.self.inside.history.entries _ c.args.who c.args.cursor may.opened c.self.invariant.sessions may.is)
     refl
 
-pub returns-in-Ok-Some-clause-refused : goal.returns-in-Ok-Some-clause-refused
-returns-in-Ok-Some-clause-refused g c =
+pub returns-in-Some-clause-refused : goal.returns-in-Some-clause-refused
+returns-in-Some-clause-refused g c =
     let may = subst (λ (s : Seen). MayWrite s.log c.args.who c.args.cursor c.args.changes.items) (sym c.self.view_is) c.requires.may in
     let facts =
     subst (λ (s : Seen). Rewrites s.limits s.log c.args.who c.args.cursor c.args.changes.items c.unwrap-view.result) c.self.view_is
@@ -24,15 +24,15 @@ returns-in-Ok-Some-clause-refused g c =
     (rw c.of-caller.ensures at (sym c.cursor.ensures ∙ c.unwrap-view.ensures)))
     in
     let cause =
-    (rw c.of-caller.ensures at c.in-Ok-Some.ensures)
-    ∙ ap (λ (cs : List Change). write_refusal c.args.self.now.limits c.args.self.now.log c.args.who c.unwrap-view.result.scn cs) c.as_slice.ensures.value
+    (rw c.of-caller.ensures at c.write_refusal.ensures)
+    ∙ ap (λ (cs : List Change). write_refusal c.args.self.now.limits c.args.self.now.log c.args.who c.unwrap-view.result.scn cs) c.as_slice-2.ensures.value
     in
     record {
-      place = c.refused-in-Ok-Some.ensures.place;
+      place = c.refused-in-Some.ensures.place;
       why =
           inr
           (ap (λ n. write_refusal c.args.self.now.limits c.args.self.now.log c.args.who n c.args.changes.items) (sym facts.scn)
-          ∙ (sym cause ∙ (c.in-Ok-Some.field-0-is ∙ ap (λ (w : Why). Some w) (sym c.refused-in-Ok-Some.ensures.why))));
+          ∙ (sym cause ∙ (c.in-Some.is ∙ ap (λ (w : Why). Some w) (sym c.refused-in-Some.ensures.why))));
     }
 
 pub given_of-count-requires : goal.given_of-count-requires
@@ -64,10 +64,10 @@ record_write-requires-clause-allowed g c =
     (rw c.of-caller.ensures at (sym c.cursor.ensures ∙ c.unwrap-view.ensures)))
     in
     let cause =
-    (rw c.of-caller.ensures at c.in-Ok-None.ensures)
-    ∙ ap (λ (cs : List Change). write_refusal c.args.self.now.limits c.args.self.now.log c.args.who c.unwrap-view.result.scn cs) c.as_slice.ensures.value
+    (rw c.of-caller.ensures at c.write_refusal.ensures)
+    ∙ ap (λ (cs : List Change). write_refusal c.args.self.now.limits c.args.self.now.log c.args.who c.unwrap-view.result.scn cs) c.as_slice-2.ensures.value
     in
-    rw c.of-caller.ensures (facts.allowed (sym cause ∙ c.in-Ok-None.field-0-is))
+    rw c.of-caller.ensures (facts.allowed (sym cause ∙ c.in_default-write_refusal.is))
 
 pub record_write-requires-clause-gives : goal.record_write-requires-clause-gives
 record_write-requires-clause-gives g c =
@@ -79,8 +79,8 @@ record_write-requires-clause-gives g c =
     in
     rw c.given_of-count.ensures.given facts.gives
 
-pub returns-in-Ok-clause-allowed : goal.returns-in-Ok-clause-allowed
-returns-in-Ok-clause-allowed g c =
+pub returns-in-Ok-record_write-clause-allowed : goal.returns-in-Ok-record_write-clause-allowed
+returns-in-Ok-record_write-clause-allowed g c =
     let may = subst (λ (s : Seen). MayWrite s.log c.args.who c.args.cursor c.args.changes.items) (sym c.self.view_is) c.requires.may in
     let facts =
     subst (λ (s : Seen). Rewrites s.limits s.log c.args.who c.args.cursor c.args.changes.items c.unwrap-view.result) c.self.view_is
@@ -88,7 +88,7 @@ returns-in-Ok-clause-allowed g c =
     (rw c.of-caller.ensures at (sym c.cursor.ensures ∙ c.unwrap-view.ensures)))
     in
     let cause =
-    (rw c.of-caller.ensures at c.in-Ok-None.ensures)
-    ∙ ap (λ (cs : List Change). write_refusal c.args.self.now.limits c.args.self.now.log c.args.who c.unwrap-view.result.scn cs) c.as_slice.ensures.value
+    (rw c.of-caller.ensures at c.write_refusal.ensures)
+    ∙ ap (λ (cs : List Change). write_refusal c.args.self.now.limits c.args.self.now.log c.args.who c.unwrap-view.result.scn cs) c.as_slice-2.ensures.value
     in
-    ap (λ n. write_refusal c.args.self.now.limits c.args.self.now.log c.args.who n c.args.changes.items) (sym facts.scn) ∙ (sym cause ∙ c.in-Ok-None.field-0-is)
+    ap (λ n. write_refusal c.args.self.now.limits c.args.self.now.log c.args.who n c.args.changes.items) (sym facts.scn) ∙ (sym cause ∙ c.in_default-write_refusal.is)

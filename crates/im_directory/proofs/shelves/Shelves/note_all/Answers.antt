@@ -7,16 +7,20 @@ pub note-requires : goal.note-requires
 note-requires g c =
     let may =
     MayNote-next _ _ c.args.tables.now c.args.scn c.args.changes.now c.loop-change.change-index c.change-item.result c.requires.room c.requires.later
-    c.loop-change.invariant c.loop-change-test.true c.change-item.is in
-    rw c.extent_of.ensures may
+    c.loop-change.invariant.went c.loop-change-test.true c.change-item.is in
+    rw c.extent_for-extent.ensures.extent.slot may
 
 pub loop-change-preserved : goal.loop-change-preserved
-loop-change-preserved g c =
-    WentThrough-step (λ change. slot_noted (change.rid, c.args.scn)) _ _ _ c.args.tables.now c.args.changes.now c.loop-change.change-index
-    c.extent_of.result c.change-item.result refl c.loop-change.invariant c.loop-change-test.true c.change-item.is c.extent_of.ensures c.note.ensures
+loop-change-preserved g c = record {
+  range = c.extent_for-extent.ensures.range;
+  went =
+      WentThrough-step (λ change. slot_noted (change.rid, c.args.scn)) _ _ _ c.args.tables.now c.args.changes.now c.loop-change.change-index
+      c.extent_for-extent.result c.change-item.result refl c.loop-change.invariant.went c.loop-change-test.true c.change-item.is
+      c.extent_for-extent.ensures.extent c.note.ensures;
+}
 
 pub returns : goal.returns
 returns g c =
     AreNoted-all _ _ c.args.tables.now c.args.scn c.args.changes.now
     (WentThrough-all (λ change. slot_noted (change.rid, c.args.scn)) _ _ c.args.tables.now c.args.changes.now c.loop-change.change-index
-    c.loop-change-test.false c.loop-change.invariant)
+    c.loop-change-test.false c.loop-change.invariant.went)

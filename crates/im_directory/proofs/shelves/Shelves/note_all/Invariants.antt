@@ -1,7 +1,10 @@
 use Rattle.std.proofs.Common.{take}
-use Rattle.im_directory.specs.Steps.{WentThrough, slot_noted}
+use Rattle.im_directory.specs.Steps.{IsRange, WentThrough, slot_noted}
 use Rattle.im_directory.proofs.shelves.Shelves.note_all.Given as goal
 
 -- the changes so far are noted
 abbrev pub invariant-loop-change : goal.invariant-loop-change
-invariant-loop-change g l = WentThrough (λ change. slot_noted (change.rid, l.scn)) l.fn.self l.self l.tables (take l.change-index l.changes)
+invariant-loop-change g l = record {
+  range : IsRange l.tables l.range;
+  went : WentThrough (λ change. slot_noted (change.rid, l.scn)) l.fn.self l.self l.tables (take l.change-index l.changes);
+}

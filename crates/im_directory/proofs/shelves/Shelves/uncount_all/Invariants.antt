@@ -1,7 +1,10 @@
 use Rattle.std.proofs.Common.{take}
-use Rattle.im_directory.specs.Steps.{WentThrough, slot_uncounted}
+use Rattle.im_directory.specs.Steps.{IsRange, WentThrough, slot_uncounted}
 use Rattle.im_directory.proofs.shelves.Shelves.uncount_all.Given as goal
 
 -- no note is counted of the extents of the changes so far
 abbrev pub invariant-loop-change : goal.invariant-loop-change
-invariant-loop-change g l = WentThrough (λ change. slot_uncounted) l.fn.self l.self l.tables (take l.change-index l.changes)
+invariant-loop-change g l = record {
+  range : IsRange l.tables l.range;
+  went : WentThrough (λ change. slot_uncounted) l.fn.self l.self l.tables (take l.change-index l.changes);
+}

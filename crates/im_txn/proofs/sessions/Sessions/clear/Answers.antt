@@ -26,8 +26,8 @@ returns-clause-after c =
     let turns =
     end-turns _ c.index-at.result c.index_mut.result.now c.end-changes.new.self c.transactions-fewer.result c.self.invariant c.index-at.ensures.few
     c.index_mut.ensures.value c.end-changes.ensures.after (c.transactions-fewer.ensures ∙ ap transactions same) in
-    let cells = c.set_all.ensures ∙ ap (set_cells 0 c.self.inside.locks) c.items.ensures in
-    rw (← c.index-at.ensures.same, ← c.self.view_is) (ended-set _ _ c.end-changes.result _ _ c.set_all.new.self _ turns c.end-changes.ensures.after cells
+    let cells = c.set_all.ensures ∙ ap (set_cells 0 c.self.inside.locks) c.as_slice.ensures.value in
+    rw (← c.index-at.ensures.same, ← c.self.view_is) (ended-set _ _ c.end-changes.result.items _ _ c.set_all.new.self _ turns c.end-changes.ensures.after cells
     c.end-changes.ensures.handed)
 
 pub returns-clause-handed : goal.returns-clause-handed

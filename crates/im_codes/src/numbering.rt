@@ -1,0 +1,101 @@
+ghost use Rattle.std.specs.Prelude.{◌≡◌, ◌^◌, ◌<◌, ◌≤◌, ◌+◌, Some, IfSome, IfOk, IsTrue, length, slice_get};
+ghost use Rattle.im_codes.specs.Dictionary.{lent};
+ghost use Rattle.im_codes.specs.inner.Numbering.{IsNumbering, Adds};
+
+use crate::range::number_in_range;
+use im_values::{NoMemory, Value};
+use indexmap::IndexSet;
+use std::alloc::Global;
+
+/// Each value of a list under a number: the place of the same value among those seen.
+#[derive(Debug, Drop)]
+pub struct Numbering<'a> {
+    /// The values, each at its number.
+    pub seen: Vec<&'a Value>,
+
+    /// The number of each value of the list, in order.
+    pub numbers: Vec<u32>,
+}
+
+/// The most distinct values that are looked for one after another.
+const FEW: usize = 16;
+
+/// Where a value stands among those seen, if it does.
+fn place_among(seen: &[&Value], value: &Value) -> Option<usize>
+    ensures { IfSome result (λ place. slice_get (lent seen.now) place ≡ Some value.now) }
+{
+    for (place, other) in seen.iter().enumerate() {
+        if **other == *value {
+            return Some(place);
+        }
+    }
+    None
+}
+
+/// The number of a value, which is put behind those seen where it is new.
+fn number_by_list<'a>(seen: &mut Vec<&'a Value>, value: &'a Value) -> Result<u32, NoMemory>
+    requires { length seen.old.items < 2 ^ 31 }
+    ensures { IfOk result (Adds (lent seen.old.items) (lent seen.new.items) value.now) }
+{
+    if let Some(place) = place_among(seen.as_slice(), value) {
+        return Ok(place as u32);
+    }
+    let place = seen.len() as u32;
+    seen.push(value)?;
+    Ok(place)
+}
+
+/// The number of a value, which is put behind those seen where it is new.
+fn number_by_hash<'a>(seen: &mut IndexSet<&'a Value>, value: &'a Value) -> Result<u32, NoMemory>
+    requires { length seen.old.keys < 2 ^ 31 }
+    ensures { IfOk result (Adds (lent seen.old.keys) (lent seen.new.keys) value.now) }
+{
+    let (place, _) = seen.insert_full(value)?;
+    Ok(place as u32)
+}
+
+/// The values in the order in which they first stand, or none where there are too many to look through.
+fn number_few<'a>(alloc: Global, values: &'a [Value]) -> Result<Option<Numbering<'a>>, NoMemory>
+    requires { length values.now < 2 ^ 31 }
+    ensures { IfOk result (λ few. IfSome few (λ n. IsNumbering values.now (lent n.seen.items) n.numbers.items)) }
+{
+    let mut seen = Vec::with_capacity(alloc, FEW + 1)?;
+    let mut numbers = Vec::with_capacity(alloc, values.len())?;
+    for value in values {
+        numbers.push(number_by_list(&mut seen, value)?)?;
+        if seen.len() > FEW {
+            return Ok(None);
+        }
+    }
+    Ok(Some(Numbering { seen, numbers }))
+}
+
+/// The values in the order in which they first stand.
+fn number_many<'a>(alloc: Global, values: &'a [Value]) -> Result<Numbering<'a>, NoMemory>
+    requires { length values.now < 2 ^ 31 }
+    ensures { IfOk result (λ n. IsNumbering values.now (lent n.seen.items) n.numbers.items) }
+{
+    let mut seen = IndexSet::new(alloc);
+    let mut numbers = Vec::with_capacity(alloc, values.len())?;
+    for value in values {
+        numbers.push(number_by_hash(&mut seen, value)?)?;
+    }
+    Ok(Numbering {
+        seen: Vec::from_slice(alloc, seen.as_slice())?,
+        numbers,
+    })
+}
+
+/// Numbers the values of a list.
+pub fn number_values<'a>(alloc: Global, values: &'a [Value]) -> Result<Numbering<'a>, NoMemory>
+    requires { length values.now < 2 ^ 31 }
+    ensures { IfOk result (λ n. IsNumbering values.now (lent n.seen.items) n.numbers.items) }
+{
+    if let Some(in_range) = number_in_range(alloc, values)? {
+        return Ok(in_range);
+    }
+    match number_few(alloc, values)? {
+        Some(few) => Ok(few),
+        None => number_many(alloc, values),
+    }
+}

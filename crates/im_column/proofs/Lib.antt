@@ -1,0 +1,3 @@
+mod SizeLemmas
+mod SummaryLemmas
+mod ColumnLemmas

@@ -1,0 +1,20 @@
+use Rattle.std.proofs.Common.{sym}
+use Rattle.im_codes.proofs.ForCallers.{dictionary-rising}
+use Rattle.im_column.proofs.SizeLemmas.{rising-plain}
+use Rattle.im_column.proofs.ColumnLemmas.{bounded}
+use Rattle.im_column.proofs.column.Column.build.Goals as goal
+
+pub as_plain-requires-clause-shape : goal.as_plain-requires-clause-shape
+as_plain-requires-clause-shape c =
+    (rising-plain c.args.values.now c.summarize-summary.result.bytes c.if-rise.ensures c.summarize-summary.ensures.summary.is_bytes).0
+
+pub as_plain-requires-clause-plain : goal.as_plain-requires-clause-plain
+as_plain-requires-clause-plain c =
+    (rising-plain c.args.values.now c.summarize-summary.result.bytes c.if-rise.ensures c.summarize-summary.ensures.summary.is_bytes).1
+
+pub assembled-requires-clause-bounds : goal.assembled-requires-clause-bounds
+assembled-requires-clause-bounds c =
+    let values = c.args.values.now in
+    let rising = c.if-rise.ensures in
+    bounded values values c.in_ok-bounds.bounds c.summarize-summary.result.nulls (sym (dictionary-rising values rising.sorted rising.some))
+    c.summarize-summary.ensures.summary.is_nulls c.in_ok-bounds.ensures

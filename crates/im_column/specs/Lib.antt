@@ -1,0 +1,3 @@
+pub mod Summaries
+pub mod Forms
+pub mod inner

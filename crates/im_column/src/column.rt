@@ -1,0 +1,284 @@
+ghost use Rattle.std.specs.Prelude.{◌≡◌, ◌==◌, ◌^◌, ◌<◌, ◌≤◌, Some, All, IfOk, length, slice_get};
+ghost use Rattle.im_values.specs.declared.value.Value.TheVariants.{Null};
+ghost use Rattle.im_values.specs.Sizes.{column_bytes, plain_bytes, shape_of};
+ghost use Rattle.im_values.specs.Sizes as spec;
+ghost use Rattle.im_codes.specs.Dictionary.{AreCodesOf, IsDictionaryOf, coded};
+ghost use Rattle.im_column.specs.Forms.{AreKeptFor, IsFormOf, IsShort};
+ghost use Rattle.im_column.specs.Summaries.{bounds_of, bounds_with, sum_of};
+ghost use Rattle.im_column.specs.inner.Sized.{IsCountedFor, IsSummary};
+
+use crate::bounds::Bounds;
+use crate::form::{Form, Kept};
+use crate::sizes::{coded_bytes, rise, runs_bytes, width_for};
+use crate::summary::{Summary, summarize};
+use im_bits::Bits;
+use im_codes::{Coding, Dict, Runs};
+use im_values::{NoMemory, Value, copied};
+use std::alloc::Global;
+use std::marker::Model;
+
+/// A list of values, in the form that takes the least bytes, with its bounds and its sum.
+///
+/// There are fewer than 2^31 values.
+#[derive(Debug, Drop)]
+pub struct Column {
+    kept: Kept,
+    bytes: u64,
+    bounds: Bounds,
+    sum: i128,
+
+    /// What a code of 0 stands for, to be lent.
+    null: Value,
+}
+
+impl Model for Column {
+    ghost use Rattle.std.specs.Prelude.{◌≡◌, List, ◌^◌, ◌<◌, length};
+    ghost use Rattle.im_values.specs.declared.value.Value.{Value as AnyValue};
+    ghost use Rattle.im_values.specs.declared.value.Value.TheVariants.{Null};
+
+    ghost Value = { List AnyValue };
+
+    ghost use Rattle.im_column.specs.inner.Sized.{values_of, IsKeptFor, IsSummedFor};
+
+    ghost view = { λ c. values_of c.kept };
+
+    ghost invariant = { λ c. IsKeptFor (values_of c.kept) c.kept × IsSummedFor (values_of c.kept) c.bytes c.bounds c.sum × (length (values_of c.kept) < 2 ^ 31) × (c.null ≡ Null) };
+}
+
+/// A form, and the bytes that it takes.
+#[derive(Debug, Drop)]
+struct Counted {
+    kept: Kept,
+    bytes: u64,
+}
+
+impl Column {
+    /// A column of these values.
+    ///
+    /// Values that rise are kept as they are, with no dictionary; else it costs the dictionary and the codes.
+    pub fn build(alloc: Global, values: &[Value]) -> Result<Column, NoMemory>
+        requires few { length values.now < 2 ^ 31 }
+        requires short { All IsShort values.now }
+        ensures { IfOk result (λ column. column ≡ values.now) }
+    {
+        let summary = summarize(values);
+        if rise(values) {
+            let bounds = bounds_from(alloc, values, summary.nulls)?;
+            let counted = as_plain(alloc, values, summary.bytes)?;
+            return Ok(assembled(values, counted, bounds, summary.sum));
+        }
+        let coding = Coding::of(alloc, values)?;
+        from_coding(alloc, values, summary, coding)
+    }
+
+    /// The form that it is kept in: the one of the least bytes.
+    pub fn form(&self) -> Form<'_>
+        ensures { IsFormOf self.now result }
+    {
+        match &self.kept {
+            Kept::Plain(values) => Form::Plain(values.as_slice()),
+            Kept::Coded(dict, bits) => Form::Coded(dict, bits),
+            Kept::Runs(dict, runs) => Form::Runs(dict, runs),
+        }
+    }
+
+    /// How many values there are.
+    pub fn len(&self) -> u64
+        ensures len { result ≡ length self.now }
+        ensures few { result < 2 ^ 31 }
+    {
+        match &self.kept {
+            Kept::Plain(values) => values.len() as u64,
+            Kept::Coded(_, bits) => bits.len(),
+            Kept::Runs(_, runs) => runs.len(),
+        }
+    }
+
+    /// Whether there is no value.
+    pub fn is_empty(&self) -> bool
+        ensures { result ≡ (length self.now == 0) }
+    {
+        self.len() == 0
+    }
+
+    /// The value at a place, from 0. Of runs it costs a binary search.
+    pub fn get(&self, i: u64) -> &Value
+        requires { i < length self.now }
+        ensures { slice_get self.now i ≡ Some result.now }
+    {
+        match &self.kept {
+            Kept::Plain(values) => &values[i as usize],
+            Kept::Coded(dict, bits) => value_of(dict, &self.null, bits.get(i)),
+            Kept::Runs(dict, runs) => value_of(dict, &self.null, runs.get(i)),
+        }
+    }
+
+    /// The bytes that it counts for.
+    pub fn bytes(&self) -> u64
+        ensures { result ≡ column_bytes self.now }
+    {
+        self.bytes
+    }
+
+    /// The least and the greatest value, and how many are NULL.
+    pub fn bounds(&self) -> &Bounds
+        ensures { result.now ≡ bounds_of self.now }
+    {
+        &self.bounds
+    }
+
+    /// The sum of the numbers.
+    pub fn sum(&self) -> i128
+        ensures { result ≡ sum_of self.now }
+    {
+        self.sum
+    }
+}
+
+/// The value of a code.
+fn value_of<'a>(dict: &'a Dict, null: &'a Value, code: u32) -> &'a Value
+    requires code { code < length (coded dict.now) }
+    requires null { null.now ≡ Null }
+    ensures { slice_get (coded dict.now) code ≡ Some result.now }
+{
+    if code == 0 { null } else { dict.value(code) }
+}
+
+/// The value at a place once more, or none.
+fn copy_at(alloc: Global, values: &[Value], i: usize) -> Result<Option<Value>, NoMemory>
+    ensures { IfOk result (λ copy. copy ≡ slice_get values.now i) }
+{
+    if i >= values.len() {
+        return Ok(None);
+    }
+    Ok(Some(values[i].copy(alloc)?))
+}
+
+/// The bounds of values that rise.
+fn bounds_from(alloc: Global, rising: &[Value], nulls: u64) -> Result<Bounds, NoMemory>
+    ensures { IfOk result (λ bounds. bounds ≡ bounds_with rising.now nulls) }
+{
+    Ok(Bounds {
+        least: copy_at(alloc, rising, 0)?,
+        greatest: copy_at(alloc, rising, rising.len().saturating_sub(1))?,
+        nulls,
+    })
+}
+
+/// The values one beside another, where that takes the least bytes.
+fn as_plain(alloc: Global, values: &[Value], plain: u64) -> Result<Counted, NoMemory>
+    requires shape { shape_of values.now ≡ spec.Plain }
+    requires plain { plain ≡ column_bytes values.now }
+    ensures { IfOk result (λ counted. IsCountedFor values.now counted.kept counted.bytes) }
+{
+    Ok(Counted {
+        kept: Kept::Plain(copied(alloc, values)?),
+        bytes: plain,
+    })
+}
+
+/// The values as codes of a dictionary, where that takes the least bytes.
+fn as_coded(
+    alloc: Global,
+    values: &[Value],
+    dict: Dict,
+    codes: &[u32],
+    bytes: u64,
+) -> Result<Counted, NoMemory>
+    requires few { length values.now < 2 ^ 31 }
+    requires shape { shape_of values.now ≡ spec.Coded }
+    requires bytes { bytes ≡ column_bytes values.now }
+    requires kept { AreKeptFor values.now dict codes.now }
+    ensures { IfOk result (λ counted. IsCountedFor values.now counted.kept counted.bytes) }
+{
+    let bits = Bits::pack(alloc, codes, width_for(dict.len()))?;
+    Ok(Counted {
+        kept: Kept::Coded(dict, bits),
+        bytes,
+    })
+}
+
+/// The values as runs of codes, where that takes the least bytes.
+fn as_runs(
+    alloc: Global,
+    values: &[Value],
+    dict: Dict,
+    codes: &[u32],
+    bytes: u64,
+) -> Result<Counted, NoMemory>
+    requires few { length values.now < 2 ^ 31 }
+    requires shape { shape_of values.now ≡ spec.Runs }
+    requires bytes { bytes ≡ column_bytes values.now }
+    requires kept { AreKeptFor values.now dict codes.now }
+    ensures { IfOk result (λ counted. IsCountedFor values.now counted.kept counted.bytes) }
+{
+    let runs = Runs::build(alloc, codes)?;
+    Ok(Counted {
+        kept: Kept::Runs(dict, runs),
+        bytes,
+    })
+}
+
+/// The form of the least bytes, where a dictionary and codes are those of the values.
+fn as_least(
+    alloc: Global,
+    values: &[Value],
+    plain: u64,
+    dict: Dict,
+    codes: &[u32],
+) -> Result<Counted, NoMemory>
+    requires few { length values.now < 2 ^ 31 }
+    requires short { All IsShort values.now }
+    requires plain { plain ≡ plain_bytes values.now }
+    requires dictionary { IsDictionaryOf values.now dict }
+    requires codes { AreCodesOf values.now dict codes.now }
+    ensures { IfOk result (λ counted. IsCountedFor values.now counted.kept counted.bytes) }
+{
+    let coded = coded_bytes(&dict, codes);
+    let runs = runs_bytes(&dict, codes);
+    if plain <= coded.min(runs) {
+        return as_plain(alloc, values, plain);
+    }
+    if coded <= runs {
+        return as_coded(alloc, values, dict, codes, coded);
+    }
+    as_runs(alloc, values, dict, codes, runs)
+}
+
+/// A column of values, by their dictionary and codes.
+fn from_coding(
+    alloc: Global,
+    values: &[Value],
+    summary: Summary,
+    coding: Coding,
+) -> Result<Column, NoMemory>
+    requires few { length values.now < 2 ^ 31 }
+    requires short { All IsShort values.now }
+    requires summary { IsSummary values.now summary.nulls summary.sum summary.bytes }
+    requires dictionary { IsDictionaryOf values.now coding.dict }
+    requires codes { AreCodesOf values.now coding.dict coding.codes.items }
+    ensures { IfOk result (λ column. column ≡ values.now) }
+{
+    let bounds = bounds_from(alloc, coding.dict.values(), summary.nulls)?;
+    let Coding { dict, codes } = coding;
+    let counted = as_least(alloc, values, summary.bytes, dict, codes.as_slice())?;
+    Ok(assembled(values, counted, bounds, summary.sum))
+}
+
+/// A column of these values, in a form that stands for them.
+fn assembled(values: &[Value], counted: Counted, bounds: Bounds, sum: i128) -> Column
+    requires few { length values.now < 2 ^ 31 }
+    requires counted { IsCountedFor values.now counted.kept counted.bytes }
+    requires bounds { bounds ≡ bounds_of values.now }
+    requires sum { sum ≡ sum_of values.now }
+    ensures { result ≡ values.now }
+{
+    let Counted { kept, bytes } = counted;
+    Column {
+        kept,
+        bytes,
+        bounds,
+        sum,
+        null: Value::Null,
+    }
+}

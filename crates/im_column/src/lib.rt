@@ -1,0 +1,20 @@
+//! A column of values, kept in the form that takes the least bytes.
+//!
+//! Contracts see a [`Column`] as the list of its values. [`Column::form`] lends the form that it is kept in: the values
+//! one beside another, codes of a dictionary, or runs of codes. Which one that is follows from the values alone, by the
+//! sizes of `im_values/specs/Sizes.antt`, and so do [`Column::bytes`], the [`Bounds`] and the sum.
+//!
+//! A column never changes, and costs nothing to share behind an `Arc` of its user's.
+//!
+//! Start with `specs/Forms.antt` and `column.rt`, then `specs/Summaries.antt` and `summary.rt`.
+#![tactic(auto)]
+
+mod bounds;
+mod column;
+mod form;
+mod sizes;
+mod summary;
+
+pub use bounds::Bounds;
+pub use column::Column;
+pub use form::Form;

@@ -1,0 +1,7 @@
+use Rattle.std.proofs.Common.{arith}
+use Rattle.im_directory.proofs.RangeLemmas.{IsFor-none}
+use Rattle.im_directory.proofs.shelves.Shelves.extent_for.Goals as goal
+
+pub returns-then-extents-eq0-clause-extent : goal.returns-then-extents-eq0-clause-extent
+returns-then-extents-eq0-clause-extent g c =
+    IsFor-none c.args.self.now c.args.tables.now c.args.change.now 0 (omega (arith, c.extents.ensures, c.if-extents-eq0.true))

@@ -1,0 +1,26 @@
+use Rattle.std.proofs.Common.{◌≡◌, Some, None, sym, ap, ◌∙◌}
+use Rattle.std.specs.Option.{option_copied_mut}
+use Rattle.im_tables.specs.Table.{found_at}
+use Rattle.im_directory.specs.Steps.{slot_noted, slots_with}
+use Rattle.im_directory.proofs.SlotLemmas.{slot_at-found, slots_with-found, slots_with-none}
+use Rattle.im_directory.proofs.shelves.Shelves.note.Goals.{in-Some, in_default}
+use Rattle.im_directory.proofs.shelves.Shelves.note.Goals as goal
+
+pub note-requires : goal.note-requires
+note-requires g c =
+    let found : found_at c.self.inside.slots c.args.table c.args.extent ≡ Some _ = sym c.get_mut.ensures.value ∙ ap option_copied_mut c.in-Some.is in
+    rw (slot_at-found c.self.inside.slots c.args.table c.args.extent _ found, c.self.view_is) c.requires
+
+pub returns : goal.returns
+returns g c =
+    let is = ap (slots_with (slot_noted (c.args.row, c.args.scn)) c.args.table c.args.extent) c.self.view_is in
+    elim c.match-get_mut.branch [
+      | in-Some w ↦
+          let found : found_at c.self.inside.slots c.args.table c.args.extent ≡ Some _ = sym c.get_mut.ensures.value ∙ ap option_copied_mut w.in-Some.is in
+          ap (λ inside. inside.slots) w.self-inside-is
+          ∙ (slots_with-found (slot_noted (c.args.row, c.args.scn)) c.self.inside.slots c.args.table c.args.extent _ _ found w.note.ensures ∙ is)
+      | in_default w ↦
+          let none : found_at c.self.inside.slots c.args.table c.args.extent ≡ None = sym c.get_mut.ensures.value ∙ ap option_copied_mut w.in_default.is in
+          ap (λ inside. inside.slots) w.self-inside-is
+          ∙ (slots_with-none (slot_noted (c.args.row, c.args.scn)) c.self.inside.slots c.args.table c.args.extent none ∙ is)
+    ]

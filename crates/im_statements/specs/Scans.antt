@@ -1,0 +1,70 @@
+-- Scans: a cursor is opened, the extents of its view are served one after the other, and it is closed.
+use Rattle.std.specs.Prelude.{ℕ, zero, suc, ◌+◌, ◌-◌, false, List, [], ◌∷◌, ◌++◌, length, map, Option, Some}
+use Rattle.im_values.specs.declared.value.Value.{Value}
+use Rattle.im_group.specs.Answers.{answer}
+use Rattle.im_history.specs.declared.entry.What.TheVariants.{Open, Shut}
+use Rattle.im_history.specs.declared.view.View.{View}
+use Rattle.im_history.specs.History.{History}
+use Rattle.im_history.specs.Refusals.{open_refusal}
+use Rattle.im_history.specs.Rows.{Row, present}
+use Rattle.im_history.specs.Views.{seen_by, view_at}
+use Rattle.im_plan.specs.Plan.{Plan, End, Turn}
+use Rattle.im_syntax.specs.Condition.{CondOf}
+use Rattle.im_syntax.specs.declared.bound.Bound.{Bound}
+use Rattle.im_replies.specs.declared.body.Body.TheVariants.{Answer, Plan as Explained}
+use Rattle.im_replies.specs.declared.reply.Reply.{Reply}
+use Rattle.im_replies.specs.declared.served.How.{How}
+use Rattle.im_replies.specs.declared.served.Served.{Served}
+use Rattle.im_replies.specs.Causes.{fault_of}
+use Rattle.im_replies.specs.Mixes.{mix}
+use Rattle.im_statements.specs.Outcomes.{Outcome, said}
+use Rattle.im_statements.specs.Turns.{attempt, look, served_reply}
+
+-- the rows that a view sees, each with its number, in order
+abbrev pub rows_seen : History → View → List (ℕ × Row)
+rows_seen history view = present (seen_by history view) 0 view.rows
+
+-- ---- serving
+
+-- the mark of an extent that a scan is served at this history
+abbrev pub mark_at : History → View → Option (CondOf ℕ Value) → ℕ → Served
+mark_at at view filter extent = record { place = length at; extent = extent; how = mix at view extent filter }
+
+-- so many extents of a view are served, from this one on, each at a turn of its own. What the line does then knows the marks
+abbrev pub serve : View → Option (CondOf ℕ Value) → ℕ → ℕ → List Served → (List Served → Plan Outcome) → Plan Outcome
+serve view filter zero extent marks on = on marks
+serve view filter (suc left) extent marks on =
+    look (λ at. serve view filter left (extent + 1) (marks ++ mark_at at view filter extent ∷ []) on)
+
+-- all that are left of a view are served, from this one on
+abbrev pub serve_from : View → Option (CondOf ℕ Value) → ℕ → (List Served → Plan Outcome) → Plan Outcome
+serve_from view filter extent on = serve view filter (view.extents - extent) extent [] on
+
+-- ---- a statement's own scan
+
+-- cursor 0 is opened on a table, unless that is refused, and all extents are served. What the line does then knows the history
+-- at the opening, the view, and the marks
+abbrev pub scan : ℕ → ℕ → Option (CondOf ℕ Value) → (History → View → List Served → Plan Outcome) → Plan Outcome
+scan who table filter on =
+    attempt fault_of (λ at. open_refusal at who 0) (λ at. Open 0 table) (λ at.
+    serve_from (view_at at who table) filter 0 (on at (view_at at who table)))
+
+-- the scan ends, and the line with this reply
+abbrev pub end_scan : Reply → Plan Outcome
+end_scan reply = Turn false (λ here. Some (Shut 0)) (λ here. End (said reply))
+
+-- ---- statements that read
+
+-- SELECT: the answer is over the rows that the view sees, and is settled at the opening
+abbrev pub select : ℕ → Bound → Plan Outcome
+select who bound = scan who bound.table bound.filter (λ at view marks.
+    end_scan (served_reply (length at) marks (Answer view.scn (answer bound (rows_seen at view)))))
+
+-- what EXPLAIN says of a mark
+abbrev pub explained : Served → ℕ × How
+explained mark = (mark.extent, mark.how)
+
+-- EXPLAIN: how each extent is served
+abbrev pub explain : ℕ → Bound → Plan Outcome
+explain who bound = scan who bound.table bound.filter (λ at view marks.
+    end_scan (served_reply (length at) marks (Explained view.scn (map explained marks))))

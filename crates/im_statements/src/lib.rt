@@ -1,0 +1,13 @@
+//! The plans of statements: what each reads, adds and answers, turn by turn, and what it does to what its session keeps.
+//!
+//! A statement of a session is a plan of `im_plan`, whose outcome is a reply and an effect on the session's cursors
+//! (`specs/Outcomes.antt`). `specs/Turns.antt` has what plans are made of, `specs/Scans.antt` the scans, whose extents are served each at
+//! a turn of its own, and `specs/Writes.antt`, `Cursors.antt` and `Definitions.antt` the statements. `specs/Statements.antt` puts names
+//! before them.
+//!
+//! The crate has definitions, and the one enum that they and the sessions share. Start with `specs/Turns.antt`, then `specs/Statements.antt`.
+#![tactic(auto)]
+
+mod rewriting;
+
+pub use rewriting::Rewriting;
