@@ -1,2 +1,3 @@
 pub mod ConditionParts
+pub mod Slots
 pub mod SpellLists

@@ -1,3 +1,4 @@
 pub mod ConditionCode
 pub mod ConditionFalls
 pub mod FormFalls
+pub mod Slots

@@ -1,5 +1,6 @@
-ghost use Rattle.std.specs.Prelude.{◌≡◌, map};
+ghost use Rattle.std.specs.Prelude.{◌≡◌, ◌<◌, map, slice_index};
 ghost use Rattle.im_syntax.specs.Keywords as keywords;
+ghost use Rattle.im_syntax.specs.inner.Slots as slots;
 
 /// A word that the language keeps for itself: it names no table and no column.
 #[derive(Clone, Copy, Debug, PartialEq, Eq)]
@@ -138,24 +139,55 @@ pub const KEYWORDS: [(&[u8], Keyword); 64] = [
     (b"WHERE", Keyword::Where),
 ];
 
-fn look_up(mut table: &[(&[u8], Keyword)], word: &[u8]) -> Option<Keyword>
-    ensures { result ≡ keywords.look_up (map (λ entry. (entry.0.now, entry.1)) table.entry.now) word.now }
+/// Where in [`KEYWORDS`] the keyword of each slot stands: 64 where no keyword has the slot.
+static PLACES: [u8; 256] = [
+    64, 64, 64, 64, 64, 64, 64, 48, 64, 64, 18, 64, 64, 64, 64, 64, 64, 64, 64, 64, 64, 64, 64, 64,
+    64, 64, 64, 56, 14, 64, 64, 64, 64, 64, 52, 64, 64, 64, 24, 64, 64, 46, 64, 35, 64, 64, 64, 64,
+    64, 64, 13, 64, 64, 64, 53, 64, 64, 51, 64, 28, 63, 64, 43, 64, 64, 21, 64, 64, 37, 64, 64, 47,
+    64, 64, 64, 64, 64, 64, 64, 40, 64, 64, 64, 64, 19, 64, 33, 64, 64, 64, 64, 58, 64, 64, 64, 0,
+    64, 55, 64, 64, 30, 64, 64, 64, 8, 1, 64, 64, 64, 64, 64, 64, 6, 64, 64, 64, 50, 7, 64, 27, 64,
+    64, 10, 22, 64, 64, 20, 23, 64, 64, 64, 64, 64, 64, 64, 64, 38, 62, 64, 64, 64, 2, 64, 64, 54,
+    64, 64, 64, 64, 60, 64, 64, 64, 17, 64, 64, 26, 64, 44, 64, 31, 45, 64, 64, 39, 64, 11, 9, 64,
+    64, 64, 12, 59, 64, 64, 64, 64, 64, 64, 64, 34, 64, 64, 64, 64, 64, 64, 64, 29, 64, 64, 64, 64,
+    64, 64, 41, 64, 64, 3, 64, 4, 64, 64, 64, 64, 64, 64, 64, 64, 64, 64, 64, 64, 64, 64, 64, 64,
+    64, 5, 64, 64, 32, 64, 64, 64, 64, 64, 64, 64, 64, 64, 64, 64, 64, 64, 64, 64, 64, 64, 57, 36,
+    64, 64, 16, 15, 64, 64, 64, 64, 42, 61, 64, 64, 25, 49, 64,
+];
+
+/// The byte at a place, or 0 past the end.
+fn byte_at(bytes: &[u8], i: usize) -> u8
+    ensures { result ≡ slice_index bytes.now i }
 {
-    while let [entry, rest @ ..] = table {
-        if entry.0 == word {
-            return Some(entry.1);
-        }
-        table = rest;
+    if i < bytes.len() { bytes[i] } else { 0 }
+}
+
+/// The slot of a word, by its second byte, its last one and its length. No two keywords have the same.
+fn slot_of(word: &[u8]) -> usize
+    ensures within { result < 256 }
+    ensures exact { result ≡ slots.slot_of word.now }
+{
+    let second = usize::from(byte_at(word, 1));
+    let last = usize::from(byte_at(word, word.len().saturating_sub(1)));
+    (second * 11 + last * 19 + word.len()) % 256
+}
+
+/// The keyword at a place of a table, where the word has its letters.
+fn keyword_at(table: &[(&[u8], Keyword)], place: usize, word: &[u8]) -> Option<Keyword>
+    ensures { result ≡ slots.keyword_at (map (λ entry. (entry.0.now, entry.1)) table.entry.now) place word.now }
+{
+    match table.get(place) {
+        Some((letters, keyword)) if *letters == word => Some(*keyword),
+        _ => None,
     }
-    None
 }
 
 impl Keyword {
     /// The keyword of these letters.
-    #[tactic(auto, unfolding(crate::specs::Keywords::keyword_of))]
+    #[tactic(auto, using(crate::proofs::Slots::keyword_of_slot))]
     pub fn of(word: &[u8]) -> Option<Keyword>
         ensures { result ≡ keywords.keyword_of word.now }
     {
-        look_up(&KEYWORDS, word)
+        let place = PLACES[slot_of(word)];
+        keyword_at(&KEYWORDS, usize::from(place), word)
     }
 }
