@@ -1,4 +1,4 @@
-use im_lex::{LexFault, tokens};
+use im_lex::{LexFault, lex};
 use std::test::Fail;
 
 /// The number of tokens, or the bytes before the first bad one.
@@ -47,15 +47,15 @@ fn lines_have_their_tokens_or_a_first_bad_byte(rt: HostRuntime) -> Result<(), Fa
         (b"\x0b", b'x', 0),
     ];
     for (line, kind, number) in cases {
-        let found = tokens(rt.alloc(), line).map(|ts| ts.len());
+        let found = lex(rt.alloc(), line).map(|lexed| lexed.tokens.len());
         assert_eq!(rt; told(found), (kind, number));
     }
     assert_eq!(rt;
-        told(tokens(rt.alloc(), &[b'a'; 128]).map(|ts| ts.len())),
+        told(lex(rt.alloc(), &[b'a'; 128]).map(|lexed| lexed.tokens.len())),
         (b't', 1)
     );
     assert_eq!(rt;
-        told(tokens(rt.alloc(), &[b'a'; 129]).map(|ts| ts.len())),
+        told(lex(rt.alloc(), &[b'a'; 129]).map(|lexed| lexed.tokens.len())),
         (b'x', 0)
     );
     Ok(())

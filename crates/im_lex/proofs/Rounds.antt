@@ -1,14 +1,13 @@
 -- The tokens of a line, round by round, and as a relation.
 use Rattle.std.proofs.Common.{◌≡◌, ℕ, zero, suc, ◌+◌, ◌-◌, ◌<◌, ◌≤◌, List, [], ◌∷◌, ◌++◌, length, drop, length-drop, Result, Ok, Err, refl, sym, ap, subst, ◌∙◌, append_assoc, arith}
 use Rattle.std.proofs.lemmas.List.{append-nil, drop-drop, map_push}
-use Rattle.std.specs.Prelude.{IfOk, IfErr, slice_index}
-use native.Mathlib.Numerals.{unary_clauses}
+use Rattle.std.specs.Prelude.{IfOk, IfErr}
 use Rattle.im_syntax.specs.declared.token.Token.{Token}
 use Rattle.im_lex.specs.declared.front.Front.{Front}
 use Rattle.im_lex.specs.declared.front.Front.TheVariants.{Stop, Blank, Bad, Lexed}
 use Rattle.im_lex.specs.Bytes.{front}
-use Rattle.im_lex.specs.Lexing.{Lexes, ends, skips, takes, IsBadAt, is_bad, behind_blank, behind_token, IsLexedApart, IsFaultAt, IsBadByte, AreApart, AreLexed, tokens_of, places_of}
-use Rattle.im_lex.specs.inner.Rounds.{with_token, round_of, lexed_in, paired_at, Finds, Gives}
+use Rattle.im_lex.specs.Lexing.{Lexes, ends, skips, takes, IsBadAt, is_bad, behind_blank, behind_token, IsLexedApart, IsFaultAt, IsBadByte, AreApart, AreLexed}
+use Rattle.im_lex.specs.inner.Rounds.{with_token, round_of, lexed_in, Finds, Gives}
 use Rattle.im_lex.specs.declared.lexing.LexFault.{LexFault}
 use Rattle.im_lex.specs.declared.lexing.Lexed.{Lexed as Found}
 use Rattle.im_lex.specs.declared.lexing.LexFault.TheVariants as fault
@@ -202,36 +201,6 @@ module _ (most i at : ℕ) (line : List ℕ) (tokens : List Token) (places : Lis
       record { pairs = so_far.pairs ++ (t, at) ∷ []; apart = apart_one so_far.pairs tokens places t at so_far.apart; goes_on = step.0; within = step.1 }
 
 -- ---- what the code gives, as the relation
-
-pub paired_at_push : (places : List ℕ) (i : ℕ) (ts : List Token) (t : Token)
-    → paired_at places i (ts ++ t ∷ []) ≡ paired_at places i ts ++ (t, slice_index places (i + length ts)) ∷ []
-paired_at_push places i [] t = let here : i ≡ i + 0 = omega arith in ap (λ (k : ℕ). (t, slice_index places k) ∷ []) here
-paired_at_push places i (s ∷ ts) t =
-    let further : i + 1 + length ts ≡ i + suc (length ts) = omega arith in
-    ap (λ (x : Tokens). (s, slice_index places i) ∷ x)
-    (paired_at_push places (i + 1) ts t ∙ ap (λ (k : ℕ). paired_at places (i + 1) ts ++ (t, slice_index places k) ∷ []) further)
-
--- behind a place more, places count one higher
-paired_at-behind : (p : ℕ) (places : List ℕ) (i : ℕ) (ts : List Token) → paired_at (p ∷ places) (i + 1) ts ≡ paired_at places i ts
-paired_at-behind p places i [] = refl
-paired_at-behind p places i (t ∷ ts) =
-    let next : slice_index (p ∷ places) (i + 1) ≡ slice_index places i = simp unary_clauses refl in
-    ap (λ (k : ℕ). (t, k) ∷ paired_at (p ∷ places) (i + 1 + 1) ts) next ∙ ap (λ (x : Tokens). (t, slice_index places i) ∷ x) (paired_at-behind p places (i + 1) ts)
-
-paired-parts : (ts : Tokens) → paired_at (places_of ts) 0 (tokens_of ts) ≡ ts
-paired-parts [] = refl
-paired-parts (t ∷ ts) = ap (λ (x : Tokens). t ∷ x) (paired_at-behind t.1 (places_of ts) 0 (tokens_of ts) ∙ paired-parts ts)
-
-apart_pairs : (pairs : Tokens) (tokens : List Token) (places : List ℕ) → AreApart pairs tokens places → paired_at places 0 tokens ≡ pairs
-apart_pairs pairs tokens places apart = rw (apart.tokens_are, apart.places_are) (paired-parts pairs)
-
--- what was found, each token with its place
-pub paired_lexes : (line : List ℕ) (tokens : List Token) (places : List ℕ) (ts : Tokens) → AreLexed line tokens places → ts ≡ paired_at places 0 tokens → Lexes 0 line ts
-paired_lexes line tokens places ts found is =
-    subst (λ (x : Tokens). Lexes 0 line x) (sym (is ∙ apart_pairs found.pairs tokens places found.apart)) found.lexes
-
-pub paired_only : (pairs : Tokens) (tokens : List Token) (places : List ℕ) (ts : Tokens) → AreApart pairs tokens places → ts ≡ paired_at places 0 tokens → ts ≡ pairs
-paired_only pairs tokens places ts apart is = is ∙ apart_pairs pairs tokens places apart
 
 abbrev ok_tokens : Tokens → Result Tokens ℕ
 ok_tokens ts = Ok ts

@@ -1,6 +1,5 @@
 -- The tokens of a line, and its first bad byte.
 use Rattle.std.specs.Prelude.{◌≡◌, ℕ, ◌+◌, List, [], ◌∷◌, drop, map, Result, Ok, Err}
-use Rattle.std.specs.Global.{Vec}
 use Rattle.im_syntax.specs.declared.token.Token.{Token}
 use Rattle.im_lex.specs.declared.front.Front.TheVariants.{Stop, Blank, Bad, Lexed}
 use Rattle.im_lex.specs.declared.lexing.LexFault.{LexFault}
@@ -43,13 +42,7 @@ pub record AreLexed (bytes : List ℕ) (tokens : List Token) (places : List ℕ)
 
 -- ---- what the code promises
 
--- the answer has these tokens, unless memory ran out
-abbrev pub IsLexedAs : List (Token × ℕ) → Result (Vec (Token × ℕ)) LexFault → Type 0
-IsLexedAs ts (Ok found) = found.items ≡ ts
-IsLexedAs ts (Err fault.NoMemory) = Unit {0}
-IsLexedAs ts (Err (fault.At n)) = ⊥
-
--- the same of tokens and places apart
+-- the answer has these tokens and places, unless memory ran out
 abbrev pub IsLexedApart : List (Token × ℕ) → Result Found LexFault → Type 0
 IsLexedApart ts (Ok found) = AreApart ts found.tokens.items found.places.items
 IsLexedApart ts (Err fault.NoMemory) = Unit {0}

@@ -1,4 +1,4 @@
-ghost use Rattle.std.specs.Prelude.{◌≡◌, ◌+◌, ◌≤◌, ℕ, List, length, slice_index, IfOk, IfErr};
+ghost use Rattle.std.specs.Prelude.{◌≡◌, ◌+◌, ◌≤◌, ℕ, List, length, IfOk, IfErr};
 ghost use Rattle.im_syntax.specs.declared.token.Token.{Token as AnyToken};
 ghost use Rattle.im_lex.specs.declared.lexing.LexFault.TheVariants as fault;
 ghost use Rattle.im_lex.specs.Lexing as lexing;
@@ -76,9 +76,9 @@ fn read_tokens(alloc: Global, line: &[u8]) -> Result<Lexed, LexFault>
     Ok(Lexed { tokens, places })
 }
 
-/// The tokens of a line and their places.
+/// The tokens of a line, and how many bytes stand before each.
 ///
-/// It answers as [`tokens`] does, and takes no time to pair what its callers part again.
+/// An error is the first bad byte, wherever it stands, or out of memory. A comment's bytes are never bad.
 pub fn lex(alloc: Global, line: &[u8]) -> Result<Lexed, LexFault>
     // What is found are the line's tokens and their places.
     ensures found { IfOk result (λ l. lexing.AreLexed line.now l.tokens.items l.places.items) }
@@ -90,43 +90,4 @@ pub fn lex(alloc: Global, line: &[u8]) -> Result<Lexed, LexFault>
     ensures bad_only { (n : ℕ) → lexing.IsBadAt 0 line.now n → lexing.IsFaultAt n result }
 {
     read_tokens(alloc, line)
-}
-
-/// A place by its number, or 0 where there is none.
-fn place_at(places: &[u64], i: usize) -> u64
-    ensures { result ≡ slice_index places.now i }
-{
-    if i < places.len() { places[i] } else { 0 }
-}
-
-/// Each token with its place.
-#[tactic(auto, using(crate::proofs::Rounds::paired_at_push))]
-fn paired(alloc: Global, lexed: Lexed) -> Result<Vec<(Token, u64)>, NoMemory>
-    ensures { IfOk result (λ ts. ts.items ≡ rounds.paired_at lexed.places.items 0 lexed.tokens.items) }
-{
-    let Lexed { tokens, places } = lexed;
-    let mut pairs = Vec::with_capacity(alloc, tokens.len())?;
-    for token in tokens {
-        let place = place_at(places.as_slice(), pairs.len());
-        pairs.push((token, place))?;
-    }
-    Ok(pairs)
-}
-
-/// The tokens of a line, each with the number of bytes before it.
-///
-/// An error is the first bad byte, wherever it stands, or out of memory. A comment's bytes are never bad.
-pub fn tokens(alloc: Global, line: &[u8]) -> Result<Vec<(Token, u64)>, LexFault>
-    // What is found are the line's tokens.
-    ensures found { IfOk result (λ ts. lexing.Lexes 0 line.now ts.items) }
-    // The line's tokens are found, unless memory runs out.
-    ensures only { (ts : List (AnyToken × ℕ)) → lexing.Lexes 0 line.now ts → lexing.IsLexedAs ts result }
-    // A fault is the first bad byte.
-    ensures bad { IfErr result (lexing.IsBadByte line.now) }
-    // The first bad byte is a fault, unless memory runs out.
-    ensures bad_only { (n : ℕ) → lexing.IsBadAt 0 line.now n → lexing.IsFaultAt n result }
-{
-    let lexed = lex(alloc, line)?;
-    let pairs = paired(alloc, lexed)?;
-    Ok(pairs)
 }

@@ -3,8 +3,8 @@
 //! What stands first in the bytes is said by cases, one for each row of the table of tokens
 //! (`specs/Bytes.antt`): a word, a number, a text, a sign, a blank, a bad byte, or the end by a comment or the last `;`.
 //! A token takes the most bytes that it can. The tokens of a line are a relation over that (`Lexes`, in
-//! `specs/Lexing.antt`), and so is the first bad byte (`IsBadAt`). [`tokens`] finds the tokens exactly where the line has
-//! some, and else the first bad byte; [`lex`] finds the same in two lists, without a second pass.
+//! `specs/Lexing.antt`), and so is the first bad byte (`IsBadAt`). [`lex`] finds the tokens exactly where the line has some,
+//! and else the first bad byte. It answers tokens and places in two lists, since the parser reads tokens alone.
 //!
 //! Start with `specs/Bytes.antt` and `specs/Lexing.antt`, then `lexing.rt`.
 #![tactic(auto)]
@@ -15,4 +15,4 @@ mod fronts;
 mod lexing;
 
 pub use bytes::{begins_comment, behind, is_blank};
-pub use lexing::{LexFault, Lexed, lex, tokens};
+pub use lexing::{LexFault, Lexed, lex};

@@ -1,5 +1,5 @@
 -- The tokens of a line, computed from left to right in so many rounds.
-use Rattle.std.specs.Prelude.{◌≡◌, ℕ, zero, suc, ◌+◌, List, [], ◌∷◌, drop, slice_index, Result, Ok, Err}
+use Rattle.std.specs.Prelude.{◌≡◌, ℕ, zero, suc, ◌+◌, List, [], ◌∷◌, drop, Result, Ok, Err}
 use Rattle.im_syntax.specs.declared.token.Token.{Token}
 use Rattle.im_lex.specs.declared.front.Front.{Front}
 use Rattle.im_lex.specs.declared.front.Front.TheVariants.{Stop, Blank, Bad, Lexed}
@@ -27,11 +27,6 @@ lexed_in (suc k) at bs = round_of (lexed_in k) at (front bs) bs
 abbrev pub Halts : LexFault → Result (List (Token × ℕ)) ℕ → Type 0
 Halts fault.NoMemory read = Unit {0}
 Halts (fault.At n) read = read ≡ Err n
-
--- tokens, each with its place, the first having the place of this number
-abbrev pub paired_at : List ℕ → ℕ → List Token → List (Token × ℕ)
-paired_at places i [] = []
-paired_at places i (t ∷ ts) = (t, slice_index places i) ∷ paired_at places (i + 1) ts
 
 -- what was found, apart from each other, is what reading gives
 pub record Finds (tokens : List Token) (places : List ℕ) (read : Result (List (Token × ℕ)) ℕ) : Type 0 where
