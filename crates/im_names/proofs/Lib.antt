@@ -7,3 +7,4 @@ pub mod StatementLemmas
 pub mod FitLemmas
 pub mod RowLemmas
 pub mod ServeLemmas
+pub mod TargetLemmas

@@ -1,6 +1,6 @@
 -- CREATE TABLE and the INMEMORY clause.
 use Rattle.std.specs.Prelude.{ℕ, List, Option}
-use Rattle.std.specs.Option.{unwrap_or, option_map}
+use Rattle.std.specs.Option.{unwrap_or}
 use Rattle.im_values.specs.declared.schema.Kind.{Kind}
 use Rattle.im_values.specs.declared.schema.Kind.TheVariants as kind
 use Rattle.im_values.specs.declared.schema.Column.{Column}

@@ -7,3 +7,4 @@ pub mod Queries
 pub mod Definitions
 pub mod Statements
 pub mod Fitting
+pub mod inner

@@ -21,6 +21,7 @@ mod resolved;
 mod rows;
 mod statements;
 mod tables;
+mod targets;
 
 pub use fault::NameFault;
 pub use resolved::Resolved;

@@ -1,47 +1,17 @@
-ghost use Rattle.std.specs.Prelude.{◌≡◌, ◌++◌, length, map, nat_eq, None, IfOk, OnOk, IfErr};
-ghost use Rattle.std.specs.List.{range_with_len};
+ghost use Rattle.std.specs.Prelude.{◌≡◌, ◌++◌, length, map, None, IfOk, OnOk, IfErr};
 ghost use Rattle.im_names.specs.Faults.{IsCause, Passes, first_fault};
-ghost use Rattle.im_names.specs.Lookups.{number_of as number};
 ghost use Rattle.im_names.specs.Rows as spec;
+ghost use Rattle.im_names.specs.inner.TargetNumbers.{numbers_of};
 
 use crate::columns::{number_of, width_of};
 use crate::fault::NameFault;
 use crate::literals::{check_stored, value_of};
+use crate::targets::Targets;
 use im_syntax::Lit;
 use im_values::{List, Name, NoMemory, Row, Schema, Value, rows_of_block};
 use std::alloc::Global;
 
 // ---- INSERT
-
-fn all_numbers(alloc: Global, width: u32) -> Result<Vec<u32>, NoMemory>
-    ensures { IfOk result (λ numbers. numbers.items ≡ range_with_len 0 width) }
-{
-    let mut numbers = Vec::with_capacity(alloc, width as usize)?;
-    for number in 0..width {
-        numbers.push(number)?;
-    }
-    Ok(numbers)
-}
-
-fn numbers_of(alloc: Global, schema: &Schema, names: &[Name]) -> Result<Vec<u32>, NoMemory>
-    ensures { IfOk result (λ numbers. numbers.items ≡ map (number schema.now) names.now) }
-{
-    let mut numbers = Vec::with_capacity(alloc, names.len())?;
-    for name in names {
-        numbers.push(number_of(schema, name))?;
-    }
-    Ok(numbers)
-}
-
-/// The columns that the values of a tuple are for, by their numbers.
-pub fn targets(alloc: Global, schema: &Schema, names: &[Name]) -> Result<Vec<u32>, NoMemory>
-    ensures { IfOk result (λ numbers. numbers.items ≡ spec.targets schema.now names.now) }
-{
-    match names {
-        [] => all_numbers(alloc, width_of(schema)),
-        [_, ..] => numbers_of(alloc, schema, names),
-    }
-}
 
 /// A tuple of so many values.
 fn check_count(tuple: &[Lit], wanted: usize) -> Result<(), NameFault>
@@ -80,48 +50,24 @@ fn check_placed(alloc: Global, schema: &Schema, number: u32, lit: &Lit) -> Resul
     }
 }
 
-/// A tuple whose values the columns of these numbers may hold.
+/// A tuple whose values their columns may hold.
+#[tactic(auto, using(crate::proofs::TargetLemmas::rest_begins, crate::proofs::TargetLemmas::no_more_values))]
 fn check_tuple(
     alloc: Global,
     schema: &Schema,
-    numbers: &[u32],
+    targets: &Targets,
     tuple: &[Lit],
 ) -> Result<(), NameFault>
-    ensures ok { OnOk result (spec.tuple_fault schema.now numbers.now tuple.now ≡ None) }
-    ensures err { IfErr result (IsCause (spec.tuple_fault schema.now numbers.now tuple.now)) }
+    ensures ok { OnOk result (spec.tuple_fault schema.now (numbers_of targets.now) tuple.now ≡ None) }
+    ensures err { IfErr result (IsCause (spec.tuple_fault schema.now (numbers_of targets.now) tuple.now)) }
 {
-    let mut lits = tuple;
-    for number in numbers {
-        let [lit, others @ ..] = lits else {
+    for (i, lit) in tuple.iter().enumerate() {
+        let Some(number) = targets.number_at(i) else {
             return Ok(());
         };
-        check_placed(alloc, schema, *number, lit)?;
-        lits = others;
+        check_placed(alloc, schema, number, lit)?;
     }
     Ok(())
-}
-
-/// Where among these numbers that of a column stands.
-fn source(numbers: &[u32], column: u32) -> Option<usize>
-    ensures { result ≡ spec.source numbers.now column }
-{
-    for (i, number) in numbers.iter().enumerate() {
-        if column == *number {
-            return Some(i);
-        }
-    }
-    None
-}
-
-/// Where in a tuple the value of each column stands, if it does.
-pub fn sources(alloc: Global, width: u32, numbers: &[u32]) -> Result<Vec<Option<usize>>, NoMemory>
-    ensures { IfOk result (λ sources. sources.items ≡ spec.sources width numbers.now) }
-{
-    let mut sources = Vec::with_capacity(alloc, width as usize)?;
-    for column in 0..width {
-        sources.push(source(numbers, column))?;
-    }
-    Ok(sources)
 }
 
 /// The value at a place of a tuple, or NULL.
@@ -137,41 +83,43 @@ fn taken(alloc: Global, tuple: &[Lit], source: Option<usize>) -> Result<Value, N
     }
 }
 
-/// Puts the values of a tuple's row behind those of the rows before it.
+/// Puts the values of a tuple's row, of so many columns, behind those of the rows before it.
 fn push_row(
     alloc: Global,
     values: &mut Vec<Value>,
-    sources: &[Option<usize>],
+    width: u32,
+    targets: &Targets,
     tuple: &[Lit],
 ) -> Result<(), NoMemory>
-    ensures { OnOk result (values.new.items ≡ values.old.items ++ map (spec.taken tuple.now) sources.now) }
+    ensures { OnOk result (values.new.items ≡ values.old.items ++ spec.row_of width (numbers_of targets.now) tuple.now) }
 {
-    for source in sources {
-        values.push(taken(alloc, tuple, *source)?)?;
+    for column in 0..width {
+        values.push(taken(alloc, tuple, targets.source_of(column))?)?;
     }
     Ok(())
 }
 
-/// The rows of tuples whose values are for the columns of these numbers. They share one block.
+/// The rows of tuples whose values are for these columns. They share one block.
 pub fn rows_of(
     alloc: Global,
     schema: &Schema,
-    numbers: &[u32],
-    sources: &[Option<usize>],
+    targets: &Targets,
     tuples: &[List<Lit>],
 ) -> Result<List<Row>, NameFault>
     ensures ok { IfOk result (λ rows. Passes
-        (first_fault (map (spec.tuple_fault schema.now numbers.now) tuples.now))
-        (rows ≡ map (λ tuple. map (spec.taken tuple) sources.now) tuples.now)) }
-    ensures err { IfErr result (IsCause (first_fault (map (spec.tuple_fault schema.now numbers.now) tuples.now))) }
+        (first_fault (map (spec.tuple_fault schema.now (numbers_of targets.now)) tuples.now))
+        (rows ≡ map (spec.row_of (length schema.now) (numbers_of targets.now)) tuples.now)) }
+    ensures err { IfErr result
+        (IsCause (first_fault (map (spec.tuple_fault schema.now (numbers_of targets.now)) tuples.now))) }
 {
-    let width = sources.len();
-    let mut values = Vec::with_capacity(alloc, tuples.len().saturating_mul(width))?;
+    let width = width_of(schema);
+    let room = tuples.len().saturating_mul(width as usize);
+    let mut values = Vec::with_capacity(alloc, room)?;
     for tuple in tuples {
-        check_tuple(alloc, schema, numbers, tuple.items())?;
-        push_row(alloc, &mut values, sources, tuple.items())?;
+        check_tuple(alloc, schema, targets, tuple.items())?;
+        push_row(alloc, &mut values, width, targets, tuple.items())?;
     }
-    let rows = rows_of_block(alloc, values, width, tuples.len())?;
+    let rows = rows_of_block(alloc, values, width as usize, tuples.len())?;
     Ok(List::of(rows))
 }
 

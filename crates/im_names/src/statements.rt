@@ -9,14 +9,15 @@ ghost use Rattle.im_names.specs.Conditions.{filter_of};
 ghost use Rattle.im_names.specs.Rows.{insert_fault, rows_of as all_rows, update_fault, set_of, delete_fault};
 ghost use Rattle.im_names.specs.Statements.{answer, query_answer, create_answer, memory_answer};
 
-use crate::columns::{check_distinct, check_listed, width_of};
+use crate::columns::{check_distinct, check_listed};
 use crate::conditions::{bind_where, check_where};
 use crate::definitions::{memory_of, priority_of, schema_of, shape_of};
 use crate::fault::NameFault;
 use crate::queries::bind_query;
 use crate::resolved::Resolved;
-use crate::rows::{bind_sets, check_counts, rows_of, sources, targets};
+use crate::rows::{bind_sets, check_counts, rows_of};
 use crate::tables::table_called;
+use crate::targets::Targets;
 use im_history::{Look, Mode, Priority, TableInfo};
 use im_syntax::{Bound, ColumnPart, Cond, Lit, MemoryPart, Query, Stmt};
 use im_values::{List, Name, Schema};
@@ -77,10 +78,9 @@ fn bind_insert(
     ensures err { IfErr result (IsCause (insert_fault schema.now names.now tuples.now)) }
 {
     check_listed(alloc, schema, names)?;
-    let numbers = targets(alloc, schema, names)?;
-    check_counts(tuples, numbers.len())?;
-    let sources = sources(alloc, width_of(schema), &numbers)?;
-    let rows = rows_of(alloc, schema, &numbers, &sources, tuples)?;
+    let targets = Targets::of(alloc, schema, names)?;
+    check_counts(tuples, targets.count())?;
+    let rows = rows_of(alloc, schema, &targets, tuples)?;
     Ok(Resolved::Insert { table, rows })
 }
 

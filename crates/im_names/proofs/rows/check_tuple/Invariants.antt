@@ -1,6 +1,7 @@
-use Rattle.std.proofs.Common.{◌≡◌, drop}
-use Rattle.im_names.specs.Rows.{tuple_fault}
+use Rattle.im_names.specs.inner.TargetNumbers.{numbers_of}
+use Rattle.im_names.proofs.TargetLemmas.{Rest}
 use Rattle.im_names.proofs.rows.check_tuple.Given as goal
 
-abbrev pub invariant-loop-number : goal.invariant-loop-number
-invariant-loop-number l = tuple_fault l.schema (drop l.number-index l.numbers) l.lits ≡ tuple_fault l.schema l.numbers l.tuple
+-- what is still to be checked has the fault of the whole
+abbrev pub invariant-loop-i : goal.invariant-loop-i
+invariant-loop-i l = Rest l.schema (numbers_of l.targets) l.tuple l.i
