@@ -1,13 +1,20 @@
 use im_group::Cell;
 use im_replies::{Body, Built, Ending, Fault, How, Records};
-use im_text::reply;
+use im_text::Waiting;
 use im_values::{List, Name};
 use std::alloc::Global;
 use std::test::Fail;
 
+/// Whether this is the text of a reply to a line.
+fn is_said_on(alloc: Global, line: u64, body: &Body, text: &[u8]) -> Result<bool, Fail> {
+    let mut waiting = Waiting::with_room(alloc, 64)?;
+    waiting.put_reply(alloc, line, body)?;
+    Ok(waiting.bytes() == text)
+}
+
 /// Whether this is the text of a reply to line 7.
 fn is_said(alloc: Global, body: &Body, text: &[u8]) -> Result<bool, Fail> {
-    Ok(reply(alloc, 7, body)?.as_slice() == text)
+    is_said_on(alloc, 7, body, text)
 }
 
 fn is_refused(alloc: Global, fault: Fault, text: &str) -> Result<bool, Fail> {
@@ -408,8 +415,29 @@ fn each_record_begins_with_the_number_of_its_line(rt: HostRuntime) -> Result<(),
     ];
     for (line, text) in cases {
         let served = List::of(vec![in alloc; (0_u64, How::Blocks)]?);
-        let plan = reply(alloc, line, &Body::Plan { scn: 2, served })?;
-        assert!(rt; plan.as_slice() == text.as_bytes());
+        let plan = Body::Plan { scn: 2, served };
+        assert!(rt; is_said_on(alloc, line, &plan, text.as_bytes())?);
+    }
+    Ok(())
+}
+
+#[test]
+fn replies_wait_behind_each_other_whatever_room_there_is(rt: HostRuntime) -> Result<(), Fail> {
+    let alloc = rt.alloc();
+    let begun = Body::Begun { scn: 4 };
+    for piece in [0, 1, 16, 65536] {
+        let mut waiting = Waiting::with_room(alloc, piece)?;
+        let mut text = Vec::new(alloc);
+        for _ in 0..1000 {
+            waiting.put_reply(alloc, 3, &begun)?;
+            waiting.put_reply(alloc, 4, &Body::RolledBack)?;
+            text.extend_from_slice(b"3,begun,4\n4,rolled-back\n")?;
+        }
+        assert!(rt; waiting.bytes() == text.as_slice());
+        waiting.clear();
+        assert!(rt; waiting.bytes().is_empty());
+        waiting.put_reply(alloc, 5, &begun)?;
+        assert!(rt; waiting.bytes() == b"5,begun,4\n".as_slice());
     }
     Ok(())
 }

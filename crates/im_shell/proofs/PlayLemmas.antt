@@ -19,7 +19,7 @@ use Rattle.im_script.specs.Lines.{AreLines, IsLine, HasKind, no_memory}
 use Rattle.im_shell.specs.Requests.{Request, Demand, Nothing, Told, Asks, asked, demand_of, demands_of, script_limits}
 use Rattle.im_shell.specs.inner.Answers.{IsAnswer, IsAnswered, IsBetween}
 use Rattle.im_shell.specs.Play.{play_request, replies, may_lack_in, IsPlayed, IsPlayedInPart, Plays, PlaysInPart}
-use Rattle.im_shell.specs.inner.Going.{text_put, Sends, IsSoFar, PlaysNext}
+use Rattle.im_shell.specs.inner.Going.{text_put, Sends, SendsPart, IsSoFar, PlaysNext}
 use Rattle.im_text.specs.Replies.{reply_text}
 use Rattle.im_shell.specs.Texts.{text_of}
 
@@ -181,6 +181,17 @@ IsSoFar-part script written number h rest front more so_far split =
 pub Sends-start : (taken : Option (List ℕ)) → Sends taken taken [] []
 Sends-start taken = record { sent = []; took = Took-nil taken; split = refl }
 
+-- all of it waits still
+pub Sends-none : (taken : Option (List ℕ)) (text left : List ℕ) → left ≡ text → Sends taken taken text left
+Sends-none taken text left same = record { sent = []; took = Took-nil taken; split = sym same }
+
+-- what a fault left
+pub SendsPart-took : (before after : Option (List ℕ)) (text : List ℕ) → TookPart before after text → SendsPart before after text
+SendsPart-took before after text part = record {
+  left = drop part.count text;
+  sends = record { sent = take part.count text; took = part.took; split = sym (take-append-drop part.count text) };
+}
+
 pub Sends-more : (a b : Option (List ℕ)) (text left more new_left : List ℕ) → Sends a b text left → new_left ≡ left ++ more → Sends a b (text ++ more) new_left
 Sends-more a b text left more new_left sends left_is = record {
   sent = sends.sent;
@@ -221,18 +232,20 @@ pub between-start : (s : Seen) → s ≡ record { limits = script_limits; log = 
 unfolding opened replay
 between-start s is = rw is (record { limits = refl; closed = record { each = λ who. refl } })
 
-pub IsGoing-next : (script : List ℕ) (before now after : Option (List ℕ)) (number : ℕ) (h new : History)
+pub IsGoing-next : (script : List ℕ) (before now between after : Option (List ℕ)) (number : ℕ) (h new : History)
     (rest behind line waiting middle new_waiting : List ℕ) → IsGoing script before now number h rest waiting →
-    lines_of rest ≡ line ∷ lines_of behind → length behind + 1 ≤ length rest → PlaysNext line number h new waiting middle →
-    Sends now after middle new_waiting → IsGoing script before after (number + 1) new behind new_waiting
-IsGoing-next script before now after number h new rest behind line waiting middle new_waiting going lines_are shorter next sends = record {
-  written = going.written ++ text_put number next.reply;
-  so_far = IsSoFar-next script going.written number h new rest behind line next.plays.line next.reply going.so_far lines_are next.plays.read.is_line
-      next.plays.answers.answered;
-  sends = Sends-after before now after _ middle new_waiting
-      (Sends-more before now going.written waiting (text_put number next.reply) middle going.sends next.text) sends;
-  numbered = omega (arith, going.numbered);
-}
+    lines_of rest ≡ line ∷ lines_of behind → length behind + 1 ≤ length rest → PlaysNext line number h new now between waiting middle →
+    Sends between after middle new_waiting → IsGoing script before after (number + 1) new behind new_waiting
+IsGoing-next script before now between after number h new rest behind line waiting middle new_waiting going lines_are shorter next sends =
+    let text = text_put number next.reply in
+    let put = Sends-more before now going.written waiting text (waiting ++ text) going.sends refl in
+    record {
+      written = going.written ++ text;
+      so_far = IsSoFar-next script going.written number h new rest behind line next.plays.line next.reply going.so_far lines_are next.plays.read.is_line
+          next.plays.answers.answered;
+      sends = Sends-after before between after _ middle new_waiting (Sends-after before now between _ _ middle put next.sends) sends;
+      numbered = omega (arith, going.numbered);
+    }
 
 pub IsGoing-end : (script : List ℕ) (before now after : Option (List ℕ)) (number : ℕ) (h : History) (rest waiting new_waiting : List ℕ) →
     IsGoing script before now number h rest waiting → length rest ≤ 0 → Sends now after waiting new_waiting → new_waiting ≡ [] →
@@ -249,34 +262,26 @@ IsGoing-end script before now after number h rest waiting new_waiting going over
     empty [] e = refl
     empty (x ∷ xs) e = absurd (omega arith)
 
--- where memory runs out the sink took a prefix of the text
-pub IsGoing-part : (script : List ℕ) (before now : Option (List ℕ)) (number : ℕ) (h : History) (rest waiting : List ℕ) →
-    IsGoing script before now number h rest waiting → PlaysInPart script before now
-IsGoing-part script before now number h rest waiting going = record {
-  text = going.sends.sent;
-  played = IsSoFar-part script going.written number h rest going.sends.sent waiting going.so_far going.sends.split;
-  took = going.sends.took;
-}
-
--- and where the sink met a fault
-pub IsGoing-fault : (script : List ℕ) (before now after : Option (List ℕ)) (number : ℕ) (h : History) (rest waiting : List ℕ) →
-    IsGoing script before now number h rest waiting → TookPart now after waiting → PlaysInPart script before after
-IsGoing-fault script before now after number h rest waiting going part = record {
-  text = going.sends.sent ++ take part.count waiting;
-  played = IsSoFar-part script going.written number h rest (going.sends.sent ++ take part.count waiting) (drop part.count waiting) going.so_far
-      (going.sends.split ∙ (ap (λ (t : List ℕ). going.sends.sent ++ t) (sym (take-append-drop part.count waiting))
-      ∙ sym (append_assoc going.sends.sent (take part.count waiting) (drop part.count waiting))));
-  took = Took-append before now after going.sends.sent (take part.count waiting) going.sends.took part.took;
-}
+-- where it stops the sink took a prefix of the text
+pub IsGoing-part : (script : List ℕ) (before now after : Option (List ℕ)) (number : ℕ) (h : History) (rest waiting : List ℕ) →
+    IsGoing script before now number h rest waiting → SendsPart now after waiting → PlaysInPart script before after
+IsGoing-part script before now after number h rest waiting going part =
+    let all = Sends-after before now after going.written waiting part.left going.sends part.sends in
+    record {
+      text = all.sent;
+      played = IsSoFar-part script going.written number h rest all.sent part.left going.so_far all.split;
+      took = all.took;
+    }
 
 -- a fault right after a line
-pub IsGoing-stuck : (script : List ℕ) (before now after : Option (List ℕ)) (number : ℕ) (h new : History)
+pub IsGoing-stuck : (script : List ℕ) (before now between after : Option (List ℕ)) (number : ℕ) (h new : History)
     (rest behind line waiting middle : List ℕ) → IsGoing script before now number h rest waiting → lines_of rest ≡ line ∷ lines_of behind →
-    length behind + 1 ≤ length rest → PlaysNext line number h new waiting middle → TookPart now after middle → PlaysInPart script before after
-IsGoing-stuck script before now after number h new rest behind line waiting middle going lines_are shorter next part =
-    IsGoing-fault script before now after (number + 1) new behind middle
-    (IsGoing-next script before now now number h new rest behind line waiting middle middle going lines_are shorter next
-    (record { sent = []; took = Took-nil now; split = refl }))
+    length behind + 1 ≤ length rest → PlaysNext line number h new now between waiting middle → SendsPart between after middle →
+    PlaysInPart script before after
+IsGoing-stuck script before now between after number h new rest behind line waiting middle going lines_are shorter next part =
+    IsGoing-part script before between after (number + 1) new behind middle
+    (IsGoing-next script before now between between number h new rest behind line waiting middle middle going lines_are shorter next
+    (Sends-none between middle middle refl))
     part
 
 -- before its first byte a prefix of every script's text was written

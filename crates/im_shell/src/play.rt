@@ -1,19 +1,20 @@
-ghost use Rattle.std.specs.Prelude.{◌≡◌, ◌<◌, ◌≤◌, [], ◌++◌, IfOk, OnOk, OnErr, IsErrOf};
+ghost use Rattle.std.specs.Prelude.{◌≡◌, ◌≤◌, [], ◌++◌, IfOk, OnOk, OnErr, IsErrOf};
 ghost use Rattle.im_edge.specs.Faults.{Rose};
-ghost use Rattle.im_edge.specs.Writing.{Took, TookPart};
 ghost use Rattle.im_shell.specs.declared.play.Stop.TheVariants as stop;
-ghost use Rattle.im_shell.specs.inner.Going.{IsRead, text_put, Sends, PlaysBytes, PlaysNext};
+ghost use Rattle.im_shell.specs.inner.Going.{IsRead, text_put, Sends, SendsPart, PlaysBytes, PlaysNext};
 ghost use Rattle.im_shell.specs.Play.{Plays, PlaysInPart};
 ghost use Rattle.im_shell.specs.inner.Answers.{Answers, IsBetween, IsKnown};
 ghost use Rattle.im_shell.specs.Requests.{script_limits};
+ghost use Rattle.im_text.specs.Replies.{reply_text};
 
 use crate::refusals::out_of_memory;
 use crate::statement::play_statement;
 use im_core::Core;
 use im_edge::{Sink, WriteFault, write_all};
 use im_history::Limits;
-use im_replies::{Fault, Reply};
+use im_replies::{Body, Fault, Reply};
 use im_script::{Line, LineKind, first_line, line_of};
+use im_text::Waiting;
 use im_unit::ColumnUnit;
 use im_values::limits::{MOST_CHANGES, MOST_WEIGHT};
 use im_values::{NoMemory, Steps};
@@ -31,7 +32,7 @@ const LIMITS: Limits = Limits {
     changes: MOST_CHANGES,
 };
 
-/// Replies are handed to the sink once so many bytes wait, and at the end.
+/// Replies are handed to the sink once so many bytes wait, where there is no memory for a further one, and at the end.
 const PIECE: usize = 65536;
 
 /// Why a script was not played to its end.
@@ -112,65 +113,93 @@ fn play_bytes<L: Ledger>(
     play_line(alloc, store, &line, steps)
 }
 
-/// Puts the text of a reply, where there is one, behind what waits to be written.
-fn put_reply(
-    alloc: Global,
-    number: u64,
-    reply: &Option<Reply>,
-    waiting: &mut Vec<u8>,
-) -> Result<(), NoMemory>
-    ensures ok { OnOk result (waiting.new.items ≡ waiting.old.items ++ text_put number reply.now) }
-    ensures err { OnErr result (waiting.new.items ≡ waiting.old.items) }
-{
-    if let Some(reply) = reply {
-        let text = im_text::reply(alloc, number, &reply.body)?;
-        waiting.extend_from_slice(text.as_slice())?;
-    }
-    Ok(())
-}
-
-/// Plays the next line, and puts the text of its reply behind what waits to be written.
-fn play_next<L: Ledger>(
-    alloc: Global,
-    store: &mut Core<ColumnUnit>,
-    bytes: &[u8],
-    number: u64,
-    waiting: &mut Vec<u8>,
-    steps: &mut Steps<L>,
-) -> Result<(), NoMemory>
-    requires between { IsBetween store.old }
-    ensures between { IsBetween store.new }
-    ensures ok { OnOk result (PlaysNext bytes.now number store.old.log store.new.log waiting.old.items waiting.new.items) }
-    ensures err { OnErr result (waiting.new.items ≡ waiting.old.items) }
-{
-    let reply = play_bytes(alloc, store, bytes, number, steps);
-    put_reply(alloc, number, &reply, waiting)
-}
-
 /// Writes all that waits.
-fn flush<K: Sink>(sink: &mut K, waiting: &mut Vec<u8>) -> Result<(), WriteFault>
-    ensures ok { OnOk result (Sends (K.taken sink.old) (K.taken sink.new) waiting.old.items waiting.new.items) }
-    ensures none_left { OnOk result (waiting.new.items ≡ []) }
-    ensures err { OnErr result (TookPart (K.taken sink.old) (K.taken sink.new) waiting.old.items) }
+fn flush<K: Sink>(sink: &mut K, waiting: &mut Waiting) -> Result<(), WriteFault>
+    ensures ok { OnOk result (Sends (K.taken sink.old) (K.taken sink.new) waiting.old waiting.new) }
+    ensures none_left { OnOk result (waiting.new ≡ []) }
+    ensures err { OnErr result (SendsPart (K.taken sink.old) (K.taken sink.new) waiting.old) }
     ensures cause { OnErr result (Rose (K.faults sink.old) (K.faults sink.new)) }
     ensures later { K.faults sink.old ≤ K.faults sink.new }
 {
-    write_all(sink, waiting.as_slice())?;
+    write_all(sink, waiting.bytes())?;
     waiting.clear();
     Ok(())
 }
 
 /// Writes all that waits, once it is a whole piece.
-fn flush_piece<K: Sink>(sink: &mut K, waiting: &mut Vec<u8>) -> Result<(), WriteFault>
-    ensures ok { OnOk result (Sends (K.taken sink.old) (K.taken sink.new) waiting.old.items waiting.new.items) }
-    ensures err { OnErr result (TookPart (K.taken sink.old) (K.taken sink.new) waiting.old.items) }
+fn flush_piece<K: Sink>(sink: &mut K, waiting: &mut Waiting) -> Result<(), WriteFault>
+    ensures ok { OnOk result (Sends (K.taken sink.old) (K.taken sink.new) waiting.old waiting.new) }
+    ensures err { OnErr result (SendsPart (K.taken sink.old) (K.taken sink.new) waiting.old) }
     ensures cause { OnErr result (Rose (K.faults sink.old) (K.faults sink.new)) }
     ensures later { K.faults sink.old ≤ K.faults sink.new }
 {
-    if waiting.len() < PIECE {
+    if waiting.bytes().len() < PIECE {
         return Ok(());
     }
     flush(sink, waiting)
+}
+
+/// Puts the text of a reply behind what waits to be written. Where it finds no memory, what waits is written first, and then
+/// it is tried again.
+fn put_text<K: Sink>(
+    alloc: Global,
+    number: u64,
+    body: &Body,
+    sink: &mut K,
+    waiting: &mut Waiting,
+) -> Result<(), Stop>
+    ensures ok { OnOk result (Sends (K.taken sink.old) (K.taken sink.new) (waiting.old ++ reply_text number body.now) waiting.new) }
+    ensures err { OnErr result (SendsPart (K.taken sink.old) (K.taken sink.new) waiting.old) }
+    ensures cause { IsErrOf result Stop.WriteFault → Rose (K.faults sink.old) (K.faults sink.new) }
+    ensures later { K.faults sink.old ≤ K.faults sink.new }
+{
+    if waiting.put_reply(alloc, number, body).is_ok() {
+        return Ok(());
+    }
+    flush(sink, waiting)?;
+    waiting.put_reply(alloc, number, body)?;
+    Ok(())
+}
+
+/// Puts the text of a reply, where there is one, behind what waits to be written.
+fn put_reply<K: Sink>(
+    alloc: Global,
+    number: u64,
+    reply: &Option<Reply>,
+    sink: &mut K,
+    waiting: &mut Waiting,
+) -> Result<(), Stop>
+    ensures ok { OnOk result (Sends (K.taken sink.old) (K.taken sink.new) (waiting.old ++ text_put number reply.now) waiting.new) }
+    ensures err { OnErr result (SendsPart (K.taken sink.old) (K.taken sink.new) waiting.old) }
+    ensures cause { IsErrOf result Stop.WriteFault → Rose (K.faults sink.old) (K.faults sink.new) }
+    ensures later { K.faults sink.old ≤ K.faults sink.new }
+{
+    match reply {
+        Some(reply) => put_text(alloc, number, &reply.body, sink, waiting),
+        None => Ok(()),
+    }
+}
+
+/// Plays the next line, and puts the text of its reply behind what waits to be written.
+fn play_next<K: Sink, L: Ledger>(
+    alloc: Global,
+    store: &mut Core<ColumnUnit>,
+    bytes: &[u8],
+    number: u64,
+    sink: &mut K,
+    waiting: &mut Waiting,
+    steps: &mut Steps<L>,
+) -> Result<(), Stop>
+    requires between { IsBetween store.old }
+    ensures between { IsBetween store.new }
+    ensures ok { OnOk result (PlaysNext bytes.now number store.old.log store.new.log
+        (K.taken sink.old) (K.taken sink.new) waiting.old waiting.new) }
+    ensures err { OnErr result (SendsPart (K.taken sink.old) (K.taken sink.new) waiting.old) }
+    ensures cause { IsErrOf result Stop.WriteFault → Rose (K.faults sink.old) (K.faults sink.new) }
+    ensures later { K.faults sink.old ≤ K.faults sink.new }
+{
+    let reply = play_bytes(alloc, store, bytes, number, steps);
+    put_reply(alloc, number, &reply, sink, waiting)
 }
 
 /// The store in which nothing has happened.
@@ -196,12 +225,12 @@ pub fn play_script<K: Sink, L: Ledger>(
     ensures later { K.faults sink.old ≤ K.faults sink.new }
 {
     let mut store = empty_store(alloc)?;
-    let mut waiting = Vec::new(alloc);
+    let mut waiting = Waiting::with_room(alloc, PIECE)?;
     let mut rest = script;
     let mut number = 1;
     while rest.len() > 0 {
         let (line, behind) = first_line(rest);
-        play_next(alloc, &mut store, line, number, &mut waiting, steps)?;
+        play_next(alloc, &mut store, line, number, sink, &mut waiting, steps)?;
         flush_piece(sink, &mut waiting)?;
         number += 1;
         rest = behind;

@@ -22,7 +22,8 @@ use std::thread::Threads;
 /// sink.
 ///
 /// `words` are the program's name and those of its command (`im_words`). A line that runs out of memory has a reply that says
-/// so, and the script goes on; [`Status::NoMemory`] is for the reading of the script and the making of a text.
+/// so, and the script goes on; [`Status::NoMemory`] is for the reading of the script, and for a text that does not fit even
+/// once all before it is written.
 pub fn run<R: Threads + Wait + Sync, S: Source, K: Sink, G: Gate + Sync, L: Ledger>(
     _rt: &R,
     alloc: Global,

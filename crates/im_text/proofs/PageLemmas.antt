@@ -11,7 +11,7 @@ use Rattle.csv.specs.Writing.{writer_setup, fields_written, has_written, text_wr
 use Rattle.im_text.specs.declared.page.Page.{Page}
 use Rattle.im_text.specs.Fields.{field_text}
 use Rattle.im_text.specs.Records.{further, record_text, numbered}
-use Rattle.im_text.specs.inner.Pages.{reply_writer, written, IsBetween, IsInside, Adds, Ends, Puts}
+use Rattle.im_text.specs.inner.Pages.{reply_writer, bytes_of, written, IsBetween, IsReady, IsInside, Adds, Ends, Puts, Says}
 use Rattle.im_text.proofs.FieldLemmas.{field-same, field-shows}
 
 -- what the writer of CSV says of a field that it wrote
@@ -107,3 +107,13 @@ puts-both a b c xs ys first second =
 -- nothing behind what is there
 pub puts-none : (a : Page) → IsBetween a → Puts a a []
 puts-none a between = record { between = between; line = refl; text = sym (append-nil (written a)) }
+
+-- a reply: the line, its records, and all of it written out
+pub says : {E : Type 0} (r : Result ⊤ E) (a b c d : Page) (line : ℕ) (records : List (List (List ℕ)))
+    → written b ≡ bytes_of a → b.line ≡ line → Puts b c records → OnOk r (IsReady d) → OnOk r (bytes_of d ≡ written c)
+    → OnOk r (Says a d (numbered line records))
+says (Ok x) a b c d line records same is puts ready flushed =
+    let text : written c ≡ bytes_of a ++ numbered line records =
+    puts.text ∙ ap (λ (t : List ℕ). t ++ numbered b.line records) same ∙ ap (λ (n : ℕ). bytes_of a ++ numbered n records) is in
+    record { ready = ready; bytes = flushed ∙ text }
+says (Err e) a b c d line records same is puts ready flushed = tt

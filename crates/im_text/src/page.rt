@@ -1,4 +1,4 @@
-ghost use Rattle.std.specs.Prelude.{◌≡◌, ◌∷◌, ◌++◌, [], OnOk, IfOk, map, codes, decimal};
+ghost use Rattle.std.specs.Prelude.{◌≡◌, ◌∷◌, ◌++◌, [], OnOk, map, codes, decimal};
 ghost use Rattle.im_text.specs.Fields.{field_text};
 ghost use Rattle.im_text.specs.Records.{further};
 ghost use Rattle.im_text.specs.inner.Pages as spec;
@@ -10,9 +10,8 @@ use csv::{Writer, WriterBuilder};
 use im_group::Cell;
 use im_values::NoMemory;
 use itoa::Buffer;
-use std::alloc::Global;
 
-/// The records of the reply to a line, as they are written.
+/// The records of replies, as they are written, and the line that is answered.
 #[derive(Drop)]
 pub struct Page {
     writer: Writer<Vec<u8>>,
@@ -20,16 +19,41 @@ pub struct Page {
 }
 
 impl Page {
-    /// A page for the reply to this line.
-    pub fn new(alloc: Global, line: u64) -> Page
-        ensures between { spec.IsBetween result }
-        ensures line { result.line ≡ line }
-        ensures empty { spec.written result ≡ [] }
+    /// A page that goes on behind these bytes. It takes no memory.
+    pub fn over(bytes: Vec<u8>) -> Page
+        ensures { spec.IsReady result }
     {
-        let writer = WriterBuilder::new()
-            .flexible(true)
-            .from_writer(Vec::new(alloc));
-        Page { writer, line }
+        let writer = WriterBuilder::new().flexible(true).from_writer(bytes);
+        Page { writer, line: 0 }
+    }
+
+    /// What was written, but for what no flush has written out yet.
+    pub fn bytes(&self) -> &[u8]
+        ensures { result.now ≡ spec.bytes_of self.now }
+    {
+        self.writer.get_ref().as_slice()
+    }
+
+    /// Turns to the reply to this line.
+    pub fn turn_to(&mut self, line: u64)
+        requires { spec.IsReady self.old }
+        ensures between { spec.IsBetween self.new }
+        ensures line { self.new.line ≡ line }
+        ensures same { spec.written self.new ≡ spec.bytes_of self.old }
+    {
+        self.line = line;
+    }
+
+    /// Writes out all that was written.
+    pub fn flush(&mut self) -> Result<(), NoMemory>
+        requires { spec.IsBetween self.old }
+        ensures ready { OnOk result (spec.IsReady self.new) }
+        ensures same { OnOk result (spec.bytes_of self.new ≡ spec.written self.old) }
+    {
+        match self.writer.flush() {
+            Ok(()) => Ok(()),
+            Err(_) => Err(NoMemory),
+        }
     }
 
     /// Begins a record with the number of the line.
@@ -187,16 +211,5 @@ impl Page {
         self.put(b"row")?;
         self.put_cells(cells)?;
         self.end()
-    }
-
-    /// The text of all records.
-    pub fn into_text(self) -> Result<Vec<u8>, NoMemory>
-        ensures { IfOk result (λ text. text.items ≡ spec.written self) }
-    {
-        let Page { writer, line: _ } = self;
-        match writer.into_inner() {
-            Ok(text) => Ok(text),
-            Err(_) => Err(NoMemory),
-        }
     }
 }

@@ -18,6 +18,11 @@ pub record Sends (before after : Option (List ℕ)) (text left : List ℕ) : Typ
   pub took : Took before after sent
   pub split : text ≡ sent ++ left
 
+-- the sink took a prefix of this text
+pub record SendsPart (before after : Option (List ℕ)) (text : List ℕ) : Type 0 where
+  pub left : List ℕ
+  pub sends : Sends before after text left
+
 -- so far: whatever the lines of the rest come to, the whole script comes to the text written so far and then that
 pub record IsSoFar (script written : List ℕ) (number : ℕ) (history : History) (rest : List ℕ) : Type 0 where
   pub on : (lines : List Line) → AreLines number (lines_of rest) lines
@@ -39,8 +44,8 @@ pub record PlaysBytes (bytes : List ℕ) (number : ℕ) (old : History) (reply :
   pub read : IsRead number bytes line
   pub answers : Answers line old reply new
 
--- a line was played, and the text of its reply came behind what waits to be written
-pub record PlaysNext (bytes : List ℕ) (number : ℕ) (old new : History) (waiting new_waiting : List ℕ) : Type 0 where
+-- a line was played, and the text of its reply came behind what waits to be written, of which the sink may have taken some
+pub record PlaysNext (bytes : List ℕ) (number : ℕ) (old new : History) (before after : Option (List ℕ)) (waiting new_waiting : List ℕ) : Type 0 where
   pub reply : Option Reply
   pub plays : PlaysBytes bytes number old reply new
-  pub text : new_waiting ≡ waiting ++ text_put number reply
+  pub sends : Sends before after (waiting ++ text_put number reply) new_waiting

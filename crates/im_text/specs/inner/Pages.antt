@@ -1,5 +1,5 @@
 -- The writer under the records of a reply.
-use Rattle.std.specs.Prelude.{◌≡◌, ◌<◌, ℕ, List, ◌++◌, true, false}
+use Rattle.std.specs.Prelude.{◌≡◌, ◌<◌, ℕ, List, ◌++◌, [], true, false}
 use Rattle.csv.specs.declared.writer.WriterBuilder.{WriterBuilder}
 use Rattle.csv.specs.Writing.{default_writer, with_flexible, writer_setup, fields_written, has_written, writer_under, writer_pending}
 use Rattle.im_text.specs.Records.{numbered}
@@ -9,15 +9,24 @@ use Rattle.im_text.specs.declared.page.Page.{Page}
 abbrev pub reply_writer : WriterBuilder
 reply_writer = with_flexible default_writer true
 
+-- the bytes that were written out
+abbrev pub bytes_of : Page → List ℕ
+bytes_of page = (writer_under page.writer).items
+
 -- the text so far
 abbrev pub written : Page → List ℕ
-written page = (writer_under page.writer).items ++ writer_pending page.writer
+written page = bytes_of page ++ writer_pending page.writer
 
 -- the page ends with a whole record
 pub record IsBetween (page : Page) : Type 0 where
   pub setup : writer_setup page.writer ≡ reply_writer
   pub fields : fields_written page.writer ≡ 0
   pub wrote : has_written page.writer ≡ false
+
+-- it does, and all of it was written out
+pub record IsReady (page : Page) : Type 0 where
+  pub between : IsBetween page
+  pub flushed : writer_pending page.writer ≡ []
 
 -- the page ends inside a record, with a field
 pub record IsInside (page : Page) : Type 0 where
@@ -42,3 +51,8 @@ pub record Puts (old new : Page) (records : List (List (List ℕ))) : Type 0 whe
   pub between : IsBetween new
   pub line : new.line ≡ old.line
   pub text : written new ≡ written old ++ numbered old.line records
+
+-- a whole reply was put and written out
+pub record Says (old new : Page) (text : List ℕ) : Type 0 where
+  pub ready : IsReady new
+  pub bytes : bytes_of new ≡ bytes_of old ++ text

@@ -4,5 +4,5 @@ use Rattle.im_shell.proofs.play.play_next.Goals as goal
 
 pub returns-clause-ok : goal.returns-clause-ok
 returns-clause-ok g c =
-    on_ok_weaker {Q = PlaysNext c.args.bytes.now c.args.number c.args.store.now.log _ c.args.waiting.now.items _} _
-    (λ text. record { reply = c.play_bytes-reply.result; plays = c.play_bytes-reply.ensures.plays; text = text }) c.put_reply.ensures.ok
+    on_ok_weaker {Q = PlaysNext c.args.bytes.now c.args.number c.args.store.now.log _ _ _ c.args.waiting.now _} _
+    (λ sends. record { reply = c.play_bytes-reply.result; plays = c.play_bytes-reply.ensures.plays; sends = sends }) c.put_reply.ensures.ok

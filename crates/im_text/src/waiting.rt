@@ -1,0 +1,116 @@
+ghost use Rattle.std.specs.Prelude.{◌≡◌, ◌++◌, [], IfOk, OnOk, OnErr};
+ghost use Rattle.im_text.specs.Replies.{reply_text};
+ghost use Rattle.im_text.specs.inner.Pages.{IsReady, Says};
+
+use crate::bodies::put_body;
+use crate::page::Page;
+use im_replies::Body;
+use im_values::NoMemory;
+use std::alloc::Global;
+use std::marker::Model;
+
+/// The most bytes of a text for which there is always room behind a piece.
+const SHORT: usize = 4096;
+
+/// The text of replies that waits to be written.
+///
+/// Lines are numbered from 1. The text is bytes, since a text of a table may hold any. Memory for a piece of it is taken at
+/// the start and kept: as long as less than a piece waits, a further text of at most 4,096 bytes, as that of a refusal,
+/// takes none.
+#[derive(Drop)]
+pub struct Waiting {
+    page: Page,
+    text: Vec<u8>,
+    piece: usize,
+}
+
+impl Model for Waiting {
+    ghost use Rattle.std.specs.Prelude.{ℕ, List};
+    ghost use Rattle.im_text.specs.inner.Pages.{IsReady};
+
+    ghost Value = { List ℕ };
+
+    ghost view = { λ waiting. waiting.text.items };
+
+    ghost invariant = { λ waiting. IsReady waiting.page };
+}
+
+/// Puts the reply to a line at the end of a page.
+fn put_on_page(page: &mut Page, line: u64, body: &Body) -> Result<(), NoMemory>
+    requires { IsReady page.old }
+    ensures { OnOk result (Says page.old page.new (reply_text line body.now)) }
+{
+    page.turn_to(line);
+    put_body(page, body)?;
+    page.flush()
+}
+
+/// Puts the reply to a line at the end of a page, and its text behind what waits.
+fn put_behind(page: &mut Page, line: u64, body: &Body, text: &mut Vec<u8>) -> Result<(), NoMemory>
+    requires { IsReady page.old }
+    ensures ready { OnOk result (IsReady page.new) }
+    ensures ok { OnOk result (text.new.items ≡ text.old.items ++ reply_text line body.now) }
+    ensures err { OnErr result (text.new.items ≡ text.old.items) }
+{
+    let start = page.bytes().len();
+    put_on_page(page, line, body)?;
+    text.extend_from_slice(&page.bytes()[start..])?;
+    Ok(())
+}
+
+/// Goes on with an empty page, with this room where there is memory. The old one is let go of first, so that its memory can
+/// serve the new one.
+fn renew(page: &mut Page, alloc: Global, room: usize)
+    ensures { IsReady page.new }
+{
+    *page = Page::over(Vec::new(alloc));
+    if let Ok(bytes) = Vec::with_capacity(alloc, room) {
+        *page = Page::over(bytes);
+    }
+}
+
+/// The room for a piece and a short text.
+fn room_for(piece: usize) -> usize {
+    piece.saturating_add(SHORT)
+}
+
+impl Waiting {
+    /// Nothing, with room for a piece of so many bytes.
+    pub fn with_room(alloc: Global, piece: usize) -> Result<Waiting, NoMemory>
+        ensures { IfOk result (λ waiting. waiting ≡ []) }
+    {
+        let room = room_for(piece);
+        Ok(Waiting {
+            page: Page::over(Vec::with_capacity(alloc, room)?),
+            text: Vec::with_capacity(alloc, room)?,
+            piece,
+        })
+    }
+
+    /// All that waits.
+    pub fn bytes(&self) -> &[u8]
+        ensures { result.now ≡ self.now }
+    {
+        self.text.as_slice()
+    }
+
+    /// Puts the reply to a line behind what waits. It fails out of memory alone.
+    pub fn put_reply(&mut self, alloc: Global, line: u64, body: &Body) -> Result<(), NoMemory>
+        ensures ok { OnOk result (self.new ≡ self.old ++ reply_text line body.now) }
+        ensures err { OnErr result (self.new ≡ self.old) }
+    {
+        let put = put_behind(&mut self.page, line, body, &mut self.text);
+        if put.is_err() || self.page.bytes().len() >= self.piece {
+            renew(&mut self.page, alloc, room_for(self.piece));
+        }
+        put
+    }
+
+    /// Lets go of all that waits, and of room past a piece and a short text.
+    pub fn clear(&mut self)
+        ensures { self.new ≡ [] }
+    {
+        self.text.clear();
+        self.text.shrink_to(room_for(self.piece));
+    }
+}
