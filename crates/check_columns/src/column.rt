@@ -1,0 +1,155 @@
+ghost use Rattle.std.specs.Prelude.{◌≡◌, ◌^◌, ◌<◌, ◌≤◌, All, IfOk, OnOk, length};
+ghost use Rattle.im_column.specs.Forms.{IsShort};
+
+use crate::values::Cell::{Int, Null, Text};
+use crate::values::{Cell, text, values_of};
+use Shape::{Coded, Plain, Runs};
+use im_column::{Column, Form};
+use im_values::{NoMemory, Value};
+use std::alloc::Global;
+use std::test::Fail;
+
+/// A form, with the width of its codes or with how many runs there are.
+#[derive(Clone, Copy, Debug, PartialEq, Eq)]
+enum Shape {
+    Plain,
+    Coded(u32),
+    Runs(usize),
+}
+
+/// Values, each so many times, and the form and the bytes of their column.
+///
+/// NULL counts for 1 byte, a number for 9, a text of n bytes for 3 + n, a word of codes and a run for 8. Where two forms take the
+/// same bytes, plain values come before codes, and codes before runs.
+const CASES: [(&[(Cell, u32)], Shape, u64); 19] = [
+    (&[], Plain, 0),
+    (&[(Null, 1)], Coded(0), 0),
+    (&[(Int(10), 1), (Int(20), 1), (Int(30), 1)], Plain, 27),
+    (&[(Int(30), 1), (Int(20), 1), (Int(10), 1)], Plain, 27),
+    (&[(Int(1), 1), (Null, 1), (Int(2), 1)], Plain, 19),
+    (&[(Null, 8), (Int(7), 1)], Plain, 17),
+    (&[(Null, 9), (Int(7), 1)], Coded(1), 17),
+    (&[(Int(7), 64)], Coded(1), 17),
+    (&[(Int(7), 65)], Runs(1), 17),
+    (&[(Null, 70), (Int(5), 70)], Runs(2), 25),
+    (&[(Int(5), 64), (Null, 64)], Coded(1), 25),
+    (&[(Text(b"abcde"), 2)], Plain, 16),
+    (&[(Text(b"abcdef"), 2)], Coded(1), 17),
+    (&[(Text(b""), 3)], Plain, 9),
+    (&[(Text(b"b"), 1), (Int(2), 1), (Null, 1)], Plain, 14),
+    (&[(Text(b"2"), 30), (Int(2), 30), (Null, 30)], Coded(2), 37),
+    (&[(Text(b"fifteen letters"), 40), (Null, 1)], Coded(1), 26),
+    (&[(Int(i64::MIN), 2), (Int(i64::MAX), 3)], Coded(2), 26),
+    (&[(Int(i64::MAX), 300), (Int(i64::MIN), 300)], Runs(2), 34),
+];
+
+fn shape_of(column: &Column) -> Shape {
+    match column.form() {
+        Form::Plain(_) => Plain,
+        Form::Coded(_, bits) => Coded(bits.width()),
+        Form::Runs(_, runs) => Runs(runs.runs().len()),
+    }
+}
+
+/// A column, at the second try where memory runs out at the first.
+fn built(alloc: Global, values: &[Value]) -> Result<Column, NoMemory>
+    requires few { length values.now < 2 ^ 31 }
+    requires short { All IsShort values.now }
+    ensures { IfOk result (λ column. column ≡ values.now) }
+{
+    if let Ok(column) = Column::build(alloc, values) {
+        return Ok(column);
+    }
+    Column::build(alloc, values)
+}
+
+fn sum(values: &[Value]) -> i128 {
+    let mut sum = 0i128;
+    for value in values {
+        if let Value::Int(number) = value {
+            sum = sum.wrapping_add(i128::from(*number));
+        }
+    }
+    sum
+}
+
+/// Whether a column has these values, one by one, and the bounds and the sum that a slow program finds.
+fn agrees(column: &Column, values: &[Value]) -> bool {
+    if column.len() != values.len() as u64 || column.is_empty() != values.is_empty() {
+        return false;
+    }
+    for (i, value) in values.iter().enumerate() {
+        if column.get(i as u64) != value {
+            return false;
+        }
+    }
+    let bounds = column.bounds();
+    let some = |value: &&Value| **value != Value::Null;
+    bounds.least.as_ref() == values.iter().filter(some).min()
+        && bounds.greatest.as_ref() == values.iter().filter(some).max()
+        && bounds.nulls == values.iter().filter(|value| !some(value)).count() as u64
+        && column.sum() == sum(values)
+}
+
+#[test]
+fn a_column_is_kept_in_the_form_of_the_least_bytes(rt: HostRuntime) -> Result<(), Fail> {
+    let alloc = rt.alloc();
+    for (i, (cells, wanted, bytes)) in CASES.iter().enumerate() {
+        let values = values_of(alloc, cells)?;
+        assert!(rt; values.len() < 1_000_000);
+        let column = built(alloc, values.as_slice())?;
+        let found = (shape_of(&column), column.bytes());
+        assert_eq!(rt; found, (*wanted, *bytes), "case {i}");
+        assert!(rt; agrees(&column, values.as_slice()), "case {i}");
+    }
+    Ok(())
+}
+
+/// Distinct values: numbers so far apart, or texts of four bytes with numbers between them.
+#[derive(Clone, Copy, Debug)]
+enum Series {
+    Numbers(i64),
+    Mixed,
+}
+
+/// The value of a number in a series, and NULL for 0.
+fn nth(alloc: Global, series: Series, number: u32) -> Result<Value, NoMemory>
+    ensures { IfOk result IsShort }
+{
+    match series {
+        _ if number == 0 => Ok(Value::Null),
+        Series::Numbers(apart) => Ok(Value::Int(i64::from(number).wrapping_mul(apart))),
+        Series::Mixed if number % 2 == 0 => Ok(Value::Int(i64::from(number))),
+        Series::Mixed => text(alloc, &number.to_be_bytes()),
+    }
+}
+
+/// NULL and the first so many values of a series, each three times at least, and no two side by side the same.
+fn scattered(alloc: Global, series: Series, count: u32) -> Result<Vec<Value>, NoMemory>
+    requires { count < 2 ^ 20 }
+    ensures { IfOk result (λ values. All IsShort values.items) }
+{
+    let mut values = Vec::new(alloc);
+    for i in 0..3 * (count + 1) + 64 {
+        let number = u64::from(i) * 7919 % u64::from(count + 1);
+        values.push(nth(alloc, series, number as u32)?)?;
+    }
+    Ok(values)
+}
+
+#[test]
+fn a_column_has_codes_of_the_least_width(rt: HostRuntime) -> Result<(), Fail> {
+    let alloc = rt.alloc();
+    for width in 0..15 {
+        for count in [(1u32 << width) / 2, (1u32 << width) - 1] {
+            for series in [Series::Numbers(-1), Series::Numbers(1 << 40), Series::Mixed] {
+                let values = scattered(alloc, series, count)?;
+                assert!(rt; values.len() < 1_000_000);
+                let column = built(alloc, values.as_slice())?;
+                assert_eq!(rt; shape_of(&column), Coded(width), "{count} of {series:?}");
+                assert!(rt; agrees(&column, values.as_slice()), "{count} of {series:?}");
+            }
+        }
+    }
+    Ok(())
+}
