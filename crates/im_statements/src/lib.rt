@@ -5,9 +5,12 @@
 //! a turn of its own, and `specs/Writes.antt`, `Cursors.antt` and `Definitions.antt` the statements. `specs/Statements.antt` puts names
 //! before them.
 //!
-//! The crate has definitions, and the one enum that they and the sessions share. Start with `specs/Turns.antt`, then `specs/Statements.antt`.
+//! [`lines_keep_agreement`] is the law that what a session keeps agrees with its history (`specs/Agreement.antt`). Beside it the crate
+//! has definitions, and the one enum that they and the sessions share. Start with `specs/Turns.antt`, then `specs/Statements.antt`.
 #![tactic(auto)]
 
+mod agreement;
 mod rewriting;
 
+pub use agreement::lines_keep_agreement;
 pub use rewriting::Rewriting;

@@ -1,0 +1,3 @@
+mod AgreementLaws
+mod KeptLaws
+pub mod OtherLaws
