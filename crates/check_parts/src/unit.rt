@@ -1,5 +1,6 @@
-ghost use Rattle.std.specs.Prelude.{◌≡◌, length, IfOk};
+ghost use Rattle.std.specs.Prelude.{◌≡◌, All, length, IfOk};
 ghost use Rattle.std.specs.Option.{ForSome};
+ghost use Rattle.im_column.specs.Forms.{IsShort};
 
 use im_history::UnitLike;
 use im_unit::ColumnUnit;
@@ -9,7 +10,8 @@ use std::test::Fail;
 
 /// A row of one number, or none.
 fn row(alloc: Global, number: Option<i64>) -> Result<Option<Row>, Fail>
-    ensures { IfOk result (λ row. ForSome row (λ values. length values ≡ 1)) }
+    ensures width { IfOk result (λ row. ForSome row (λ values. length values ≡ 1)) }
+    ensures short { IfOk result (λ row. ForSome row (λ values. All IsShort values)) }
 {
     match number {
         Some(number) => {
@@ -38,8 +40,9 @@ fn a_unit_has_each_row_at_its_row_number(rt: HostRuntime) -> Result<(), Fail> {
         row(alloc, Some(-3))?,
     ]?;
     let unit = ColumnUnit::build(alloc, 5, 64, 1, rows.as_slice())?;
-    assert!(rt; unit.scn() == 5 && unit.first() == 64 && unit.columns() == 1);
-    assert!(rt; unit.present() == 2 && unit.rows().len() == 3);
+    assert!(rt; unit.scn() == 5 && unit.first() == 64 && unit.columns().len() == 1);
+    assert!(rt; unit.present() == 2 && unit.rows(alloc)?.len() == 3);
+    assert!(rt; unit.column(0).len() == 2 && unit.bytes() == 26);
     for (rid, wanted) in [
         (63, None),
         (64, Some(7)),

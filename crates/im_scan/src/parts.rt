@@ -10,10 +10,10 @@ ghost use Rattle.im_group.specs.Partials as group;
 ghost use Rattle.im_scan.specs.Faces.{Shows, unit_of};
 ghost use Rattle.im_scan.specs.Parts.{MayAsk, part_of, taken_row};
 ghost use Rattle.im_scan.specs.Pinned.{IsPinned, seen_in};
-ghost use Rattle.im_scan.specs.inner.Steps.{lent, numbered, numbered_from};
+ghost use Rattle.im_scan.specs.inner.Steps.{AreRowsOf, lent, numbered, numbered_from};
 
 use crate::faces::Face;
-use crate::slots::gather;
+use crate::slots::{gather, rows_of};
 use im_group::Partial;
 use im_history::View;
 use im_syntax::Bound;
@@ -55,24 +55,26 @@ fn numbered_rows<'a>(
 fn taken_rows<'a>(
     alloc: Global,
     face: Face<'a>,
+    held: &'a [Option<Row>],
     fetched: &'a [(u64, Option<Row>)],
     view: &'a View,
     first: u64,
     count: u64,
 ) -> Result<Vec<(u64, &'a Row)>, NoMemory>
     requires within { first + count < 2 ^ 64 }
+    requires held { AreRowsOf face held.now }
     ensures { IfOk result (λ rows.
         group.lent_rows rows.items ≡ present (taken_row (unit_of face.entry) fetched.now view.now) first count) }
 {
-    let slots = gather(alloc, face, fetched, view, first, count)?;
+    let slots = gather(alloc, face, held, fetched, view, first, count)?;
     numbered_rows(alloc, first, slots.as_slice())
 }
 
 /// What an extent gives to a query: the partial answer over exactly the rows of that extent that the view sees.
 ///
-/// It costs two passes over the row numbers of the extent, one over what was fetched, and those of the row numbers that the
-/// view's own changes are to. The condition is asked once of each row, and only the rows that a query without groups keeps are
-/// copied.
+/// It costs reading back the rows of the unit, two passes over the row numbers of the extent, one over what was fetched, and
+/// those of the row numbers that the view's own changes are to. The condition is asked once of each row; besides the unit's, only
+/// the rows that a query without groups keeps are copied.
 pub fn part(
     alloc: Global,
     face: Face<'_>,
@@ -95,6 +97,7 @@ pub fn part(
     let rows = view.rows;
     let first = extent * view.per;
     let count = view.per.min(rows - first);
-    let rows = taken_rows(alloc, face, fetched, view, first, count)?;
+    let held = rows_of(alloc, face)?;
+    let rows = taken_rows(alloc, face, &held, fetched, view, first, count)?;
     Partial::of_lent(alloc, bound, rows.as_slice())
 }

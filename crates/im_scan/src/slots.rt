@@ -3,7 +3,7 @@ ghost use Rattle.std.specs.Option.{ForSome, option_copied};
 ghost use Rattle.im_scan.specs.Faces.{unit_of};
 ghost use Rattle.im_unit.specs.Holding as holding;
 ghost use Rattle.im_scan.specs.Parts.{unit_row};
-ghost use Rattle.im_scan.specs.inner.Steps.{gathered, lent, put_at, unit_rows, with_changes, with_fetched};
+ghost use Rattle.im_scan.specs.inner.Steps.{AreRowsOf, gathered, lent, put_at, unit_rows, with_changes, with_fetched};
 
 use crate::faces::Face;
 use im_history::View;
@@ -11,23 +11,34 @@ use im_unit::ColumnUnit;
 use im_values::{NoMemory, Row};
 use std::alloc::Global;
 
-/// The row that a unit has at a row number.
-fn row_of(unit: &ColumnUnit, rid: u64) -> Option<&Row>
+/// The rows that a unit holds, read back from its columns. Without a unit there is none.
+pub fn rows_of(alloc: Global, face: Face<'_>) -> Result<Vec<Option<Row>>, NoMemory>
+    ensures { IfOk result (λ rows. AreRowsOf face.entry rows.items) }
+{
+    match face {
+        Face::Whole(unit) => unit.rows(alloc),
+        Face::Bare => Ok(Vec::new(alloc)),
+    }
+}
+
+/// The row that a unit has at a row number, among the rows that it holds.
+fn row_of<'a>(unit: &ColumnUnit, held: &'a [Option<Row>], rid: u64) -> Option<&'a Row>
+    requires { held.now ≡ unit.now.rows }
     ensures { option_copied result ≡ holding.row_of unit.now rid }
 {
-    let rows = unit.rows();
-    if rid < unit.first() || rid - unit.first() >= rows.len() as u64 {
+    if rid < unit.first() || rid - unit.first() >= held.len() as u64 {
         return None;
     }
-    rows[(rid - unit.first()) as usize].as_ref()
+    held[(rid - unit.first()) as usize].as_ref()
 }
 
 /// The row that a face shows at a row number.
-fn shown<'a>(face: Face<'a>, rid: u64) -> Option<&'a Row>
+fn shown<'a>(face: Face<'a>, held: &'a [Option<Row>], rid: u64) -> Option<&'a Row>
+    requires { AreRowsOf face held.now }
     ensures { option_copied result ≡ unit_row (unit_of face.entry) rid }
 {
     match face {
-        Face::Whole(unit) => row_of(unit, rid),
+        Face::Whole(unit) => row_of(unit, held, rid),
         Face::Bare => None,
     }
 }
@@ -36,15 +47,17 @@ fn shown<'a>(face: Face<'a>, rid: u64) -> Option<&'a Row>
 fn shown_rows<'a>(
     alloc: Global,
     face: Face<'a>,
+    held: &'a [Option<Row>],
     first: u64,
     count: u64,
 ) -> Result<Vec<Option<&'a Row>>, NoMemory>
-    requires { first + count < 2 ^ 64 }
+    requires within { first + count < 2 ^ 64 }
+    requires held { AreRowsOf face held.now }
     ensures { IfOk result (λ slots. lent slots.items ≡ unit_rows (unit_of face.entry) first count) }
 {
     let mut slots = Vec::with_capacity(alloc, count as usize)?;
     for rid in first..first + count {
-        slots.push(shown(face, rid))?;
+        slots.push(shown(face, held, rid))?;
     }
     Ok(slots)
 }
@@ -84,14 +97,16 @@ fn put_own<'a>(slots: &mut [Option<&'a Row>], first: u64, view: &'a View)
 fn overlaid<'a>(
     alloc: Global,
     face: Face<'a>,
+    held: &'a [Option<Row>],
     fetched: &'a [(u64, Option<Row>)],
     first: u64,
     count: u64,
 ) -> Result<Vec<Option<&'a Row>>, NoMemory>
-    requires { first + count < 2 ^ 64 }
+    requires within { first + count < 2 ^ 64 }
+    requires held { AreRowsOf face held.now }
     ensures { IfOk result (λ slots. lent slots.items ≡ with_fetched first (unit_rows (unit_of face.entry) first count) fetched.now) }
 {
-    let mut slots = shown_rows(alloc, face, first, count)?;
+    let mut slots = shown_rows(alloc, face, held, first, count)?;
     put_fetched(slots.as_mut_slice(), first, fetched);
     Ok(slots)
 }
@@ -132,22 +147,24 @@ fn bare_rows<'a>(
             return Ok(slots);
         }
     }
-    overlaid(alloc, Face::Bare, fetched, first, count)
+    overlaid(alloc, Face::Bare, &[], fetched, first, count)
 }
 
 /// The rows before the changes of the view's own: what was fetched, else what the face shows.
 fn committed_rows<'a>(
     alloc: Global,
     face: Face<'a>,
+    held: &'a [Option<Row>],
     fetched: &'a [(u64, Option<Row>)],
     first: u64,
     count: u64,
 ) -> Result<Vec<Option<&'a Row>>, NoMemory>
-    requires { first + count < 2 ^ 64 }
+    requires within { first + count < 2 ^ 64 }
+    requires held { AreRowsOf face held.now }
     ensures { IfOk result (λ slots. lent slots.items ≡ with_fetched first (unit_rows (unit_of face.entry) first count) fetched.now) }
 {
     match face {
-        Face::Whole(_) => overlaid(alloc, face, fetched, first, count),
+        Face::Whole(_) => overlaid(alloc, face, held, fetched, first, count),
         Face::Bare => bare_rows(alloc, fetched, first, count),
     }
 }
@@ -158,15 +175,17 @@ fn committed_rows<'a>(
 pub fn gather<'a>(
     alloc: Global,
     face: Face<'a>,
+    held: &'a [Option<Row>],
     fetched: &'a [(u64, Option<Row>)],
     view: &'a View,
     first: u64,
     count: u64,
 ) -> Result<Vec<Option<&'a Row>>, NoMemory>
-    requires { first + count < 2 ^ 64 }
+    requires within { first + count < 2 ^ 64 }
+    requires held { AreRowsOf face held.now }
     ensures { IfOk result (λ slots. lent slots.items ≡ gathered (unit_of face.entry) fetched.now view.now first count) }
 {
-    let mut slots = committed_rows(alloc, face, fetched, first, count)?;
+    let mut slots = committed_rows(alloc, face, held, fetched, first, count)?;
     put_own(slots.as_mut_slice(), first, view);
     Ok(slots)
 }

@@ -1,0 +1,4 @@
+mod KeptLemmas
+mod BuildLemmas
+mod ReadLemmas
+mod UnitLemmas

@@ -1,64 +1,63 @@
-ghost use Rattle.std.specs.Prelude.{◌≡◌, ◌+◌, ◌<◌, ◌≤◌, ◌^◌, length, IfOk};
-ghost use Rattle.im_unit.specs.Holding.{HaveWidth, count_present, row_of};
+ghost use Rattle.std.specs.Prelude.{◌≡◌, ◌+◌, ◌<◌, ◌≤◌, ◌^◌, map, length, sum_by, IfOk};
+ghost use Rattle.std.specs.Arc.{arc_value};
+ghost use Rattle.im_values.specs.Sizes.{column_bytes};
+ghost use Rattle.im_unit.specs.Holding.{AreShort, HaveWidth, columns_of, count_present, present_rows, row_of, unit_bytes, values_in};
+ghost use Rattle.im_unit.specs.inner.Kept.{AreBounded};
 
+use crate::building::{columns_of, rows_present};
+use crate::presence::Presence;
+use crate::reading::{row_at, rows_of, spread_rows};
+use im_column::Column;
 use im_history::UnitLike;
 use im_values::limits::MOST_COLUMNS;
-use im_values::{NoMemory, Row, clone_row};
+use im_values::{NoMemory, Row};
 use std::alloc::Global;
 use std::marker::Model;
+use std::sync::Arc;
 
 /// The rows of one extent that were committed by an SCN.
 #[derive(Debug, Drop)]
 pub struct ColumnUnit {
     scn: u64,
     first: u64,
-    columns: u32,
-    rows: Vec<Option<Row>>,
-    present: u64,
+    presence: Presence,
+    columns: Vec<Arc<Column>>,
+    bytes: u64,
 }
 
 impl Model for ColumnUnit {
-    ghost use Rattle.std.specs.Prelude.{◌≡◌};
+    ghost use Rattle.std.specs.Prelude.{◌≡◌, ◌+◌, ◌*◌, ◌≤◌, ◌<◌, ◌^◌, length, map, sum_by};
+    ghost use Rattle.std.specs.Arc.{arc_value};
+    ghost use Rattle.std.specs.Int.{div_ceil};
+    ghost use Rattle.im_values.specs.Sizes.{column_bytes};
     ghost use Rattle.im_history.specs.Units.{Content};
-    ghost use Rattle.im_unit.specs.Holding.{count_present};
+    ghost use Rattle.im_unit.specs.inner.Kept.{HaveLength, content_kept, count_set};
 
     ghost Value = { Content };
 
-    ghost view = { λ u. record { scn = u.scn; first = u.first; columns = u.columns; rows = u.rows.items } };
+    ghost view = { λ u. content_kept u.scn u.first (length u.columns.items) u.presence (map arc_value u.columns.items) };
 
-    ghost invariant = { λ u. u.present ≡ count_present u.rows.items };
+    ghost invariant = { λ u. HaveLength (count_set u.presence) (map arc_value u.columns.items) × (length u.columns.items ≤ 16) × (u.bytes ≡ 8 * div_ceil (length u.presence) 64 + sum_by column_bytes (map arc_value u.columns.items)) };
 }
 
-/// The same row once more, or none.
-fn copy_of(alloc: Global, row: &Option<Row>) -> Result<Option<Row>, NoMemory>
-    ensures { IfOk result (λ copy. copy ≡ row.now) }
+/// The bytes of columns.
+fn bytes_of(columns: &[Arc<Column>]) -> u64
+    requires few { length columns.now ≤ 16 }
+    requires bounded { AreBounded (map arc_value columns.now) }
+    ensures bytes { result ≡ sum_by column_bytes (map arc_value columns.now) }
+    ensures few { result ≤ 2 ^ 53 }
 {
-    match row {
-        Some(row) => Ok(Some(clone_row(alloc, row)?)),
-        None => Ok(None),
+    let mut bytes = 0;
+    for column in columns {
+        bytes += column.bytes();
     }
-}
-
-fn copies_of(alloc: Global, rows: &[Option<Row>]) -> Result<Vec<Option<Row>>, NoMemory>
-    ensures { IfOk result (λ copies. copies.items ≡ rows.now) }
-{
-    let mut copies = Vec::with_capacity(alloc, rows.len())?;
-    for row in rows {
-        copies.push(copy_of(alloc, row)?)?;
-    }
-    Ok(copies)
-}
-
-fn count_of(rows: &[Option<Row>]) -> u64
-    ensures { result ≡ count_present rows.now }
-{
-    rows.iter().filter(|row| row.is_some()).count() as u64
+    bytes
 }
 
 impl ColumnUnit {
-    /// A unit of these rows, the first of which has the row number `first`. Each row is copied.
+    /// A unit of these rows, the first of which has the row number `first`.
     ///
-    /// It costs the rows that are present.
+    /// It costs the rows that are present, and a column's dictionary and codes for each column.
     pub fn build(
         alloc: Global,
         scn: u64,
@@ -67,43 +66,82 @@ impl ColumnUnit {
         rows: &[Option<Row>],
     ) -> Result<ColumnUnit, NoMemory>
         requires width { HaveWidth columns rows.now }
+        requires short { AreShort rows.now }
         requires few_columns { columns ≤ MOST_COLUMNS }
         requires few_rows { length rows.now < 2 ^ 31 }
         requires within { first + length rows.now < 2 ^ 64 }
         ensures { IfOk result (λ unit.
             unit ≡ record { scn = scn; first = first; columns = columns; rows = rows.now }) }
     {
+        let presence = Presence::of(alloc, rows)?;
+        let present = rows_present(alloc, rows)?;
+        let columns = columns_of(alloc, present.as_slice(), columns as usize)?;
+        let bytes = presence.bytes() + bytes_of(columns.as_slice());
         Ok(ColumnUnit {
             scn,
             first,
+            presence,
             columns,
-            rows: copies_of(alloc, rows)?,
-            present: count_of(rows),
+            bytes,
         })
     }
 
     /// A copy of the row at a row number: None where there is none, and where the row number is not the unit's.
+    ///
+    /// It costs the row numbers before.
     pub fn get(&self, alloc: Global, rid: u64) -> Result<Option<Row>, NoMemory>
         ensures { IfOk result (λ row. row ≡ row_of self.now rid) }
     {
-        if rid < self.first || rid - self.first >= self.rows.len() as u64 {
+        if rid < self.first {
             return Ok(None);
         }
-        copy_of(alloc, &self.rows[(rid - self.first) as usize])
+        let place = rid - self.first;
+        if place >= self.presence.len() {
+            return Ok(None);
+        }
+        if !self.presence.is_present(place) {
+            return Ok(None);
+        }
+        let spot = self.presence.before(place);
+        let row = row_at(alloc, self.columns.as_slice(), spot, self.presence.count())?;
+        Ok(Some(row))
+    }
+
+    /// The rows by row number, from the first one on, read back. Their values are copied, into one block that they share.
+    pub fn rows(&self, alloc: Global) -> Result<Vec<Option<Row>>, NoMemory>
+        ensures { IfOk result (λ rows. rows.items ≡ self.now.rows) }
+    {
+        let rows = rows_of(alloc, self.columns.as_slice(), self.presence.count())?;
+        spread_rows(alloc, &self.presence, rows.as_slice())
+    }
+
+    /// The columns: the values of the rows that are present, in order of row numbers.
+    pub fn columns(&self) -> &[Arc<Column>]
+        ensures { map arc_value result.now ≡ columns_of self.now }
+    {
+        self.columns.as_slice()
+    }
+
+    /// The column of a number, from 0.
+    pub fn column(&self, i: u32) -> &Column
+        requires { i < self.now.columns }
+        ensures { result.now ≡ values_in i (present_rows self.now.rows) }
+    {
+        &self.columns[i as usize]
     }
 
     /// The number of rows that are present. It is kept, and not counted anew.
     pub fn present(&self) -> u64
         ensures { result ≡ count_present self.now.rows }
     {
-        self.present
+        self.presence.count()
     }
 
-    /// The rows by row number, from the first one on.
-    pub fn rows(&self) -> &[Option<Row>]
-        ensures { result.now ≡ self.now.rows }
+    /// The bytes that it counts for: those of its columns, and a bit for each row number.
+    pub fn bytes(&self) -> u64
+        ensures { result ≡ unit_bytes self.now }
     {
-        self.rows.as_slice()
+        self.bytes
     }
 
     /// The row number of the first of its rows.
@@ -111,13 +149,6 @@ impl ColumnUnit {
         ensures { result ≡ self.now.first }
     {
         self.first
-    }
-
-    /// How many values each of its rows has.
-    pub fn columns(&self) -> u32
-        ensures { result ≡ self.now.columns }
-    {
-        self.columns
     }
 }
 

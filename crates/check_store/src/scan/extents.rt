@@ -1,11 +1,12 @@
 //! Extents of four row numbers, pinned with a unit or without, and what a view sees of them.
-ghost use Rattle.std.specs.Prelude.{◌≡◌, ◌+◌, ◌-◌, ◌*◌, ◌/◌, ◌<◌, ◌^◌, ◌∷◌, [], length, ℤ, IfOk};
+ghost use Rattle.std.specs.Prelude.{◌≡◌, ◌+◌, ◌-◌, ◌*◌, ◌/◌, ◌<◌, ◌^◌, ◌∷◌, [], All, length, ℤ, IfOk};
 ghost use Rattle.std.specs.Arc.{arc_value};
 ghost use Rattle.std.specs.List.{AllByRecursion};
 ghost use Rattle.std.specs.Option.{ForSome, option_map};
 ghost use Rattle.im_history.specs.Grid.{extents_for};
 ghost use Rattle.im_syntax.specs.BoundFits.{BoundFits};
-ghost use Rattle.im_unit.specs.Holding.{HaveWidth};
+ghost use Rattle.im_column.specs.Forms.{IsShort};
+ghost use Rattle.im_unit.specs.Holding.{AreShort, HaveWidth};
 ghost use Rattle.im_values.specs.declared.value.Value.TheVariants.{Int};
 ghost use Rattle.im_scan.specs.Parts.{MayAsk};
 
@@ -44,6 +45,7 @@ fn row(alloc: Global, bound: &Bound, number: Option<i64>) -> Result<Option<Row>,
     requires asks { (k : ℤ) → BoundFits (Int k ∷ []) bound.now }
     ensures fits { IfOk result (MayAsk bound.now) }
     ensures width { IfOk result (λ row. ForSome row (λ values. length values ≡ 1)) }
+    ensures short { IfOk result (λ row. ForSome row (λ values. All IsShort values)) }
 {
     match number {
         Some(number) => {

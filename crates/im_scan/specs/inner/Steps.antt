@@ -1,5 +1,5 @@
 -- One step of the loops of a scan.
-use Rattle.std.specs.Prelude.{ℕ, ◌+◌, ◌-◌, ◌==◌, nat_lt, List, [], ◌∷◌, ◌++◌, map, fold, slice_set, Option, Some, None, if◌then◌else◌}
+use Rattle.std.specs.Prelude.{◌≡◌, ℕ, ◌+◌, ◌-◌, ◌==◌, nat_lt, List, [], ◌∷◌, ◌++◌, map, fold, slice_set, Option, Some, None, if◌then◌else◌}
 use Rattle.std.specs.List.{range_with_len}
 use Rattle.std.specs.Option.{option_copied}
 use denote.Ref.{Bor}
@@ -9,6 +9,13 @@ use Rattle.im_history.specs.Rows.{Row}
 use Rattle.im_history.specs.Units.{Content}
 use Rattle.im_group.specs.Partials.{Numbered}
 use Rattle.im_scan.specs.Parts.{unit_row}
+use Rattle.im_scan.specs.declared.faces.Face.{Face}
+use Rattle.im_scan.specs.declared.faces.Face.TheVariants.{Whole, Bare}
+
+-- rows are those that the unit of a face holds; where it has none, nothing is read of them
+abbrev pub AreRowsOf : Face → List (Option Row) → Type 0
+AreRowsOf (Whole unit) rows = rows ≡ unit.now.rows
+AreRowsOf Bare rows = Unit {0}
 
 -- rows that are lent, or none
 abbrev pub lent : List (Option (Bor Row)) → List (Option Row)

@@ -14,12 +14,10 @@ use Rattle.im_scan.proofs.parts.part.Goals as goal
 pub overflow_mul-first : goal.overflow_mul-first
 overflow_mul-first c = let first = begins c.args.view.now c.args.extent c.requires.cut c.requires.within in omega (arith, first)
 
-pub taken_rows-requires : goal.taken_rows-requires
-taken_rows-requires c = record {
-  within =
-      let first = begins c.args.view.now c.args.extent c.requires.cut c.requires.within in
-      omega (arith, first, c.min-count.ensures);
-}
+pub taken_rows-requires-clause-within : goal.taken_rows-requires-clause-within
+taken_rows-requires-clause-within c =
+    let first = begins c.args.view.now c.args.extent c.requires.cut c.requires.within in
+    omega (arith, first, c.min-count.ensures)
 
 pub of_lent-requires : goal.of_lent-requires
 of_lent-requires c =

@@ -8,7 +8,7 @@ pub put_own-requires : goal.put_own-requires
 put_own-requires c =
     let long = length-committed (unit_of c.args.face) c.args.fetched.now c.args.first c.args.count c.in_ok-slots.slots.items c.in_ok-slots.ensures in
     let same = ap length c.as_mut_slice.ensures.value in
-    let within = c.requires in
+    let within = c.requires.within in
     omega (arith, long, same, within)
 
 pub returns : goal.returns

@@ -1,0 +1,101 @@
+-- A unit that is built of rows.
+use Rattle.std.proofs.Common.{◌≡◌, ℕ, ◌+◌, ◌*◌, ◌^◌, ◌<◌, ◌≤◌, List, [], ◌∷◌, ◌++◌, length, take, map, get_or, Option, sym, ap, ◌∙◌, arith}
+use Rattle.std.specs.Prelude.{sum_by}
+use Rattle.std.specs.List.{All, range_with_len}
+use Rattle.std.proofs.lemmas.List.{get_or-map, length-map, map_more, map_push, take_more}
+use Rattle.std.proofs.lemmas.List.Elements.{filter_map-append}
+use Rattle.std.proofs.lemmas.List.FromFn.{map-range_with_len_more}
+use Rattle.std.proofs.lemmas.List.Sums.{sum_by-le, sum_by_push}
+use denote.Ref.{Bor}
+use Rattle.im_values.specs.declared.value.Value.{Value}
+use Rattle.im_values.specs.declared.value.Value.TheVariants.{Null}
+use Rattle.im_values.specs.Sizes.{value_bytes, plain_bytes, column_bytes}
+use Rattle.im_column.specs.Forms.{IsShort}
+use Rattle.im_history.specs.Rows.{Row}
+use Rattle.im_unit.specs.Holding.{present_rows, values_in}
+use Rattle.im_unit.specs.inner.Kept.{AreRows, AreBounded, lent}
+use Rattle.im_unit.proofs.KeptLemmas.{length-columns, at-columns}
+
+-- one row more, where it is present
+pub present-more : (rows : List (Option Row)) (i : ℕ) (row : Option Row) (present longer : List (Bor Row)) → i < length rows → row ≡ get_or rows i row →
+    lent present ≡ present_rows (take i rows) → lent longer ≡ lent present ++ present_rows (row ∷ []) → lent longer ≡ present_rows (take (i + 1) rows)
+present-more rows i row present longer inside is so_far more =
+    more
+    ∙ (ap (λ (l : List Row). l ++ present_rows (row ∷ [])) so_far
+    ∙ (sym (filter_map-append (λ (r : Option Row). r) (take i rows) (row ∷ []))
+    ∙ ap present_rows (ap (λ (r : Option Row). take i rows ++ r ∷ []) is ∙ sym (take_more rows i row inside))))
+
+-- the row that is lent at a place
+at-lent : (rows : List (Bor Row)) (i : ℕ) (row : Bor Row) (d : Row) → i < length rows → row ≡ get_or rows i row → get_or (lent rows) i d ≡ row.now
+at-lent rows i row d inside is = get_or-map (λ (r : Bor Row). r.now) rows i row d inside ∙ ap (λ (r : Bor Row). r.now) (sym is)
+
+pub wide-at : (width : ℕ) (rows : List (Bor Row)) (i : ℕ) (row : Bor Row) → AreRows width (lent rows) → i < length rows → row ≡ get_or rows i row →
+    length row.now ≡ width
+wide-at width rows i row are inside is =
+    ap length (sym (at-lent rows i row [] inside is)) ∙ are.wide i [] (omega (arith, length-map rows (λ (r : Bor Row). r.now), inside))
+
+-- one value more
+pub values-more : (rows : List (Bor Row)) (i column : ℕ) (row : Bor Row) (value : Value) (values longer : List Value) → i < length rows →
+    row ≡ get_or rows i row → value ≡ get_or row.now column Null → values ≡ values_in column (lent (take i rows)) → longer ≡ values ++ value ∷ [] →
+    longer ≡ values_in column (lent (take (i + 1) rows))
+values-more rows i column row value values longer inside is at so_far more =
+    let f = λ (r : Row). get_or r column Null in
+    more
+    ∙ (ap (λ (l : List Value). l ++ value ∷ []) so_far
+    ∙ (ap (λ (v : Value). map f (lent (take i rows)) ++ v ∷ []) at
+    ∙ (sym (map_push f (lent (take i rows)) row.now)
+    ∙ ap (map f)
+    (ap (λ (r : Bor Row). lent (take i rows) ++ r.now ∷ []) is ∙ sym (map_more (λ (r : Bor Row). r.now) rows i row inside)))))
+
+-- the values of short rows are short
+pub short-in : (width : ℕ) (rows : List Row) (column : ℕ) → AreRows width rows → column < width → All IsShort (values_in column rows)
+short-in width rows column are inside k d within =
+    let below : k < length rows = omega (arith, length-map rows (λ (row : Row). get_or row column Null), within) in
+    let at = get_or-map (λ (row : Row). get_or row column Null) rows k [] d below in
+    rw at (are.short k [] below column Null (omega (arith, are.wide k [] below, inside)))
+
+pub few-in : (width : ℕ) (rows : List Row) (column : ℕ) → AreRows width rows → length (values_in column rows) < 2 ^ 31
+few-in width rows column are = let few = are.few in omega (arith, length-map rows (λ (row : Row). get_or row column Null), few)
+
+-- one more of a list that is made from a function of the place
+pub mapped-more : {A B : Type 0} (f : A → B) (g : ℕ → B) (xs longer : List A) (i : ℕ) (x : A) → longer ≡ xs ++ x ∷ [] → map f xs ≡ map g (range_with_len 0 i) →
+    f x ≡ g i → map f longer ≡ map g (range_with_len 0 (i + 1))
+mapped-more f g xs longer i x more so_far is =
+    ap (map f) more
+    ∙ (map_push f xs x
+    ∙ (ap (λ l. l ++ f x ∷ []) so_far ∙ (ap (λ y. map g (range_with_len 0 i) ++ y ∷ []) is ∙ sym (map-range_with_len_more g 0 i i (omega arith)))))
+
+-- ---- bytes
+
+plain-few : (values : List Value) → All IsShort values → plain_bytes values ≤ length values * 65538
+unfolding plain_bytes
+plain-few values short = sum_by-le value_bytes 65538 values short
+
+column-few : (values : List Value) → All IsShort values → length values < 2 ^ 31 → column_bytes values < 2 ^ 49
+column-few values short few =
+    let plain = plain-few values short in
+    omega (arith, plain, few)
+
+pub bounded : (width : ℕ) (rows : List Row) → AreRows width rows → AreBounded (map (λ column. values_in column rows) (range_with_len 0 width))
+bounded width rows are k d inside =
+    let below : k < width = omega (arith, length-columns width rows, inside) in
+    rw (at-columns width rows k d below) (column-few (values_in k rows) (short-in width rows k are below) (few-in width rows k are))
+
+-- one column more
+pub bytes-more : {A : Type 0} (f : A → List Value) (columns : List A) (i : ℕ) (column : A) (bytes more : ℕ) → i < length columns →
+    column ≡ get_or columns i column →
+    bytes ≡ sum_by column_bytes (map f (take i columns)) → more ≡ column_bytes (f column) → bytes + more ≡ sum_by column_bytes (map f (take (i + 1) columns))
+bytes-more f columns i column bytes more inside is so_far one =
+    let grown : map f (take (i + 1) columns) ≡ map f (take i columns) ++ f column ∷ [] =
+    map_more f columns i column inside ∙ ap (λ c. map f (take i columns) ++ f c ∷ []) (sym is) in
+    ap (λ (n : ℕ). bytes + n) one
+    ∙ (ap (λ (n : ℕ). n + column_bytes (f column)) so_far
+    ∙ (sym (sum_by_push column_bytes (map f (take i columns)) (f column)) ∙ ap (sum_by column_bytes) (sym grown)))
+
+-- none counts for too much
+pub bounded-at : {A : Type 0} (f : A → List Value) (columns : List A) (i : ℕ) (column : A) (more : ℕ) → AreBounded (map f columns) → i < length columns →
+    column ≡ get_or columns i column → more ≡ column_bytes (f column) → more < 2 ^ 49
+bounded-at f columns i column more are inside is one =
+    let at : get_or (map f columns) i (f column) ≡ f column = get_or-map f columns i column (f column) inside ∙ ap f (sym is) in
+    let most = are i (f column) (omega (arith, length-map columns f, inside)) in
+    rw one (rw at at most)

@@ -1,0 +1,133 @@
+-- Rows that are read back from columns.
+use Rattle.std.proofs.Common.{◌≡◌, ◌≢◌, ℕ, suc, ◌+◌, ◌*◌, ◌^◌, ◌<◌, ◌≤◌, Bool, true, false, if◌then◌else◌, List, [], ◌∷◌, ◌++◌, length, take, map, get_or, Option, Some, None, sym, ap, ◌∙◌, append_assoc, arith}
+use Rattle.std.specs.Prelude.{nat_lt}
+use Rattle.std.proofs.lemmas.List.{get_or-map, length-map, map_more, map_push, take_more, take_all, length-append}
+use Rattle.std.proofs.Math.Nat.{mul-le-mul_left}
+use Rattle.std.proofs.lemmas.Bool.Decides.{nat_tests}
+use Rattle.std.proofs.lemmas.List.FromFn.{map-range_with_len_more}
+use Rattle.std.proofs.lemmas.List.Sums.{count_by_more_yes, count_by_more_no}
+use mir.Val.{bool_byte}
+use Rattle.im_values.specs.declared.value.Value.{Value}
+use Rattle.im_values.specs.declared.value.Value.TheVariants.{Null}
+use Rattle.im_values.specs.Stretches.{cut}
+use Rattle.im_values.proofs.ForCallers.{cut-push}
+use Rattle.im_history.specs.Rows.{Row}
+use Rattle.im_unit.specs.inner.Kept.{HaveLength, count_set, row_across, rows_across, spread}
+use Rattle.im_unit.proofs.KeptLemmas.{at-spread, length-spread, before-present}
+
+-- ---- bits
+
+pub flag-set : (n : ℕ) → n ≢ 0 → nat_lt 0 n ≡ true
+flag-set n some = grind (arith, nat_tests)
+
+pub flag-clear : (n : ℕ) → n ≡ 0 → nat_lt 0 n ≡ false
+flag-clear n none = grind (arith, nat_tests)
+
+-- a bit as a flag
+pub at-flags : (codes : List ℕ) (i : ℕ) → i < length codes → get_or (map (nat_lt 0) codes) i false ≡ nat_lt 0 (get_or codes i 0)
+at-flags codes i inside = get_or-map (nat_lt 0) codes i 0 false inside
+
+pub count-more : (flags : List Bool) (i : ℕ) (b : Bool) → i < length flags → get_or flags i false ≡ b →
+    count_set (take (i + 1) flags) ≡ (if b then count_set (take i flags) + 1 else count_set (take i flags))
+count-more flags i true inside e = count_by_more_yes (λ (flag : Bool). flag) flags i false inside e
+count-more flags i false inside e = count_by_more_no (λ (flag : Bool). flag) flags i false inside e
+
+-- ---- a row across columns
+
+pub across-more : {A : Type 0} (f : A → List Value) (columns : List A) (i spot : ℕ) (column : A) (value : Value) (before values longer : List Value) →
+    i < length columns → column ≡ get_or columns i column → value ≡ get_or (f column) spot Null →
+    values ≡ before ++ row_across (map f (take i columns)) spot → longer ≡ values ++ value ∷ [] →
+    longer ≡ before ++ row_across (map f (take (i + 1) columns)) spot
+across-more f columns i spot column value before values longer inside is at so_far more =
+    let g = λ (c : List Value). get_or c spot Null in
+    let grown : map f (take (i + 1) columns) ≡ map f (take i columns) ++ f column ∷ [] =
+    map_more f columns i column inside ∙ ap (λ c. map f (take i columns) ++ f c ∷ []) (sym is) in
+    more
+    ∙ (ap (λ (l : List Value). l ++ value ∷ []) so_far
+    ∙ (append_assoc before (map g (map f (take i columns))) (value ∷ [])
+    ∙ ap (λ (l : List Value). before ++ l)
+    (ap (λ (v : Value). map g (map f (take i columns)) ++ v ∷ []) at ∙ (sym (map_push g (map f (take i columns)) (f column)) ∙ ap (map g) (sym grown)))))
+
+-- a column at its number has as many values
+pub long-at : {A : Type 0} (f : A → List Value) (columns : List A) (count i : ℕ) (column : A) → HaveLength count (map f columns) → i < length columns →
+    column ≡ get_or columns i column → length (f column) ≡ count
+long-at f columns count i column long inside is =
+    ap length (sym (get_or-map f columns i column (f column) inside ∙ ap f (sym is))) ∙ long i (f column) (omega (arith, length-map columns f, inside))
+
+-- one row more in the block
+pub block-more : (columns : List (List Value)) (spot width : ℕ) (values longer : List Value) → length columns ≡ width → length values ≡ spot * width →
+    cut spot width values ≡ rows_across columns spot → longer ≡ values ++ row_across columns spot →
+    (cut (spot + 1) width longer ≡ rows_across columns (spot + 1)) × (length longer ≡ (spot + 1) * width)
+block-more columns spot width values longer wide many so_far more =
+    let row : List Value = row_across columns spot in
+    let long : length row ≡ width = length-map columns (λ (column : List Value). get_or column spot Null) ∙ wide in
+    let next : spot + 1 ≡ suc spot = omega arith in (
+      ap (λ (l : List Value). cut (spot + 1) width l) more
+          ∙ (ap (λ (n : ℕ). cut n width (values ++ row)) next
+          ∙ (cut-push spot width values row many long
+          ∙ (ap (λ (l : List Row). l ++ row ∷ []) so_far ∙ sym (map-range_with_len_more (row_across columns) 0 spot spot (omega arith))))),
+      ap length more ∙ (length-append values row ∙ grow (length values) (length row) spot width many long),
+    )
+  where
+    grow : (a b spot width : ℕ) → a ≡ spot * width → b ≡ width → a + b ≡ (spot + 1) * width
+    grow a b spot width e f = grind arith
+
+-- the block fits
+pub block-fits : (count width : ℕ) → count < 2 ^ 31 → width ≤ 16 → count * width < 2 ^ 36
+block-fits count width few narrow =
+    let most = mul-le-mul_left count narrow in
+    omega (arith, most)
+
+-- ---- rows, put where a flag is set
+
+pub spot-inside : (flags : List Bool) (rows : List Row) (place spot : ℕ) (b : Bool) → count_set flags ≡ length rows → b ≡ get_or flags place false →
+    spot ≡ count_set (take place flags) → b ≡ true → spot < length rows
+spot-inside flags rows place spot b all is at e = omega (arith, before-present flags place (sym is ∙ e), all, at)
+
+pub spot-more : (flags : List Bool) (place spot one : ℕ) (b : Bool) → place < length flags → b ≡ get_or flags place false →
+    spot ≡ count_set (take place flags) →
+    one ≡ bool_byte b → spot + one ≡ count_set (take (place + 1) flags)
+spot-more flags place spot one b inside is at e =
+    ap (λ (n : ℕ). spot + n) e ∙ (by b at ∙ sym (count-more flags place b inside (sym is)))
+  where
+    by : (b : Bool) → spot ≡ count_set (take place flags) →
+        spot + bool_byte b ≡ (if b then count_set (take place flags) + 1 else count_set (take place flags))
+    by true at = omega (arith, at)
+    by false at = omega (arith, at)
+
+pub one-at-most : (b : Bool) → bool_byte b ≤ 1
+one-at-most true = omega arith
+one-at-most false = omega arith
+
+pub spread-more : (flags : List Bool) (rows : List Row) (place spot : ℕ) (b : Bool) (row : Option Row) (slots longer : List (Option Row)) →
+    place < length flags → count_set flags ≡ length rows → b ≡ get_or flags place false → row ≡ (if b then Some (get_or rows spot []) else None) →
+    spot ≡ count_set (take place flags) → slots ≡ take place (spread flags rows) → longer ≡ slots ++ row ∷ [] →
+    longer ≡ take (place + 1) (spread flags rows)
+spread-more flags rows place spot b row slots longer inside all is row_is at so_far more =
+    let slot : row ≡ get_or (spread flags rows) place None =
+    row_is
+    ∙ (ap (λ (n : ℕ). if b then Some (get_or rows n []) else None) at
+    ∙ (ap (λ (f : Bool). if f then Some (get_or rows (count_set (take place flags)) []) else None) is
+    ∙ sym (at-spread flags rows place (omega (arith, all))))) in
+    more
+    ∙ (ap (λ (l : List (Option Row)). l ++ row ∷ []) so_far
+    ∙ (ap (λ (r : Option Row). take place (spread flags rows) ++ r ∷ []) slot
+    ∙ sym (take_more (spread flags rows) place None (omega (arith, length-spread flags rows, inside)))))
+
+pub spread-all : (flags : List Bool) (rows : List Row) (place : ℕ) (slots : List (Option Row)) → length flags ≤ place →
+    slots ≡ take place (spread flags rows) → slots ≡ spread flags rows
+spread-all flags rows place slots past so_far = so_far ∙ take_all place (spread flags rows) (omega (arith, length-spread flags rows, past))
+
+-- ---- bits that are counted
+
+pub bits-more : (codes : List ℕ) (i count : ℕ) → i < length codes → count ≡ count_set (take i (map (nat_lt 0) codes)) → (b : Bool) →
+    nat_lt 0 (get_or codes i 0) ≡ b → (if b then count + 1 else count) ≡ count_set (take (i + 1) (map (nat_lt 0) codes))
+bits-more codes i count inside so_far b is =
+    by b so_far ∙ sym (count-more (map (nat_lt 0) codes) i b (omega (arith, length-map codes (nat_lt 0), inside)) (at-flags codes i inside ∙ is))
+  where
+    flags : List Bool
+    flags = take i (map (nat_lt 0) codes)
+
+    by : (b : Bool) → count ≡ count_set flags → (if b then count + 1 else count) ≡ (if b then count_set flags + 1 else count_set flags)
+    by true e = ap (λ (n : ℕ). n + 1) e
+    by false e = e

@@ -1,0 +1,10 @@
+use Rattle.std.proofs.Common.{◌≡◌, ◌<◌, All, map, take}
+use Rattle.std.specs.Prelude.{is_some, nat_lt}
+use Rattle.im_unit.proofs.presence.bits_of.Given as goal
+
+-- the bits so far are those of the rows so far
+abbrev pub invariant-loop-row : goal.invariant-loop-row
+invariant-loop-row l = record {
+  flags : map (nat_lt 0) l.bits.items ≡ map is_some (take l.row-index l.rows);
+  fit : All (λ bit. bit < 2) l.bits.items;
+}

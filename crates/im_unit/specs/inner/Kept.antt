@@ -1,0 +1,55 @@
+-- How the rows of a unit are kept: which are present, and the columns of those.
+use Rattle.std.specs.Prelude.{◌≡◌, ℕ, ◌^◌, ◌<◌, Bool, true, false, List, [], ◌∷◌, length, map, get_or, count_by, Option, Some, None}
+use Rattle.std.specs.List.{All, range_with_len}
+use denote.Ref.{Bor}
+use Rattle.im_values.specs.declared.value.Value.{Value}
+use Rattle.im_values.specs.declared.value.Value.TheVariants.{Null}
+use Rattle.im_values.specs.Sizes.{column_bytes}
+use Rattle.im_column.specs.Forms.{IsShort}
+use Rattle.im_history.specs.Rows.{Row}
+use Rattle.im_history.specs.Units.{Content}
+
+-- how many of the flags are set
+abbrev pub count_set : List Bool → ℕ
+count_set flags = count_by (λ flag. flag) flags
+
+-- rows, put one after another where a flag is set
+abbrev pub spread : List Bool → List Row → List (Option Row)
+spread [] rows = []
+spread (false ∷ flags) rows = None ∷ spread flags rows
+spread (true ∷ flags) [] = None ∷ spread flags []
+spread (true ∷ flags) (row ∷ rows) = Some row ∷ spread flags rows
+
+-- the row across columns at a place
+abbrev pub row_across : List (List Value) → ℕ → Row
+row_across columns spot = map (λ column. get_or column spot Null) columns
+
+-- so many rows across columns
+abbrev pub rows_across : List (List Value) → ℕ → List Row
+rows_across columns count = map (row_across columns) (range_with_len 0 count)
+
+-- the rows that flags and columns stand for
+unfoldable pub rows_kept : List Bool → List (List Value) → List (Option Row)
+rows_kept flags columns = spread flags (rows_across columns (count_set flags))
+
+-- what a unit holds that keeps such flags and columns
+abbrev pub content_kept : ℕ → ℕ → ℕ → List Bool → List (List Value) → Content
+content_kept scn first width flags columns = record { scn = scn; first = first; columns = width; rows = rows_kept flags columns }
+
+-- each column has so many values
+abbrev pub HaveLength : ℕ → List (List Value) → Type 0
+HaveLength count columns = All (λ column. length column ≡ count) columns
+
+-- rows of a width, without a text that is too long
+pub record AreRows (width : ℕ) (rows : List Row) : Type 0 where
+  pub wide : All (λ row. length row ≡ width) rows
+  pub short : All (λ row. All IsShort row) rows
+  pub few : length rows < 2 ^ 31
+
+-- rows that are lent
+abbrev pub lent : List (Bor Row) → List Row
+lent rows = map (λ row. row.now) rows
+
+-- no column counts for 2^49 bytes
+abbrev pub AreBounded : List (List Value) → Type 0
+AreBounded columns = All (λ column. column_bytes column < 2 ^ 49) columns

@@ -1,0 +1,113 @@
+ghost use Rattle.std.specs.Prelude.{◌≡◌, ◌+◌, ◌*◌, ◌^◌, ◌<◌, ◌≤◌, All, IfOk, length, map, is_some, nat_lt, take, get_or, false};
+ghost use Rattle.std.specs.Int.{div_ceil};
+ghost use Rattle.im_unit.specs.inner.Kept.{count_set};
+
+use im_bits::{Bits, words_for};
+use im_values::{NoMemory, Row};
+use std::alloc::Global;
+use std::marker::Model;
+
+/// Which rows of an extent are present: a bit for each row number. There are fewer than 2^31.
+#[derive(Debug, Drop)]
+pub struct Presence {
+    bits: Bits,
+    count: u64,
+}
+
+impl Model for Presence {
+    ghost use Rattle.std.specs.Prelude.{◌≡◌, ◌^◌, ◌<◌, List, Bool, map, nat_lt};
+    ghost use Rattle.im_unit.specs.inner.Kept.{count_set};
+
+    ghost Value = { List Bool };
+
+    ghost view = { λ p. map (nat_lt 0) p.bits.codes };
+
+    ghost invariant = { λ p. (p.count ≡ count_set (map (nat_lt 0) p.bits.codes)) × (p.count < 2 ^ 31) };
+}
+
+/// 1 for a row, and 0 for none.
+fn bit_of(row: &Option<Row>) -> u32
+    ensures flag { nat_lt 0 result ≡ is_some row.now }
+    ensures fits { result < 2 }
+{
+    u32::from(row.is_some())
+}
+
+/// The bit of each row.
+fn bits_of(alloc: Global, rows: &[Option<Row>]) -> Result<Vec<u32>, NoMemory>
+    ensures flags { IfOk result (λ bits. map (nat_lt 0) bits.items ≡ map is_some rows.now) }
+    ensures fit { IfOk result (λ bits. All (λ bit. bit < 2) bits.items) }
+{
+    let mut bits = Vec::with_capacity(alloc, rows.len())?;
+    for row in rows {
+        bits.push(bit_of(row))?;
+    }
+    Ok(bits)
+}
+
+/// How many of the bits before a place are set.
+fn count_before(bits: &Bits, place: u64) -> u64
+    requires { place ≤ length bits.now.codes }
+    ensures count { result ≡ count_set (take place (map (nat_lt 0) bits.now.codes)) }
+    ensures most { result ≤ place }
+{
+    let mut count = 0;
+    for i in 0..place {
+        if bits.get(i) != 0 {
+            count += 1;
+        }
+    }
+    count
+}
+
+impl Presence {
+    /// Which of these rows are there.
+    pub fn of(alloc: Global, rows: &[Option<Row>]) -> Result<Presence, NoMemory>
+        requires { length rows.now < 2 ^ 31 }
+        ensures { IfOk result (λ presence. presence ≡ map is_some rows.now) }
+    {
+        let bits = Bits::pack(alloc, bits_of(alloc, rows)?.as_slice(), 1)?;
+        let count = count_before(&bits, bits.len());
+        Ok(Presence { bits, count })
+    }
+
+    /// How many row numbers there are.
+    pub fn len(&self) -> u64
+        ensures len { result ≡ length self.now }
+        ensures few { result < 2 ^ 31 }
+    {
+        self.bits.len()
+    }
+
+    /// How many rows are present.
+    pub fn count(&self) -> u64
+        ensures count { result ≡ count_set self.now }
+        ensures few { result < 2 ^ 31 }
+    {
+        self.count
+    }
+
+    /// Whether the row at a place is present.
+    pub fn is_present(&self, place: u64) -> bool
+        requires { place < length self.now }
+        ensures { result ≡ get_or self.now place false }
+    {
+        self.bits.get(place) != 0
+    }
+
+    /// How many rows before a place are present. It costs the places before.
+    pub fn before(&self, place: u64) -> u64
+        requires { place ≤ length self.now }
+        ensures { result ≡ count_set (take place self.now) }
+    {
+        count_before(&self.bits, place)
+    }
+
+    /// The bytes that it counts for.
+    pub fn bytes(&self) -> u64
+        ensures bytes { result ≡ 8 * div_ceil (length self.now) 64 }
+        ensures few { result < 2 ^ 32 }
+    {
+        8 * words_for(self.bits.len(), 1)
+    }
+}
