@@ -1,0 +1,6 @@
+mod DefinitionLemmas
+mod OpeningLemmas
+mod OtherLemmas
+mod RestLemmas
+mod ScanLemmas
+mod TableLemmas

@@ -1,0 +1,160 @@
+-- The opening of a cursor over a side of a store, and what it sees.
+use Rattle.std.proofs.Common.{◌≡◌, ℕ, zero, suc, ◌+◌, ◌≤◌, ◌==◌, ◌||◌, Bool, true, false, if◌then◌else◌, List, [], ◌∷◌, ◌++◌, length, take, drop, fold, Option, Some, None, refl, sym, ap, ◌∙◌, subst, arith}
+use Rattle.std.specs.List.{cons_option, find, list_any}
+use Rattle.std.specs.Option.{option_map}
+use Rattle.std.proofs.lemmas.Bool.Decides.{nat_tests}
+use Rattle.std.proofs.lemmas.List.{take-append-drop}
+use Rattle.im_values.specs.declared.limits.TheConstants.{MOST_ROWS}
+use Rattle.im_history.specs.declared.entry.Entry.{Entry}
+use Rattle.im_history.specs.declared.entry.Mode.{Mode}
+use Rattle.im_history.specs.declared.entry.Mode.TheVariants as mode
+use Rattle.im_history.specs.declared.entry.What.TheVariants.{Open}
+use Rattle.im_history.specs.declared.refused.Why.TheVariants.{CursorOpen}
+use Rattle.im_history.specs.declared.limits.Limits.{Limits}
+use Rattle.im_history.specs.declared.view.View.{View}
+use Rattle.im_history.specs.Commits.{scn}
+use Rattle.im_history.specs.Cursors.{Opened, cursor_at, is_cursor, is_cursor_open, opened, opened_after}
+use Rattle.im_history.specs.Grid.{extents_for}
+use Rattle.im_history.specs.History.{History}
+use Rattle.im_history.specs.Legal.{Exists, IsLawful, IsLegal}
+use Rattle.im_history.specs.Refusals.{open_refusal}
+use Rattle.im_history.specs.Rows.{Row, present, rows, snapshot, snapshot_under}
+use Rattle.im_history.specs.Tables.{tables}
+use Rattle.im_history.specs.Transactions.{begun, mode as mode_of}
+use Rattle.im_history.specs.Views.{per_at, seen_by, view_at}
+use Rattle.im_history.proofs.Laws.{IsLegal-pop, opened-push}
+use Rattle.im_names.specs.Fitting.{OfTable, QueryServes}
+use Rattle.im_plan.specs.Goes.{After}
+use Rattle.im_reach.specs.Sides.{Added, AreOthers, Known}
+use Rattle.im_scan.specs.Pinned.{seen_all}
+use Rattle.im_scan.proofs.ForCallers.{seen_by-later}
+use Rattle.im_session.specs.inner.Scans.{IsScan, MayAskIn}
+use Rattle.im_session.proofs.RestLemmas.{Onward}
+use Rattle.im_session.proofs.TableLemmas.{asks-own, exists-longer, of_table-longer, per-longer, scn-longer}
+use Rattle.im_statements.specs.Scans.{rows_seen}
+use Rattle.im_syntax.specs.declared.bound.Bound.{Bound}
+
+-- ---- the cursor
+
+itself : (n : ℕ) → (n == n) ≡ true
+itself n = grind (arith, nat_tests)
+
+-- a cursor that may be opened is not open
+open_shut : (h : History) (who cursor : ℕ) → open_refusal h who cursor ≡ None → is_cursor_open h who cursor ≡ false
+open_shut h who cursor = by (is_cursor_open h who cursor) refl
+  where
+    by : (b : Bool) → is_cursor_open h who cursor ≡ b → (open_refusal h who cursor ≡ None → b ≡ false)
+    by true e none = let refused : Some CursorOpen ≡ None = rw e at none in cc
+    by false e none = refl
+
+find-last : (p : Opened → Bool) (os : List Opened) (o : Opened) → list_any p os ≡ false → p o ≡ true → find p (os ++ o ∷ []) ≡ Some o
+find-last p [] o none it = rw it refl
+find-last p (first ∷ os) o none it = by (p first) refl (find-last p os o)
+  where
+    by : (b : Bool) → p first ≡ b → (list_any p os ≡ false → p o ≡ true → find p (os ++ o ∷ []) ≡ Some o) → find p (first ∷ os ++ o ∷ []) ≡ Some o
+    by true e rest = let no : true ≡ false = rw e at none in cc
+    by false e rest = rw e (rest (rw e at none) it)
+
+list_any-last : (p : Opened → Bool) (os : List Opened) (o : Opened) → p o ≡ true → list_any p (os ++ o ∷ []) ≡ true
+list_any-last p [] o it = rw it refl
+list_any-last p (first ∷ os) o it = by (p first) (list_any-last p os o it)
+  where
+    by : (b : Bool) → list_any p (os ++ o ∷ []) ≡ true → (b || list_any p (os ++ o ∷ [])) ≡ true
+    by true rest = refl
+    by false rest = rest
+
+-- the cursor with its view
+abbrev opened_by : History → ℕ → ℕ → ℕ → Opened
+opened_by at who cursor table = record { cursor = cursor; view = view_at at who table }
+
+abbrev opening : History → ℕ → ℕ → ℕ → History
+opening at who cursor table = at ++ record { who = who; what = Open cursor table } ∷ []
+
+opened-opening : (at : History) (who cursor table : ℕ) → opened (opening at who cursor table) who ≡ opened at who ++ opened_by at who cursor table ∷ []
+opened-opening at who cursor table =
+    opened-push at (record { who = who; what = Open cursor table }) who
+    ∙ ap (λ (b : Bool). if b then opened_after at who (opened at who) (Open cursor table) else opened at who) (itself who)
+
+-- ---- its view
+
+present-same : (f g : ℕ → Option Row) (first count : ℕ) → ((rid : ℕ) → f rid ≡ g rid) → present f first count ≡ present g first count
+present-same f g first zero same = refl
+present-same f g first (suc count) same =
+    ap (λ (o : Option Row). cons_option (option_map (λ row. (first, row)) o) (present f (first + 1) count)) (same first)
+    ∙ ap (cons_option (option_map (λ row. (first, row)) (g first))) (present-same f g (first + 1) count same)
+
+earlier : (h : History) (place : ℕ) → scn (take place h) ≤ scn h
+earlier h place =
+    subst (λ (log : History). scn (take place h) ≤ scn log) (take-append-drop place h) (scn-longer (take place h) (drop place h) (scn (take place h)) (omega arith))
+
+snapshot-under : (h : History) (m : Mode) (began : Option ℕ) → snapshot_under h m began ≤ scn h
+snapshot-under h mode.Committed began = omega arith
+snapshot-under h mode.Serializable None = omega arith
+snapshot-under h mode.Serializable (Some place) = earlier h place
+snapshot-under h mode.ReadOnly None = omega arith
+snapshot-under h mode.ReadOnly (Some place) = earlier h place
+
+-- a statement reads at an SCN that there was
+snapshot-known : (h : History) (who : ℕ) → snapshot h who ≤ scn h
+snapshot-known h who = snapshot-under h (mode_of h who) (begun h who)
+
+module _ (who cursor table : ℕ) (old middle : Known) (at : History) (view : View) (after : After (AreOthers old.side) old.log at)
+    (now : middle ≡ record old { log = opening at who cursor table }) (view_is : view ≡ view_at at who table) where
+  log-is : middle.log ≡ opening at who cursor table
+  log-is = ap (λ (s : Known). s.log) now
+
+  found-at : (P : History → Type 0) → ((more : History) → P (old.log ++ more)) → P at
+  found-at P each = subst P (sym after.log) (each after.between)
+
+  -- it is open, with this view
+  pub opening-scan : Exists old.log table → open_refusal at who cursor ≡ None → view.rows ≤ MOST_ROWS → 1 ≤ view.per → IsScan who cursor view middle
+  opening-scan exists allowed few some = record {
+    is_open =
+        ap (λ (log : History). is_cursor_open log who cursor) log-is
+        ∙ (ap (list_any (is_cursor cursor)) (opened-opening at who cursor table)
+        ∙ list_any-last (is_cursor cursor) (opened at who) (opened_by at who cursor table) (itself cursor));
+    opened =
+        ap (λ (log : History). cursor_at log who cursor) log-is
+        ∙ (ap (find (is_cursor cursor)) (opened-opening at who cursor table)
+        ∙ (find-last (is_cursor cursor) (opened at who) (opened_by at who cursor table) (open_shut at who cursor allowed) (itself cursor)
+        ∙ ap (λ (v : View). Some (record { cursor = cursor; view = v })) (sym view_is)));
+    exists = on_log (λ h. Exists h view.table) (rw view_is (exists-longer at entry table there));
+    known = on_log (λ h. view.scn ≤ scn h) (rw view_is (scn-longer at entry (snapshot at who) (snapshot-known at who)));
+    per = on_log (λ h. view.per ≡ per_at h view.table) (rw view_is (per-longer at entry table (per_at at table) there refl));
+    some = some;
+    cut = rw view_is refl;
+    few = few;
+  }
+    where
+      entry : History
+      entry = record { who = who; what = Open cursor table } ∷ []
+
+      there : Exists at table
+      there = found-at (λ h. Exists h table) (λ more. exists-longer old.log more table exists)
+
+      on_log : (P : History → Type 0) → P (opening at who cursor table) → P middle.log
+      on_log P holds = subst P (sym log-is) holds
+
+  -- a query may be asked of what it sees
+  pub opening-asks : (bound : Bound) → IsLawful middle.limits middle.log → OfTable (tables old.log) table (QueryServes bound) → MayAskIn bound view middle
+  opening-asks bound lawful of = record {
+    table =
+        subst (λ (h : History). OfTable (tables h) view.table (QueryServes bound)) (sym log-is)
+        (rw view_is (of_table-longer at (record { who = who; what = Open cursor table } ∷ []) table (QueryServes bound) there));
+    own = rw view_is (asks-own middle.limits at who table bound legal there);
+  }
+    where
+      there : OfTable (tables at) table (QueryServes bound)
+      there = found-at (λ h. OfTable (tables h) table (QueryServes bound)) (λ more. of_table-longer old.log more table (QueryServes bound) of)
+
+      legal : IsLegal middle.limits at
+      legal = (IsLegal-pop middle.limits at (record { who = who; what = Open cursor table })
+          (subst (IsLegal middle.limits) log-is lawful.legal)).0
+
+  -- it sees what was seen when it was opened
+  pub opening-seen : seen_all middle.log view ≡ rows_seen at (view_at at who table)
+  opening-seen =
+      ap (λ (log : History). seen_all log view) log-is
+      ∙ (ap (seen_all (opening at who cursor table)) view_is
+      ∙ present-same (seen_by (opening at who cursor table) (view_at at who table)) (seen_by at (view_at at who table)) 0 (view_at at who table).rows
+      (λ rid. seen_by-later at (record { who = who; what = Open cursor table } ∷ []) (view_at at who table) rid (snapshot-known at who)))

@@ -1,0 +1,78 @@
+-- What others leave as it is: the cursors and the transaction of each number that a side speaks for.
+use Rattle.std.proofs.Common.{◌≡◌, ℕ, ◌==◌, Bool, true, false, if◌then◌else◌, [], ◌∷◌, ◌++◌, length, All, refl, sym, ap, ◌∙◌, arith, append-nil, append_assoc}
+use Rattle.std.specs.List.{list_any}
+use Rattle.std.proofs.lemmas.Bool.Decides.{nat_tests}
+use Rattle.std.proofs.lemmas.List.Elements.{All-nil, All-head, All-tail, All-weaker}
+use Rattle.im_history.specs.declared.entry.Entry.{Entry}
+use Rattle.im_history.specs.Cursors.{opened, opened_after, is_cursor, is_cursor_open}
+use Rattle.im_history.specs.History.{History}
+use Rattle.im_history.specs.Transactions.{begun, begun_after}
+use Rattle.im_history.proofs.Laws.{begun-push, opened-push}
+use Rattle.im_plan.specs.Goes.{After, Others}
+use Rattle.im_reach.specs.Sides.{AreOthers, Found, Known, StoreSide, speaks}
+
+-- others of a side have numbers that it does not speak for
+pub others-of : (side : StoreSide) (old at : History) → After (AreOthers side) old at → After (Others (speaks side)) old at
+others-of side old at after = record { between = after.between; lawful = record { apart = after.lawful.apart }; log = after.log }
+
+-- nobody came
+pub nobody-came : (side : StoreSide) (h : History) → After (AreOthers side) h h
+nobody-came side h = record {
+  between = [];
+  lawful = record { alone = λ alone. refl; apart = All-nil (λ (entry : Entry). speaks side entry.who ≡ false) };
+  log = sym (append-nil h);
+}
+
+-- what is known was found just now
+pub found-here : (old : Known) → Found old old (λ at. at ≡ old.log)
+found-here old = record { at = old.log; after = nobody-came old.side old.log; now = refl; fact = refl }
+
+other-number : (side : StoreSide) (who number : ℕ) → speaks side who ≡ true → speaks side number ≡ false → (number == who) ≡ false
+other-number side who number mine other = by (number == who) refl
+  where
+    by : (b : Bool) → (number == who) ≡ b → (number == who) ≡ false
+    by false is = is
+    by true is =
+        let same : number ≡ who = grind (arith, nat_tests, is) in
+        let both : true ≡ false = sym mine ∙ (ap (speaks side) (sym same) ∙ other) in
+        absurd cc
+
+-- what entries of other numbers leave as it is stays when others come
+module _ {A : Type 0} (f : History → A) (who : ℕ)
+    (stays : (h : History) (entry : Entry) → (entry.who == who) ≡ false → f (h ++ entry ∷ []) ≡ f h) where
+  stays-behind : (h between : History) → All (λ entry. (entry.who == who) ≡ false) between → f (h ++ between) ≡ f h
+  stays-behind h [] apart = ap f (append-nil h)
+  stays-behind h (entry ∷ rest) apart =
+      ap f (sym (append_assoc h (entry ∷ []) rest))
+      ∙ (stays-behind (h ++ entry ∷ []) rest (All-tail (λ (e : Entry). (e.who == who) ≡ false) entry rest apart)
+      ∙ stays h entry (All-head (λ (e : Entry). (e.who == who) ≡ false) entry rest apart))
+
+  stays-after : (side : StoreSide) (old at : History) → speaks side who ≡ true → After (AreOthers side) old at → f at ≡ f old
+  stays-after side old at mine after =
+      ap f after.log
+      ∙ stays-behind old after.between
+      (All-weaker (λ (e : Entry). speaks side e.who ≡ false) (λ (e : Entry). (e.who == who) ≡ false)
+      (λ entry. other-number side who entry.who mine) after.between after.lawful.apart)
+
+-- the session's cursors
+pub opened-after : (side : StoreSide) (who : ℕ) (old at : History) → speaks side who ≡ true → After (AreOthers side) old at
+    → opened at who ≡ opened old who
+opened-after side who =
+    stays-after (λ h. opened h who) who
+    (λ h entry other.
+    opened-push h entry who
+    ∙ ap (λ (b : Bool). if b then opened_after h who (opened h who) entry.what else opened h who) other) side
+
+-- a cursor that is open stays open, and one that is not stays shut
+pub cursor-after : (side : StoreSide) (who cursor : ℕ) (old at : History) → speaks side who ≡ true → After (AreOthers side) old at
+    → is_cursor_open at who cursor ≡ is_cursor_open old who cursor
+cursor-after side who cursor old at mine after = ap (list_any (is_cursor cursor)) (opened-after side who old at mine after)
+
+-- its transaction
+pub begun-after : (side : StoreSide) (who : ℕ) (old at : History) → speaks side who ≡ true → After (AreOthers side) old at
+    → begun at who ≡ begun old who
+begun-after side who =
+    stays-after (λ h. begun h who) who
+    (λ h entry other.
+    begun-push h entry who
+    ∙ ap (λ (b : Bool). if b then begun_after (length h) (begun h who) entry.what else begun h who) other) side

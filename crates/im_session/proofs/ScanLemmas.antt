@@ -1,0 +1,193 @@
+-- A scan over a side of a store: what others leave of it, how its extents are served, and how it ends.
+use Rattle.std.proofs.Common.{◌≡◌, ℕ, zero, suc, ◌+◌, ◌-◌, ◌<◌, ◌≤◌, Bool, true, false, if◌then◌else◌, List, [], ◌∷◌, ◌++◌, length, map, Option, Some, None, refl, sym, ap, ◌∙◌, subst, arith, append_assoc}
+use Rattle.std.specs.List.{find, list_any}
+use Rattle.std.specs.Option.{option_map}
+use Rattle.std.proofs.lemmas.List.{length-map}
+use Rattle.std.proofs.lemmas.List.Elements.{All-append}
+use Rattle.im_values.specs.declared.value.Value.{Value}
+use Rattle.im_history.specs.declared.entry.What.{What}
+use Rattle.im_history.specs.declared.entry.What.TheVariants as what
+use Rattle.im_history.specs.declared.view.View.{View}
+use Rattle.im_history.specs.Commits.{scn}
+use Rattle.im_history.specs.Cursors.{Opened, cursor_at, is_cursor, is_cursor_open, opened}
+use Rattle.im_history.specs.History.{History}
+use Rattle.im_history.specs.Legal.{Exists}
+use Rattle.im_history.specs.Rows.{Row, rows}
+use Rattle.im_history.specs.Serving.{committed_in, fetched_by, fetched_in, serving, serving_content}
+use Rattle.im_history.specs.Units.{Content, content_at, stale}
+use Rattle.im_history.specs.Tables.{tables}
+use Rattle.im_history.specs.Views.{per_at}
+use Rattle.im_names.specs.Fitting.{OfTable, QueryServes}
+use Rattle.im_core.specs.Answers.{cursor_view, view_of}
+use Rattle.im_plan.specs.Goes.{After, Ends, Goes, Others, Rest}
+use Rattle.im_plan.specs.Plan.{Plan, End, Turn, made}
+use Rattle.im_plan.proofs.GoesLaws.{others-go_on, rest-amended, rest-first}
+use Rattle.im_reach.specs.Sides.{Added, AreOthers, Found, Known, StoreSide, speaks}
+use Rattle.im_replies.specs.declared.reply.Reply.{Reply}
+use Rattle.im_replies.specs.declared.served.How.{How}
+use Rattle.im_replies.specs.declared.served.How.TheVariants.{Unit as ByUnit}
+use Rattle.im_replies.specs.declared.served.Served.{Served}
+use Rattle.im_replies.specs.Mixes.{mix, mix_by}
+use Rattle.im_scan.specs.Faces.{how_of}
+use Rattle.im_session.specs.inner.Rests.{IsRest}
+use Rattle.im_session.specs.inner.Scans.{Comes, IsScan, IsShut, MayAskIn, Stops, Went}
+use Rattle.im_session.proofs.OtherLemmas.{cursor-after, nobody-came, opened-after, others-of}
+use Rattle.im_session.proofs.RestLemmas.{ends-here, rest-adds, rest-end, rest-look, rest-went}
+use Rattle.im_session.proofs.TableLemmas.{exists-longer, of_table-longer, per-longer, scn-longer}
+use Rattle.im_statements.specs.Outcomes.{Outcome, said}
+use Rattle.im_statements.specs.Scans.{end_scan, mark_at, serve, serve_from}
+use Rattle.im_statements.specs.Turns.{amends, look, memory_reply}
+use Rattle.im_syntax.specs.declared.bound.Bound.{Bound}
+use Rattle.im_syntax.specs.Condition.{CondOf}
+
+-- ---- others went on
+
+-- a call that added nothing
+pub went-found : (old new : Known) (P : History → Type 0) → Found old new P → Went old new
+went-found old new P found =
+    subst (λ (s : Known). Went old s) (sym found.now) (record { after = found.after; now = refl })
+
+pub went-here : (old : Known) → Went old old
+went-here old = record { after = nobody-came old.side old.log; now = refl }
+
+pub found-went : (old new : Known) → Went old new → Found old new (λ at. at ≡ new.log)
+found-went old new went = record { at = new.log; after = went.after; now = went.now; fact = refl }
+
+pub went-log : (old new : Known) (P : History → Type 0) → (found : Found old new P) → P new.log
+went-log old new P found = subst P (sym (ap (λ (s : Known). s.log) found.now)) found.fact
+
+pub side-went : (old new : Known) → Went old new → new.side ≡ old.side
+side-went old new went = ap (λ (s : Known). s.side) went.now
+
+both-came : (side : StoreSide) (old at new : History) → After (AreOthers side) old at → After (AreOthers side) at new → After (AreOthers side) old new
+both-came side old at new first second = record {
+  between = first.between ++ second.between;
+  lawful = record {
+    alone = λ alone. ap (λ (h : History). h ++ second.between) (first.lawful.alone alone) ∙ second.lawful.alone alone;
+    apart = All-append (λ entry. speaks side entry.who ≡ false) first.between second.between first.lawful.apart second.lawful.apart;
+  };
+  log = second.log ∙ (ap (λ (h : History). h ++ second.between) first.log ∙ append_assoc old first.between second.between);
+}
+
+pub went-on : (old at new : Known) → Went old at → Went at new → Went old new
+went-on old at new first second = record {
+  after = both-came old.side old.log at.log new.log first.after
+      (subst (λ (side : StoreSide). After (AreOthers side) at.log new.log) (side-went old at first) second.after);
+  now = second.now ∙ ap (λ (s : Known). record s { log = new.log }) first.now;
+}
+
+-- what is found of a later history
+longer-went : (old new : Known) (P : History → Type 0) → Went old new → ((more : History) → P (old.log ++ more)) → P new.log
+longer-went old new P went each = subst P (sym went.after.log) (each went.after.between)
+
+-- an open cursor stays as it is
+pub scan-went : (who cursor : ℕ) (view : View) (old new : Known) → speaks old.side who ≡ true → Went old new → IsScan who cursor view old
+    → IsScan who cursor view new
+scan-went who cursor view old new mine went scan = record {
+  is_open = cursor-after old.side who cursor old.log new.log mine went.after ∙ scan.is_open;
+  opened = ap (find (is_cursor cursor)) (opened-after old.side who old.log new.log mine went.after) ∙ scan.opened;
+  exists = longer-went old new (λ h. Exists h view.table) went (λ more. exists-longer old.log more view.table scan.exists);
+  known = longer-went old new (λ h. view.scn ≤ scn h) went (λ more. scn-longer old.log more view.scn scan.known);
+  per = longer-went old new (λ h. view.per ≡ per_at h view.table) went (λ more. per-longer old.log more view.table view.per scan.exists scan.per);
+  some = scan.some;
+  cut = scan.cut;
+  few = scan.few;
+}
+
+pub asks-went : (bound : Bound) (view : View) (old new : Known) → Went old new → MayAskIn bound view old → MayAskIn bound view new
+asks-went bound view old new went asks = record {
+  table = longer-went old new (λ h. OfTable (tables h) view.table (QueryServes bound)) went
+      (λ more. of_table-longer old.log more view.table (QueryServes bound) asks.table);
+  own = asks.own;
+}
+
+pub view-scan : (who cursor : ℕ) (view : View) (now : Known) → IsScan who cursor view now → cursor_view now.log who cursor ≡ view
+view-scan who cursor view now scan = ap view_of scan.opened
+
+-- ---- how an extent is served
+
+pub how-mix : (h : History) (view : View) (extent : ℕ) (filter : Option (CondOf ℕ Value))
+    → how_of (serving_content h view extent) (fetched_in h view extent) ≡ mix h view extent filter
+how-mix h view extent filter = by (serving h view extent)
+  where
+    by : (served : Option ℕ) → how_of (option_map (content_at h view.table extent) served) (fetched_by h view extent served) ≡ mix_by h view extent served
+    by None = refl
+    by (Some n) = ap (ByUnit n) (length-map (stale h view.table extent n view.scn) (λ rid. (rid, rows h view.table view.scn rid)))
+
+-- the first extents are to be served
+pub comes-here : (who k : ℕ) (old : Known) (plan : Plan Outcome) → Comes who k old plan old plan
+comes-here who k old plan = record { rest = λ outcome late rest. rest }
+
+-- one more extent was served
+pub comes-next : (who k : ℕ) (first old new : Known) (plan : Plan Outcome) (view : View) (filter : Option (CondOf ℕ Value)) (extent : ℕ)
+    (marks : List Served) (on : List Served → Plan Outcome) → extent < view.extents → Went old new
+    → Comes who k first plan old (serve view filter (view.extents - extent) extent marks on)
+    → Comes who k first plan new (serve view filter (view.extents - (extent + 1)) (extent + 1) (marks ++ mark_at new.log view filter extent ∷ []) on)
+comes-next who k first old new plan view filter extent marks on within went comes = record {
+  rest = λ outcome late rest.
+      comes.rest outcome late
+      (subst (λ (n : ℕ). IsRest who k old (serve view filter n extent marks on) outcome late) (sym left)
+      (rest-look who k old new late (λ at. at ≡ new.log)
+      (λ at. serve view filter (view.extents - (extent + 1)) (extent + 1) (marks ++ mark_at at view filter extent ∷ []) on) outcome
+      (found-went old new went) rest));
+}
+  where
+    left : view.extents - extent ≡ suc (view.extents - (extent + 1))
+    left = omega (arith, within)
+
+-- all were served
+pub comes-last : (who k : ℕ) (first old : Known) (plan : Plan Outcome) (view : View) (filter : Option (CondOf ℕ Value)) (extent : ℕ)
+    (marks : List Served) (on : List Served → Plan Outcome) → view.extents ≤ extent
+    → Comes who k first plan old (serve view filter (view.extents - extent) extent marks on) → Comes who k first plan old (on marks)
+comes-last who k first old plan view filter extent marks on all comes = record {
+  rest = λ outcome late rest.
+      comes.rest outcome late
+      (subst (λ (n : ℕ). IsRest who k old (serve view filter n extent marks on) outcome late) (sym none) rest);
+}
+  where
+    none : view.extents - extent ≡ 0
+    none = omega (arith, all)
+
+-- a call that failed added nothing
+pub comes-went : (who k : ℕ) (first old new : Known) (plan later : Plan Outcome) → Went old new → Comes who k first plan old later
+    → Comes who k first plan new later
+comes-went who k first old new plan later went comes = record {
+  rest = λ outcome late rest. comes.rest outcome late (rest-went who k old new late later outcome went rest);
+}
+
+-- ---- the end of a scan
+
+shut-added : (who : ℕ) (old new : Known) (P : History → Type 0) → Added old new who (λ at. what.Shut 0) P → IsShut who old new
+shut-added who old new P added = record { at = added.at; after = added.after; now = added.now }
+
+-- cursor 0 is shut, and the line ends
+pub scan-ended : (who k : ℕ) (old new : Known) (reply : Reply) → IsShut who old new → IsRest who k old (end_scan reply) (said reply) new
+scan-ended who k old new reply shut =
+    rest-adds who k old new new (λ here. Some (what.Shut 0)) (λ here. what.Shut 0) (λ at. Unit {0}) (λ here. End (said reply)) (said reply)
+    (record { at = shut.at; after = shut.after; now = shut.now; fact = tt }) (λ at fact. refl)
+    (λ at o. rest-end who (k + 1) new (End (said reply)) (said reply) refl)
+
+-- memory runs out while cursor 0 is open
+pub scan-lacks : (who k : ℕ) (old new : Known) (plan : Plan Outcome) → speaks old.side who ≡ true → is_cursor_open old.log who 0 ≡ true
+    → IsShut who old new → IsRest who k old plan (said (memory_reply k)) new
+scan-lacks who k old new plan mine is_open shut =
+    subst (λ (s : Known). IsRest who k old plan (said (memory_reply k)) s) (sym shut.now)
+    (record {
+      kept = refl;
+      rest = rest-amended (Others (speaks old.side)) (others-go_on (speaks old.side)) who (amends who) k old.log plan (said (memory_reply k)) _ goes;
+    })
+  where
+    at : History
+    at = shut.at
+
+    one : made who (if is_cursor_open at who 0 then Some (what.Shut 0) else None) ≡ record { who = who; what = what.Shut 0 } ∷ []
+    one = ap (λ (b : Bool). made who (if b then Some (what.Shut 0) else None)) (cursor-after old.side who 0 old.log at mine shut.after ∙ is_open)
+
+    goes : Goes (Others (speaks old.side)) who old.log (amends who k) (said (memory_reply k)) (at ++ record { who = who; what = what.Shut 0 } ∷ [])
+    goes = (
+      at,
+      others-of old.side old.log at shut.after,
+      subst (λ (added : History). Ends (Others (speaks old.side)) (at ++ added) (said (memory_reply k)) (said (memory_reply k))
+          (at ++ record { who = who; what = what.Shut 0 } ∷ [])) (sym one)
+          (ends-here old.side (at ++ record { who = who; what = what.Shut 0 } ∷ []) (said (memory_reply k))),
+    )

@@ -1,0 +1,132 @@
+ghost use Rattle.std.specs.Prelude.{◌≡◌, ◌<◌, ◌≤◌, Some, true, false};
+ghost use Rattle.im_history.specs.declared.entry.What.TheVariants as what;
+ghost use Rattle.im_history.specs.Cursors.{is_cursor_open};
+ghost use Rattle.im_history.specs.Legal.{MaySetMemory};
+ghost use Rattle.im_history.specs.Transactions.{is_open};
+ghost use Rattle.im_plan.specs.Plan.{End};
+ghost use Rattle.im_reach.specs.Sides.{speaks};
+ghost use Rattle.im_session.specs.inner.Definitions as inner;
+ghost use Rattle.im_session.specs.inner.Rests.{IsRest};
+ghost use Rattle.im_statements.specs.Definitions as plan;
+ghost use Rattle.im_statements.specs.Outcomes.{said};
+ghost use Rattle.im_statements.specs.Turns.{decide_by};
+
+use crate::refusals::{creation_refused, out_of_memory};
+use im_core::Made;
+use im_history::{Priority, Shape};
+use im_reach::Reach;
+use im_replies::{Body, Reply};
+use im_unit::ColumnUnit;
+use im_values::limits::NUMBERS;
+use im_values::{Name, Schema};
+use std::alloc::Global;
+use std::sync::Wait;
+
+/// A table that is to be created.
+#[derive(Debug, Drop)]
+pub struct NewTable {
+    pub name: Name,
+    pub schema: Schema,
+    pub shape: Shape,
+    /// None where the table does not join the column store.
+    pub memory: Option<Priority>,
+}
+
+/// The reply of a line that created a table.
+fn created(alloc: Global, made: Made) -> Reply
+    ensures { result ≡ inner.created_reply made }
+{
+    Reply::settled(
+        alloc,
+        made.place,
+        Body::Created {
+            table: made.table,
+            scn: made.scn,
+        },
+    )
+}
+
+/// Lets a table that was just created join the column store with a priority, once the line has made so many entries.
+fn join_memory<R: Wait, H: Reach<ColumnUnit>>(
+    alloc: Global,
+    rt: &R,
+    reach: &mut H,
+    who: u32,
+    made: Made,
+    priority: Priority,
+    entries: u64,
+) -> Reply
+    requires session { who < NUMBERS }
+    requires speaks { speaks (H.known reach.old).side who ≡ true }
+    requires shut { is_cursor_open (H.known reach.old).log who 0 ≡ false }
+    requires may { MaySetMemory (H.known reach.old).log who made.table }
+    ensures { IsRest who entries (H.known reach.old)
+        (decide_by (λ here. what.Memory made.table (Some priority)) (λ here. End (said (inner.created_reply made)))) (said result)
+        (H.known reach.new) }
+{
+    match reach.set_memory(rt, who, made.table, Some(priority)) {
+        Ok(_) => created(alloc, made),
+        Err(_) => out_of_memory(alloc, entries),
+    }
+}
+
+/// CREATE TABLE: creates a table, once the line has made so many entries. Where it is to join the column store, that is an
+/// entry of its own behind the table's.
+///
+/// A table that was created stays where memory runs out before it has joined.
+pub fn create<R: Wait, H: Reach<ColumnUnit>>(
+    alloc: Global,
+    rt: &R,
+    reach: &mut H,
+    who: u32,
+    table: NewTable,
+    entries: u64,
+) -> Reply
+    requires session { who < NUMBERS }
+    requires speaks { speaks (H.known reach.old).side who ≡ true }
+    requires shut { is_cursor_open (H.known reach.old).log who 0 ≡ false }
+    requires idle { is_open (H.known reach.old).log who ≡ false }
+    requires few { entries ≤ 1 }
+    ensures { IsRest who entries (H.known reach.old) (plan.create_table table.name table.schema table.shape table.memory)
+        (said result) (H.known reach.new) }
+{
+    let NewTable {
+        name,
+        schema,
+        shape,
+        memory,
+    } = table;
+    let Ok(told) = name.copy(alloc) else {
+        return out_of_memory(alloc, entries);
+    };
+    match reach.create(rt, who, name, schema, shape) {
+        Ok(made) => match memory {
+            None => created(alloc, made),
+            Some(priority) => join_memory(alloc, rt, reach, who, made, priority, entries + 1),
+        },
+        Err(refused) => creation_refused(alloc, told, entries, refused),
+    }
+}
+
+/// ALTER TABLE: lets a table join the column store with a priority, or leave it where none is given, once the line has made so
+/// many entries.
+pub fn alter<R: Wait, H: Reach<ColumnUnit>>(
+    alloc: Global,
+    rt: &R,
+    reach: &mut H,
+    who: u32,
+    table: u32,
+    priority: Option<Priority>,
+    entries: u64,
+) -> Reply
+    requires session { who < NUMBERS }
+    requires speaks { speaks (H.known reach.old).side who ≡ true }
+    requires shut { is_cursor_open (H.known reach.old).log who 0 ≡ false }
+    requires may { MaySetMemory (H.known reach.old).log who table }
+    ensures { IsRest who entries (H.known reach.old) (plan.alter_table table priority) (said result) (H.known reach.new) }
+{
+    match reach.set_memory(rt, who, table, priority) {
+        Ok(place) => Reply::settled(alloc, place, Body::Altered { table }),
+        Err(_) => out_of_memory(alloc, entries),
+    }
+}

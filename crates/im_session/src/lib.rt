@@ -1,0 +1,20 @@
+//! The statements of a session, played over a store that several sessions may share.
+//!
+//! A statement goes by its plan (`im_statements`): each call of the store is one turn of it, others may come between two
+//! calls, and the reply is what the plan says of the history at that turn. So one body serves a store that nobody else has
+//! and one that is shared: it is written over `Reach` of `im_reach`.
+//!
+//! The contract of each function says what is left of its line: it goes by the plan, or runs out of memory on the way and is
+//! amended (`specs/inner/Rests.antt`).
+//!
+//! Start with `transaction.rt`, whose statements make one call each.
+#![tactic(auto)]
+
+mod definition;
+mod inserts;
+mod refusals;
+mod transaction;
+
+pub use definition::{NewTable, alter, create};
+pub use inserts::insert;
+pub use transaction::{commit, roll_back, set_mode};

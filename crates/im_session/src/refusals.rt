@@ -1,0 +1,41 @@
+ghost use Rattle.std.specs.Prelude.{◌≡◌};
+ghost use Rattle.im_replies.specs.Causes as causes;
+ghost use Rattle.im_statements.specs.Statements.{name_reply};
+ghost use Rattle.im_statements.specs.Turns as turns;
+
+use im_history::{Refused, Why};
+use im_names::NameFault;
+use im_replies::{Body, Fault, Reply};
+use im_values::Name;
+use std::alloc::Global;
+
+/// The reply of a line that ran out of memory once it had made so many entries.
+pub fn out_of_memory(alloc: Global, k: u64) -> Reply
+    ensures { result ≡ turns.memory_reply k }
+{
+    Reply::refusal(alloc, Fault::Memory { k })
+}
+
+/// The reply of a line whose call was refused once the line had made so many entries.
+pub fn refused_reply(alloc: Global, k: u64, refused: Refused) -> Reply
+    ensures { result ≡ turns.refused_reply causes.fault_of k refused.place refused.why }
+{
+    match refused.why {
+        Why::NoMemory => out_of_memory(alloc, k),
+        cause => Reply::settled(alloc, refused.place, Body::Error(Fault::from(cause))),
+    }
+}
+
+/// The reply of a line that was to create a table of this name, and was refused once it had made so many entries.
+pub fn creation_refused(alloc: Global, name: Name, k: u64, refused: Refused) -> Reply
+    ensures { result ≡ turns.refused_reply (causes.creation_fault name) k refused.place refused.why }
+{
+    match refused.why {
+        Why::NoMemory => out_of_memory(alloc, k),
+        cause => Reply::settled(
+            alloc,
+            refused.place,
+            Body::Error(Fault::of_creation(name, cause)),
+        ),
+    }
+}

@@ -1,0 +1,72 @@
+ghost use Rattle.std.specs.Prelude.{◌≡◌, ◌<◌, true, false};
+ghost use Rattle.im_history.specs.Cursors.{is_cursor_open};
+ghost use Rattle.im_history.specs.Views.{look_at};
+ghost use Rattle.im_reach.specs.Sides.{speaks};
+ghost use Rattle.im_session.specs.inner.Rests.{IsRest};
+ghost use Rattle.im_statements.specs.Definitions as plan;
+ghost use Rattle.im_statements.specs.Outcomes.{said};
+
+use crate::refusals::{out_of_memory, refused_reply};
+use im_history::{Look, Mode};
+use im_reach::Reach;
+use im_replies::{Body, Reply};
+use im_unit::ColumnUnit;
+use im_values::limits::NUMBERS;
+use std::alloc::Global;
+use std::sync::Wait;
+
+/// SET TRANSACTION: begins a transaction of a mode.
+pub fn set_mode<R: Wait, H: Reach<ColumnUnit>>(
+    alloc: Global,
+    rt: &R,
+    reach: &mut H,
+    who: u32,
+    mode: Mode,
+) -> Reply
+    requires session { who < NUMBERS }
+    requires speaks { speaks (H.known reach.old).side who ≡ true }
+    requires shut { is_cursor_open (H.known reach.old).log who 0 ≡ false }
+    ensures { IsRest who 0 (H.known reach.old) (plan.set_mode who mode) (said result) (H.known reach.new) }
+{
+    match reach.begin(rt, who, mode) {
+        Ok(begun) => Reply::settled(alloc, begun.place, Body::Begun { scn: begun.scn }),
+        Err(refused) => refused_reply(alloc, 0, refused),
+    }
+}
+
+/// COMMIT: commits what a session has pending.
+pub fn commit<R: Wait, H: Reach<ColumnUnit>>(
+    alloc: Global,
+    rt: &R,
+    reach: &mut H,
+    who: u32,
+) -> Reply
+    requires session { who < NUMBERS }
+    requires speaks { speaks (H.known reach.old).side who ≡ true }
+    requires shut { is_cursor_open (H.known reach.old).log who 0 ≡ false }
+    ensures { IsRest who 0 (H.known reach.old) plan.commit (said result) (H.known reach.new) }
+{
+    match reach.commit(rt, who) {
+        Ok(done) => Reply::settled(alloc, done.place, Body::Committed { scn: done.scn }),
+        Err(_) => out_of_memory(alloc, 0),
+    }
+}
+
+/// ROLLBACK: rolls back what a session has pending, where a transaction of it was open at this look.
+pub fn roll_back<R: Wait, H: Reach<ColumnUnit>>(
+    alloc: Global,
+    rt: &R,
+    reach: &mut H,
+    who: u32,
+    look: &Look,
+) -> Reply
+    requires session { who < NUMBERS }
+    requires speaks { speaks (H.known reach.old).side who ≡ true }
+    requires look { look.now ≡ look_at (H.known reach.old).log who }
+    ensures { IsRest who 0 (H.known reach.old) (plan.roll_back who (H.known reach.old).log) (said result) (H.known reach.new) }
+{
+    if look.begun.is_none() {
+        return Reply::settled(alloc, look.place, Body::RolledBack);
+    }
+    Reply::settled(alloc, reach.rollback(rt, who), Body::RolledBack)
+}
