@@ -3,4 +3,5 @@ mod OpeningLemmas
 mod OtherLemmas
 mod RestLemmas
 mod ScanLemmas
+mod ServingLemmas
 mod TableLemmas

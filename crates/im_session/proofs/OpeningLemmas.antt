@@ -4,11 +4,14 @@ use Rattle.std.specs.List.{cons_option, find, list_any}
 use Rattle.std.specs.Option.{option_map}
 use Rattle.std.proofs.lemmas.Bool.Decides.{nat_tests}
 use Rattle.std.proofs.lemmas.List.{take-append-drop}
+use Rattle.im_core.specs.Answers.{IsRefusal}
 use Rattle.im_values.specs.declared.limits.TheConstants.{MOST_ROWS}
+use Rattle.im_values.specs.declared.value.Value.{Value}
 use Rattle.im_history.specs.declared.entry.Entry.{Entry}
 use Rattle.im_history.specs.declared.entry.Mode.{Mode}
 use Rattle.im_history.specs.declared.entry.Mode.TheVariants as mode
 use Rattle.im_history.specs.declared.entry.What.TheVariants.{Open}
+use Rattle.im_history.specs.declared.refused.Refused.{Refused}
 use Rattle.im_history.specs.declared.refused.Why.TheVariants.{CursorOpen}
 use Rattle.im_history.specs.declared.limits.Limits.{Limits}
 use Rattle.im_history.specs.declared.view.View.{View}
@@ -25,14 +28,21 @@ use Rattle.im_history.specs.Views.{per_at, seen_by, view_at}
 use Rattle.im_history.proofs.Laws.{IsLegal-pop, opened-push}
 use Rattle.im_names.specs.Fitting.{OfTable, QueryServes}
 use Rattle.im_plan.specs.Goes.{After}
-use Rattle.im_reach.specs.Sides.{Added, AreOthers, Known}
+use Rattle.im_plan.specs.Plan.{Plan}
+use Rattle.im_reach.specs.Sides.{Added, AreOthers, Found, Known, speaks}
+use Rattle.im_replies.specs.declared.served.Served.{Served}
+use Rattle.im_replies.specs.Causes.{fault_of}
 use Rattle.im_scan.specs.Pinned.{seen_all}
 use Rattle.im_scan.proofs.ForCallers.{seen_by-later}
+use Rattle.im_session.specs.inner.Rests.{IsRest}
 use Rattle.im_session.specs.inner.Scans.{IsScan, MayAskIn}
-use Rattle.im_session.proofs.RestLemmas.{Onward}
+use Rattle.im_session.proofs.RestLemmas.{Onward, attempt-done, rest-refused}
 use Rattle.im_session.proofs.TableLemmas.{asks-own, exists-longer, of_table-longer, per-longer, scn-longer}
-use Rattle.im_statements.specs.Scans.{rows_seen}
+use Rattle.im_statements.specs.Outcomes.{Outcome, said}
+use Rattle.im_statements.specs.Scans.{rows_seen, scan, serve_from}
+use Rattle.im_statements.specs.Turns.{refused_reply}
 use Rattle.im_syntax.specs.declared.bound.Bound.{Bound}
+use Rattle.im_syntax.specs.Condition.{CondOf}
 
 -- ---- the cursor
 
@@ -158,3 +168,50 @@ module _ (who cursor table : ℕ) (old middle : Known) (at : History) (view : Vi
       ∙ (ap (seen_all (opening at who cursor table)) view_is
       ∙ present-same (seen_by (opening at who cursor table) (view_at at who table)) (seen_by at (view_at at who table)) 0 (view_at at who table).rows
       (λ rid. seen_by-later at (record { who = who; what = Open cursor table } ∷ []) (view_at at who table) rid (snapshot-known at who)))
+
+-- ---- what a call that opened a cursor makes known
+
+-- a cursor was opened on a table, with this view
+abbrev pub HasOpened : ℕ → ℕ → ℕ → View → History → Type 0
+HasOpened who cursor table view at = (open_refusal at who cursor ≡ None) × (view ≡ view_at at who table)
+
+module _ (who cursor table : ℕ) (old middle : Known) (view : View)
+    (added : Added old middle who (λ at. Open cursor table) (HasOpened who cursor table view)) where
+  pub added-scan : Exists old.log table → view.rows ≤ MOST_ROWS → 1 ≤ view.per → IsScan who cursor view middle
+  added-scan exists few some =
+      opening-scan who cursor table old middle added.at view added.after added.now added.fact.1 exists added.fact.0 few some
+
+  pub added-asks : (bound : Bound) → IsLawful middle.limits middle.log → OfTable (tables old.log) table (QueryServes bound) → MayAskIn bound view middle
+  added-asks bound lawful of = opening-asks who cursor table old middle added.at view added.after added.now added.fact.1 bound lawful of
+
+  pub added-speaks : speaks old.side who ≡ true → speaks middle.side who ≡ true
+  added-speaks mine = ap (λ (s : Known). speaks s.side who) added.now ∙ mine
+
+-- cursor 0 was opened for a line's own scan, which then goes on
+pub scan-opened : (who k table : ℕ) (old middle new : Known) (view : View) (filter : Option (CondOf ℕ Value))
+    (tail : ℕ → View → List (ℕ × Row) → List Served → Plan Outcome) (outcome : Outcome)
+    → Added old middle who (λ at. Open 0 table) (HasOpened who 0 table view)
+    → IsRest who (k + 1) middle (serve_from view filter 0 (tail view.place view (seen_all middle.log view))) outcome new
+    → IsRest who k old (scan who table filter (λ at view. tail (length at) view (rows_seen at view))) outcome new
+scan-opened who k table old middle new view filter tail outcome added rest =
+    attempt-done who k old middle new fault_of (λ at. open_refusal at who 0) (λ at. Open 0 table) (HasOpened who 0 table view) on outcome added
+    (λ at fact. fact.0) (λ at o. subst (λ (p : Plan Outcome). IsRest who (k + 1) middle p outcome new) (same at o) rest)
+  where
+    on : History → Plan Outcome
+    on at = serve_from (view_at at who table) filter 0 (tail (length at) (view_at at who table) (rows_seen at (view_at at who table)))
+
+    same : (at : History) → Onward who old middle (λ at. Open 0 table) (HasOpened who 0 table view) at
+        → serve_from view filter 0 (tail view.place view (seen_all middle.log view)) ≡ on at
+    same at o =
+        ap (λ (rows : List (ℕ × Row)). serve_from view filter 0 (tail view.place view rows))
+        (opening-seen who 0 table old middle at view o.after o.now o.fact.1)
+        ∙ ap (λ (v : View). serve_from v filter 0 (tail v.place v (rows_seen at (view_at at who table)))) o.fact.1
+
+-- it was not opened
+pub scan-refused : (who k table : ℕ) (old new : Known) (filter : Option (CondOf ℕ Value)) (on : History → View → List Served → Plan Outcome)
+    (told : Refused) → speaks old.side who ≡ true → is_cursor_open old.log who 0 ≡ false
+    → Found old new (λ at. IsRefusal at (open_refusal at who 0) told)
+    → IsRest who k old (scan who table filter on) (said (refused_reply fault_of k told.place told.why)) new
+scan-refused who k table old new filter on told mine shut found =
+    rest-refused who k old new false fault_of (λ at. open_refusal at who 0) (λ at. Open 0 table)
+    (λ at. serve_from (view_at at who table) filter 0 (on at (view_at at who table))) told mine shut found

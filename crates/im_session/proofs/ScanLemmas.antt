@@ -59,6 +59,14 @@ went-log old new P found = subst P (sym (ap (λ (s : Known). s.log) found.now)) 
 pub side-went : (old new : Known) → Went old new → new.side ≡ old.side
 side-went old new went = ap (λ (s : Known). s.side) went.now
 
+pub speaks-went : (who : ℕ) (old new : Known) → Went old new → speaks old.side who ≡ true → speaks new.side who ≡ true
+speaks-went who old new went mine = ap (λ (side : StoreSide). speaks side who) (side-went old new went) ∙ mine
+
+-- an open cursor stays open, and a shut one shut
+pub open-went : (who cursor : ℕ) (old new : Known) {b : Bool} → speaks old.side who ≡ true → Went old new → is_cursor_open old.log who cursor ≡ b
+    → is_cursor_open new.log who cursor ≡ b
+open-went who cursor old new mine went is = cursor-after old.side who cursor old.log new.log mine went.after ∙ is
+
 both-came : (side : StoreSide) (old at new : History) → After (AreOthers side) old at → After (AreOthers side) at new → After (AreOthers side) old new
 both-came side old at new first second = record {
   between = first.between ++ second.between;
@@ -155,9 +163,14 @@ comes-went who k first old new plan later went comes = record {
   rest = λ outcome late rest. comes.rest outcome late (rest-went who k old new late later outcome went rest);
 }
 
+-- and so the line stops there
+pub stops-went : (who k : ℕ) (first old new : Known) (plan later : Plan Outcome) → Went old new → Comes who k first plan old later
+    → Stops who k first plan new
+stops-went who k first old new plan later went comes = record { later = later; comes = comes-went who k first old new plan later went comes }
+
 -- ---- the end of a scan
 
-shut-added : (who : ℕ) (old new : Known) (P : History → Type 0) → Added old new who (λ at. what.Shut 0) P → IsShut who old new
+pub shut-added : (who : ℕ) (old new : Known) (P : History → Type 0) → Added old new who (λ at. what.Shut 0) P → IsShut who old new
 shut-added who old new P added = record { at = added.at; after = added.after; now = added.now }
 
 -- cursor 0 is shut, and the line ends
@@ -191,3 +204,14 @@ scan-lacks who k old new plan mine is_open shut =
           (at ++ record { who = who; what = what.Shut 0 } ∷ [])) (sym one)
           (ends-here old.side (at ++ record { who = who; what = what.Shut 0 } ∷ []) (said (memory_reply k))),
     )
+
+-- memory ran out where a line had stopped
+pub scan-stops : (who k : ℕ) (first old new : Known) (plan : Plan Outcome) → speaks old.side who ≡ true → is_cursor_open old.log who 0 ≡ true
+    → IsShut who old new → Stops who k first plan old → IsRest who k first plan (said (memory_reply k)) new
+scan-stops who k first old new plan mine is_open shut stops =
+    stops.comes.rest (said (memory_reply k)) new (scan-lacks who k old new stops.later mine is_open shut)
+
+-- all extents were served, and the line ends with this reply
+pub scan-replies : (who k : ℕ) (first old new : Known) (plan : Plan Outcome) (reply : Reply) → IsShut who old new
+    → Comes who k first plan old (end_scan reply) → IsRest who k first plan (said reply) new
+scan-replies who k first old new plan reply shut comes = comes.rest (said reply) new (scan-ended who k old new reply shut)

@@ -12,9 +12,12 @@
 
 mod definition;
 mod inserts;
+mod query;
 mod refusals;
+mod serving;
 mod transaction;
 
 pub use definition::{NewTable, alter, create};
 pub use inserts::insert;
+pub use query::{explain, select};
 pub use transaction::{commit, roll_back, set_mode};

@@ -1,5 +1,5 @@
 -- A scan over a side of a store, between the opening of its cursor and its end.
-use Rattle.std.specs.Prelude.{◌≡◌, ℕ, ◌≤◌, true, [], ◌∷◌, ◌++◌, List, Some}
+use Rattle.std.specs.Prelude.{◌≡◌, ℕ, ◌≤◌, true, [], ◌∷◌, ◌++◌, List, length, Option, Some}
 use Rattle.std.specs.List.{AllByRecursion}
 use Rattle.im_values.specs.declared.limits.TheConstants.{MOST_ROWS}
 use Rattle.im_values.specs.declared.value.Value.{Value}
@@ -10,7 +10,10 @@ use Rattle.im_history.specs.Cursors.{cursor_at, is_cursor_open}
 use Rattle.im_history.specs.Grid.{extents_for}
 use Rattle.im_history.specs.History.{History}
 use Rattle.im_history.specs.Legal.{Exists}
+use Rattle.im_history.specs.Rows.{Row}
+use Rattle.im_history.specs.Serving.{fetched_in, serving_content}
 use Rattle.im_history.specs.Tables.{tables}
+use Rattle.im_history.specs.Units.{Content}
 use Rattle.im_history.specs.Views.{per_at}
 use Rattle.im_names.specs.Fitting.{OfTable, QueryServes}
 use Rattle.im_plan.specs.Goes.{After}
@@ -56,3 +59,9 @@ pub record Comes (who k : ℕ) (old : Known) (plan : Plan Outcome) (new : Known)
 pub record Stops (who k : ℕ) (old : Known) (plan : Plan Outcome) (new : Known) : Type 0 where
   pub later : Plan Outcome
   pub comes : Comes who k old plan new later
+
+-- this was read of an extent, for a view, at this history
+pub record IsRead (history : History) (view : View) (extent place : ℕ) (unit : Option Content) (fetched : List (ℕ × Option Row)) : Type 0 where
+  pub place_is : place ≡ length history
+  pub unit_is : unit ≡ serving_content history view extent
+  pub fetched_is : fetched ≡ fetched_in history view extent

@@ -1,0 +1,107 @@
+-- What is read of an extent for a scan, and what the parts of the extents so far are.
+use Rattle.std.proofs.Common.{◌≡◌, ℕ, ◌+◌, ◌<◌, ◌≤◌, ◌^◌, true, List, length, Option, Result, Ok, Err, refl, sym, ap, ◌∙◌, subst, arith}
+use Rattle.std.specs.List.{AllByRecursion}
+use Rattle.std.specs.Option.{ForSome}
+use Rattle.std.specs.Result.{IfErr}
+use Rattle.im_values.specs.declared.value.Value.{Value}
+use Rattle.im_core.specs.Answers.{cursor_view}
+use Rattle.im_group.specs.Partials.{CanMerge, Parts, merged, partial}
+use Rattle.im_history.specs.declared.view.View.{View}
+use Rattle.im_history.specs.Commits.{scn}
+use Rattle.im_history.specs.History.{History}
+use Rattle.im_history.specs.Legal.{IsLawful}
+use Rattle.im_history.specs.Rows.{Row}
+use Rattle.im_history.specs.Serving.{fetched_in, serving_content}
+use Rattle.im_history.specs.Units.{Content}
+use Rattle.im_reach.specs.Sides.{Known, speaks}
+use Rattle.im_replies.specs.declared.served.Served.{Served}
+use Rattle.im_scan.specs.Faces.{how_of}
+use Rattle.im_scan.specs.Parts.{MayAsk}
+use Rattle.im_scan.specs.Pinned.{IsPinned, seen_all, seen_in, seen_to}
+use Rattle.im_scan.proofs.ForCallers.{MayAskOf, can-merge-seen, fetched-may, merged-seen, pinned-serving, seen_in-later, seen_to-all, unit-may}
+use Rattle.im_session.specs.inner.Scans.{IsRead, IsScan, MayAskIn, Went}
+use Rattle.im_session.proofs.ScanLemmas.{asks-went, how-mix, scan-went, view-scan}
+use Rattle.im_session.proofs.TableLemmas.{asks-of}
+use Rattle.im_statements.specs.Scans.{mark_at}
+use Rattle.im_syntax.specs.declared.bound.Bound.{Bound}
+use Rattle.im_syntax.specs.Condition.{CondOf}
+
+-- ---- errors
+
+-- what holds whatever the error says
+pub err-always : {T E : Type 0} (result : Result T E) (P : E → Type 0) → ((error : E) → P error) → IfErr result P
+err-always (Ok value) P holds = tt
+err-always (Err error) P holds = holds error
+
+-- ---- one extent
+
+pub read-of : (who cursor extent place : ℕ) (view : View) (unit : Option Content) (fetched : List (ℕ × Option Row)) (now : Known)
+    → IsScan who cursor view now → place ≡ length now.log → unit ≡ serving_content now.log (cursor_view now.log who cursor) extent
+    → fetched ≡ fetched_in now.log (cursor_view now.log who cursor) extent → IsRead now.log view extent place unit fetched
+read-of who cursor extent place view unit fetched now scan place_is unit_is fetched_is = record {
+  place_is = place_is;
+  unit_is = unit_is ∙ ap (λ (v : View). serving_content now.log v extent) (view-scan who cursor view now scan);
+  fetched_is = fetched_is ∙ ap (λ (v : View). fetched_in now.log v extent) (view-scan who cursor view now scan);
+}
+
+-- how it is served
+pub mark-read : (h : History) (view : View) (extent place : ℕ) (unit : Option Content) (fetched : List (ℕ × Option Row))
+    (filter : Option (CondOf ℕ Value)) (mark : Served) → IsRead h view extent place unit fetched
+    → mark ≡ record { place = place; extent = extent; how = how_of unit fetched } → mark ≡ mark_at h view filter extent
+mark-read h view extent place unit fetched filter mark read is =
+    is ∙ rw (read.place_is, read.unit_is, read.fetched_is)
+    (ap (λ how. record { place = length h; extent = extent; how = how }) (how-mix h view extent filter))
+
+-- what is known of an extent that was read, of which a query is asked
+pub record MayScanPart (bound : Bound) (h : History) (view : View) (extent : ℕ) (unit : Option Content) (fetched : List (ℕ × Option Row)) : Type 0 where
+  pub pinned : IsPinned h view extent unit fetched
+  pub unit_fits : ForSome unit (λ content. AllByRecursion (MayAsk bound) content.rows)
+  pub fetched_fits : AllByRecursion (λ row. MayAsk bound row.1) fetched
+
+pub may-part : (who cursor extent place : ℕ) (bound : Bound) (view : View) (unit : Option Content) (fetched : List (ℕ × Option Row))
+    (now : Known) → IsScan who cursor view now → MayAskIn bound view now → IsLawful now.limits now.log
+    → IsRead now.log view extent place unit fetched → MayScanPart bound now.log view extent unit fetched
+may-part who cursor extent place bound view unit fetched now scan asks lawful read = record {
+  pinned = pinned;
+  unit_fits = unit-may bound now.log view extent unit fetched pinned may;
+  fetched_fits = fetched-may bound now.log view extent unit fetched pinned may;
+}
+  where
+    pinned : IsPinned now.log view extent unit fetched
+    pinned = pinned-serving now.log view extent unit fetched scan.per read.unit_is read.fetched_is
+
+    may : MayAskOf bound now.log view.table
+    may = asks-of now.limits now.log view.table bound lawful.legal asks.table
+
+-- the same, where others went on before it was read
+pub may-read : (who cursor extent place : ℕ) (bound : Bound) (view : View) (unit : Option Content) (fetched : List (ℕ × Option Row))
+    (old new : Known) → speaks old.side who ≡ true → IsScan who cursor view old → MayAskIn bound view old → Went old new
+    → IsLawful new.limits new.log → IsRead new.log view extent place unit fetched → MayScanPart bound new.log view extent unit fetched
+may-read who cursor extent place bound view unit fetched old new mine scan asks went lawful read =
+    may-part who cursor extent place bound view unit fetched new (scan-went who cursor view old new mine went scan)
+    (asks-went bound view old new went asks) lawful read
+
+-- ---- parts
+
+pub seen_in-went : (old new : Known) (view : View) (extent : ℕ) → view.scn ≤ scn old.log → Went old new
+    → seen_in new.log view extent ≡ seen_in old.log view extent
+seen_in-went old new view extent known went =
+    ap (λ (log : History). seen_in log view extent) went.after.log ∙ seen_in-later old.log went.after.between view extent known
+
+-- the part of the next extent, which was served after others went on
+module _ (bound : Bound) (view : View) (extent : ℕ) (first now : Known) (before part : Parts) (known : view.scn ≤ scn first.log) (went : Went first now)
+    (is : before ≡ partial bound (seen_to first.log view extent)) (and_is : part ≡ partial bound (seen_in now.log view extent)) where
+  and_so : part ≡ partial bound (seen_in first.log view extent)
+  and_so = and_is ∙ ap (partial bound) (seen_in-went first now view extent known went)
+
+  pub part-merges : view.rows < 2 ^ 64 → CanMerge before part
+  part-merges few = can-merge-seen bound first.log view extent before part few is and_so
+
+  pub part-next : merged before part ≡ partial bound (seen_to first.log view (extent + 1))
+  part-next = merged-seen bound first.log view extent before part is and_so
+
+-- the parts of all extents
+pub part-all : (who cursor extent : ℕ) (bound : Bound) (view : View) (now : Known) (part : Parts) → IsScan who cursor view now
+    → view.extents ≡ extent → part ≡ partial bound (seen_to now.log view extent) → part ≡ partial bound (seen_all now.log view)
+part-all who cursor extent bound view now part scan all is =
+    is ∙ ap (partial bound) (seen_to-all now.log view extent scan.some (sym all ∙ scan.cut))

@@ -1,0 +1,46 @@
+use Rattle.im_group.specs.Answers.{answer}
+use Rattle.im_names.specs.Fitting.{QueryServes}
+use Rattle.im_replies.specs.declared.body.Body.TheVariants as body
+use Rattle.im_session.proofs.OpeningLemmas.{added-asks, added-scan, added-speaks, scan-opened, scan-refused}
+use Rattle.im_session.proofs.ScanLemmas.{open-went, shut-added}
+use Rattle.im_session.proofs.TableLemmas.{exists-of}
+use Rattle.im_session.proofs.query.select.Goals as goal
+use Rattle.im_statements.specs.Scans.{end_scan, rows_seen}
+use Rattle.im_statements.specs.Turns.{served_reply}
+use Rattle.std.proofs.Common.{length}
+
+pub answer_seen-reply-requires-clause-scan : goal.answer_seen-reply-requires-clause-scan
+answer_seen-reply-requires-clause-scan g c =
+    added-scan c.args.who 0 c.args.bound.table (g.H.Reach.known c.args.reach.now) (g.H.Reach.known c.open_cursor.new.self) c.in-Ok.view
+    c.in-Ok.ensures.ok (exists-of (g.H.Reach.known c.args.reach.now).log c.args.bound.table (QueryServes c.args.bound) c.requires.serves)
+    c.in-Ok.ensures.few c.in-Ok.ensures.some
+
+pub answer_seen-reply-requires-clause-asks : goal.answer_seen-reply-requires-clause-asks
+answer_seen-reply-requires-clause-asks g c =
+    added-asks c.args.who 0 c.args.bound.table (g.H.Reach.known c.args.reach.now) (g.H.Reach.known c.open_cursor.new.self) c.in-Ok.view
+    c.in-Ok.ensures.ok c.args.bound c.in-Ok.ensures.lawful c.requires.serves
+
+pub shut-requires-clause-cursor : goal.shut-requires-clause-cursor
+shut-requires-clause-cursor g c =
+    let scan = added-scan c.args.who 0 c.args.bound.table (g.H.Reach.known c.args.reach.now) (g.H.Reach.known c.open_cursor.new.self) c.in-Ok.view
+    c.in-Ok.ensures.ok (exists-of (g.H.Reach.known c.args.reach.now).log c.args.bound.table (QueryServes c.args.bound) c.requires.serves)
+    c.in-Ok.ensures.few c.in-Ok.ensures.some in
+    open-went c.args.who 0 (g.H.Reach.known c.open_cursor.new.self) (g.H.Reach.known c.answer_seen-reply.new.reach)
+    (added-speaks c.args.who 0 c.args.bound.table (g.H.Reach.known c.args.reach.now) (g.H.Reach.known c.open_cursor.new.self) c.in-Ok.view
+    c.in-Ok.ensures.ok c.requires.speaks)
+    c.answer_seen-reply.ensures.went scan.is_open
+
+pub returns-in-Ok : goal.returns-in-Ok
+returns-in-Ok g c =
+    scan-opened c.args.who 0 c.args.bound.table (g.H.Reach.known c.args.reach.now) (g.H.Reach.known c.open_cursor.new.self)
+    (g.H.Reach.known c.shut.new.self) c.in-Ok.view c.args.bound.filter
+    (λ place view rows marks. end_scan (served_reply place marks (body.Answer view.scn (answer c.args.bound rows)))) _ c.in-Ok.ensures.ok
+    (c.answer_seen-reply.ensures.rest (g.H.Reach.known c.shut.new.self)
+    (shut-added c.args.who (g.H.Reach.known c.answer_seen-reply.new.reach) (g.H.Reach.known c.shut.new.self) _ c.shut.ensures.added))
+
+pub returns : goal.returns
+returns g c =
+    rw c.refused_reply.ensures
+    (scan-refused c.args.who 0 c.args.bound.table (g.H.Reach.known c.args.reach.now) (g.H.Reach.known c.open_cursor.new.self) c.args.bound.filter
+    (λ at view marks. end_scan (served_reply (length at) marks (body.Answer view.scn (answer c.args.bound (rows_seen at view))))) c.in-Err.refused
+    c.requires.speaks c.requires.shut c.in-Err.ensures.err)

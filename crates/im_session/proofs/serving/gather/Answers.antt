@@ -1,0 +1,96 @@
+use Rattle.std.proofs.Common.{◌≡◌, ◌<◌, ◌≤◌, ◌+◌, ◌-◌, ◌^◌, ◌∙◌, [], ◌∷◌, ◌++◌, ℕ, List, ap, sym, subst, arith}
+use Rattle.im_replies.specs.declared.served.Served.{Served}
+use Rattle.im_plan.specs.Plan.{Plan}
+use Rattle.im_session.specs.inner.Scans.{Comes, Stops}
+use Rattle.im_session.proofs.ScanLemmas.{asks-went, comes-last, comes-next, scan-went, stops-went, went-on}
+use Rattle.im_session.proofs.ServingLemmas.{err-always, part-all, part-merges, part-next}
+use Rattle.im_session.proofs.serving.gather.Goals as goal
+use Rattle.im_statements.specs.Outcomes.{Outcome}
+use Rattle.im_statements.specs.Scans.{serve, serve_from}
+
+pub served_part-requires-clause-scan : goal.served_part-requires-clause-scan
+served_part-requires-clause-scan g c =
+    scan-went c.args.who c.args.cursor c.args.view.now (g.H.Reach.known c.args.reach.now) (g.H.Reach.known c.loop-extent.reach) c.requires.speaks
+    c.loop-extent.invariant.went c.requires.scan
+
+pub served_part-requires-clause-asks : goal.served_part-requires-clause-asks
+served_part-requires-clause-asks g c =
+    asks-went c.args.bound.now c.args.view.now (g.H.Reach.known c.args.reach.now) (g.H.Reach.known c.loop-extent.reach) c.loop-extent.invariant.went
+    c.requires.asks
+
+pub returns-in_err-served-clause-went : goal.returns-in_err-served-clause-went
+returns-in_err-served-clause-went g c =
+    went-on (g.H.Reach.known c.args.reach.now) (g.H.Reach.known c.loop-extent.reach) (g.H.Reach.known c.served_part.new.reach)
+    c.loop-extent.invariant.went c.in_err-served.ensures.went
+
+pub returns-in_err-served-clause-err : goal.returns-in_err-served-clause-err
+returns-in_err-served-clause-err g c =
+    let stops : (k : ℕ) (on : List Served → Plan Outcome)
+    → Stops c.args.who k (g.H.Reach.known c.args.reach.now) (serve_from c.args.view.now c.args.bound.now.filter c.args.from on)
+    (g.H.Reach.known c.served_part.new.reach) =
+    λ k on.
+    stops-went c.args.who k (g.H.Reach.known c.args.reach.now) (g.H.Reach.known c.loop-extent.reach) (g.H.Reach.known c.served_part.new.reach)
+    (serve_from c.args.view.now c.args.bound.now.filter c.args.from on)
+    (serve c.args.view.now c.args.bound.now.filter (c.args.view.now.extents - c.loop-extent.extent) c.loop-extent.extent
+    c.loop-extent.gathered.marks.items on)
+    c.in_err-served.ensures.went (c.loop-extent.invariant.comes k on) in
+    err-always _ _ (λ error. stops)
+
+pub take-requires : goal.take-requires
+take-requires g c = record {
+  few =
+      part-merges c.args.bound.now c.args.view.now c.loop-extent.extent (g.H.Reach.known c.args.reach.now) (g.H.Reach.known c.loop-extent.reach)
+      c.loop-extent.gathered.part c.in_ok-served.served.part c.requires.scan.known c.loop-extent.invariant.went c.loop-extent.invariant.part
+      c.in_ok-served.ensures.part (let few = c.requires.scan.few in omega (arith, few));
+}
+
+pub returns-in_err-take-clause-went : goal.returns-in_err-take-clause-went
+returns-in_err-take-clause-went g c =
+    went-on (g.H.Reach.known c.args.reach.now) (g.H.Reach.known c.loop-extent.reach) (g.H.Reach.known c.served_part.new.reach)
+    c.loop-extent.invariant.went c.in_ok-served.ensures.went
+
+pub returns-in_err-take-clause-err : goal.returns-in_err-take-clause-err
+returns-in_err-take-clause-err g c =
+    let stops : (k : ℕ) (on : List Served → Plan Outcome)
+    → Stops c.args.who k (g.H.Reach.known c.args.reach.now) (serve_from c.args.view.now c.args.bound.now.filter c.args.from on)
+    (g.H.Reach.known c.served_part.new.reach) =
+    λ k on.
+    stops-went c.args.who k (g.H.Reach.known c.args.reach.now) (g.H.Reach.known c.loop-extent.reach) (g.H.Reach.known c.served_part.new.reach)
+    (serve_from c.args.view.now c.args.bound.now.filter c.args.from on)
+    (serve c.args.view.now c.args.bound.now.filter (c.args.view.now.extents - c.loop-extent.extent) c.loop-extent.extent
+    c.loop-extent.gathered.marks.items on)
+    c.in_ok-served.ensures.went (c.loop-extent.invariant.comes k on) in
+    err-always _ _ (λ error. stops)
+
+pub loop-extent-preserved : goal.loop-extent-preserved
+loop-extent-preserved g c = record {
+  went = went-on (g.H.Reach.known c.args.reach.now) (g.H.Reach.known c.loop-extent.reach) (g.H.Reach.known c.served_part.new.reach)
+      c.loop-extent.invariant.went c.in_ok-served.ensures.went;
+  part =
+      c.in_ok-take.ensures.part
+      ∙ part-next c.args.bound.now c.args.view.now c.loop-extent.extent (g.H.Reach.known c.args.reach.now) (g.H.Reach.known c.loop-extent.reach)
+      c.loop-extent.gathered.part c.in_ok-served.served.part c.requires.scan.known c.loop-extent.invariant.went c.loop-extent.invariant.part
+      c.in_ok-served.ensures.part;
+  comes = λ k on.
+      subst (λ (marks : List Served).
+      Comes c.args.who k (g.H.Reach.known c.args.reach.now) (serve_from c.args.view.now c.args.bound.now.filter c.args.from on)
+      (g.H.Reach.known c.served_part.new.reach)
+      (serve c.args.view.now c.args.bound.now.filter (c.args.view.now.extents - (c.loop-extent.extent + 1)) (c.loop-extent.extent + 1) marks on))
+      (sym (c.in_ok-take.ensures.marks ∙ ap (λ (mark : Served). c.loop-extent.gathered.marks.items ++ mark ∷ []) c.in_ok-served.ensures.mark))
+      (comes-next c.args.who k (g.H.Reach.known c.args.reach.now) (g.H.Reach.known c.loop-extent.reach) (g.H.Reach.known c.served_part.new.reach)
+      (serve_from c.args.view.now c.args.bound.now.filter c.args.from on) c.args.view.now c.args.bound.now.filter c.loop-extent.extent
+      c.loop-extent.gathered.marks.items on c.loop-extent-test.true c.in_ok-served.ensures.went (c.loop-extent.invariant.comes k on));
+}
+
+pub returns-clause-part : goal.returns-clause-part
+returns-clause-part g c =
+    let past = c.loop-extent-test.false in
+    let end = c.loop-extent.auto.extent-end c.requires.from in
+    part-all c.args.who c.args.cursor c.loop-extent.extent c.args.bound.now c.args.view.now (g.H.Reach.known c.args.reach.now) c.loop-extent.gathered.part
+    c.requires.scan (omega (arith, past, end)) c.loop-extent.invariant.part
+
+pub returns-clause-marks : goal.returns-clause-marks
+returns-clause-marks g c = λ k on.
+    comes-last c.args.who k (g.H.Reach.known c.args.reach.now) (g.H.Reach.known c.loop-extent.reach)
+    (serve_from c.args.view.now c.args.bound.now.filter c.args.from on) c.args.view.now c.args.bound.now.filter c.loop-extent.extent
+    c.loop-extent.gathered.marks.items on c.loop-extent-test.false (c.loop-extent.invariant.comes k on)
