@@ -1,3 +1,4 @@
+mod AssignLemmas
 mod DefinitionLemmas
 mod OpeningLemmas
 mod OtherLemmas
@@ -5,3 +6,5 @@ mod RestLemmas
 mod ScanLemmas
 mod ServingLemmas
 mod TableLemmas
+mod WriteLemmas
+mod WritingLemmas

@@ -105,7 +105,7 @@ snapshot-under h mode.ReadOnly None = omega arith
 snapshot-under h mode.ReadOnly (Some place) = earlier h place
 
 -- a statement reads at an SCN that there was
-snapshot-known : (h : History) (who : ℕ) → snapshot h who ≤ scn h
+pub snapshot-known : (h : History) (who : ℕ) → snapshot h who ≤ scn h
 snapshot-known h who = snapshot-under h (mode_of h who) (begun h who)
 
 module _ (who cursor table : ℕ) (old middle : Known) (at : History) (view : View) (after : After (AreOthers old.side) old.log at)

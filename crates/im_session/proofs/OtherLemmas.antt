@@ -6,8 +6,9 @@ use Rattle.std.proofs.lemmas.List.Elements.{All-nil, All-head, All-tail, All-wea
 use Rattle.im_history.specs.declared.entry.Entry.{Entry}
 use Rattle.im_history.specs.Cursors.{opened, opened_after, is_cursor, is_cursor_open}
 use Rattle.im_history.specs.History.{History}
-use Rattle.im_history.specs.Transactions.{begun, begun_after}
-use Rattle.im_history.proofs.Laws.{begun-push, opened-push}
+use Rattle.im_history.specs.Transactions.{begun, begun_after, pending}
+use Rattle.im_history.specs.Transactions as transactions
+use Rattle.im_history.proofs.Laws.{begun-push, opened-push, pending-push}
 use Rattle.im_plan.specs.Goes.{After, Others}
 use Rattle.im_reach.specs.Sides.{AreOthers, Found, Known, StoreSide, speaks}
 
@@ -76,3 +77,12 @@ begun-after side who =
     (λ h entry other.
     begun-push h entry who
     ∙ ap (λ (b : Bool). if b then begun_after (length h) (begun h who) entry.what else begun h who) other) side
+
+-- and what it has pending
+pub pending-after : (side : StoreSide) (who : ℕ) (old at : History) → speaks side who ≡ true → After (AreOthers side) old at
+    → pending at who ≡ pending old who
+pending-after side who =
+    stays-after (λ h. pending h who) who
+    (λ h entry other.
+    pending-push h entry who
+    ∙ ap (λ (b : Bool). if b then transactions.pending_after (pending h who) entry.what else pending h who) other) side

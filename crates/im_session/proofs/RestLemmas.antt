@@ -103,6 +103,25 @@ rest-went who k old middle new plan outcome went rest = record {
     later : IsRest who k (record old { log = middle.log }) plan outcome new
     later = subst (λ (s : Known). IsRest who k s plan outcome new) went.now rest
 
+and-false : (b : Bool) → (b && false) ≡ false
+and-false true = refl
+and-false false = refl
+
+-- a turn whose entry was refused
+pub rest-nothing : (who k : ℕ) (old middle new : Known) (decides : Bool) (adds : History → Option What) (P : History → Type 0)
+    (on : History → Plan Outcome) (outcome : Outcome) → (found : Found old middle P) → adds found.at ≡ None
+    → IsRest who k middle (on found.at) outcome new → IsRest who k old (Turn decides adds on) outcome new
+rest-nothing who k old middle new decides adds P on outcome found none rest = record {
+  kept = later.kept;
+  rest = rest-turn (Mine old.side) (others-go_on (speaks old.side)) who (amends who) k old.log found.at decides adds on outcome new.log
+      (others-of old.side old.log found.at found.after) (ap (λ (o : Option What). decides && is_some o) none ∙ and-false decides)
+      (subst (λ (o : Option What). Rest (Mine old.side) who (amends who) (counted o k) (found.at ++ made who o) (on found.at) outcome new.log) (sym none)
+      (subst (λ (log : History). Rest (Mine old.side) who (amends who) k log (on found.at) outcome new.log) (sym (append-nil found.at)) later.rest));
+}
+  where
+    later : IsRest who k (record old { log = found.at }) (on found.at) outcome new
+    later = subst (λ (s : Known). IsRest who k s (on found.at) outcome new) found.now rest
+
 -- what is known of a line's call that added an entry, and of what is left behind it
 pub record Onward (who : ℕ) (old middle : Known) (entry : History → What) (P : History → Type 0) (at : History) : Type 0 where
   pub after : After (AreOthers old.side) old.log at

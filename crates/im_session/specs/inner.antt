@@ -1,3 +1,4 @@
 pub mod Definitions
 pub mod Rests
 pub mod Scans
+pub mod Writes

@@ -10,14 +10,17 @@
 //! Start with `transaction.rt`, whose statements make one call each.
 #![tactic(auto)]
 
+mod changes;
 mod definition;
 mod inserts;
 mod query;
 mod refusals;
+mod rewriting;
 mod serving;
 mod transaction;
 
 pub use definition::{NewTable, alter, create};
 pub use inserts::insert;
 pub use query::{explain, select};
+pub use rewriting::rewrite;
 pub use transaction::{commit, roll_back, set_mode};

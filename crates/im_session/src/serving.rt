@@ -134,9 +134,9 @@ pub fn served_part<R: Wait, H: Reach<ColumnUnit>, L: Ledger>(
 
 /// What a scan has been served so far: the marks in the order of serving, and the parts of all extents, merged.
 #[derive(Drop)]
-struct Gathered {
-    marks: Vec<Served>,
-    part: Partial,
+pub struct Gathered {
+    pub marks: Vec<Served>,
+    pub part: Partial,
 }
 
 impl Gathered {
@@ -153,7 +153,7 @@ impl Gathered {
 }
 
 /// Serves a scan with an open cursor all extents from one on, behind what those before it gave.
-fn gather<R: Wait, H: Reach<ColumnUnit>, L: Ledger>(
+pub fn gather<R: Wait, H: Reach<ColumnUnit>, L: Ledger>(
     alloc: Global,
     rt: &R,
     reach: &mut H,
