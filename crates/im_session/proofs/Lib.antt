@@ -1,5 +1,6 @@
 mod AssignLemmas
 mod DefinitionLemmas
+mod NameLemmas
 mod OpeningLemmas
 mod OtherLemmas
 mod RestLemmas

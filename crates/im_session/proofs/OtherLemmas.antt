@@ -1,12 +1,12 @@
 -- What others leave as it is: the cursors and the transaction of each number that a side speaks for.
-use Rattle.std.proofs.Common.{◌≡◌, ℕ, ◌==◌, Bool, true, false, if◌then◌else◌, [], ◌∷◌, ◌++◌, length, All, refl, sym, ap, ◌∙◌, arith, append-nil, append_assoc}
+use Rattle.std.proofs.Common.{◌≡◌, ℕ, ◌==◌, Bool, true, false, if◌then◌else◌, [], ◌∷◌, ◌++◌, length, is_some, All, refl, sym, ap, ◌∙◌, arith, append-nil, append_assoc}
 use Rattle.std.specs.List.{list_any}
 use Rattle.std.proofs.lemmas.Bool.Decides.{nat_tests}
 use Rattle.std.proofs.lemmas.List.Elements.{All-nil, All-head, All-tail, All-weaker}
 use Rattle.im_history.specs.declared.entry.Entry.{Entry}
 use Rattle.im_history.specs.Cursors.{opened, opened_after, is_cursor, is_cursor_open}
 use Rattle.im_history.specs.History.{History}
-use Rattle.im_history.specs.Transactions.{begun, begun_after, pending}
+use Rattle.im_history.specs.Transactions.{begun, begun_after, is_open, pending}
 use Rattle.im_history.specs.Transactions as transactions
 use Rattle.im_history.proofs.Laws.{begun-push, opened-push, pending-push}
 use Rattle.im_plan.specs.Goes.{After, Others}
@@ -86,3 +86,9 @@ pending-after side who =
     (λ h entry other.
     pending-push h entry who
     ∙ ap (λ (b : Bool). if b then transactions.pending_after (pending h who) entry.what else pending h who) other) side
+
+-- a session with no transaction open has none once others went on
+pub idle-found : (who : ℕ) (old new : Known) (P : History → Type 0) {b : Bool} → speaks old.side who ≡ true → Found old new P
+    → is_open old.log who ≡ b → is_open new.log who ≡ b
+idle-found who old new P mine found is =
+    ap (λ (s : Known). is_open s.log who) found.now ∙ (ap is_some (begun-after old.side who old.log found.at mine found.after) ∙ is)

@@ -1,4 +1,5 @@
 pub mod Definitions
+pub mod Names
 pub mod Rests
 pub mod Scans
 pub mod Writes

@@ -17,10 +17,12 @@ mod query;
 mod refusals;
 mod rewriting;
 mod serving;
+mod statement;
 mod transaction;
 
 pub use definition::{NewTable, alter, create};
 pub use inserts::insert;
 pub use query::{explain, select};
 pub use rewriting::rewrite;
+pub use statement::define;
 pub use transaction::{commit, roll_back, set_mode};

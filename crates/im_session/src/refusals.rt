@@ -39,3 +39,13 @@ pub fn creation_refused(alloc: Global, name: Name, k: u64, refused: Refused) -> 
         ),
     }
 }
+
+/// The reply of a line whose names had a fault, at this place, once the line had made so many entries.
+pub fn name_reply(alloc: Global, k: u64, place: u64, fault: NameFault) -> Reply
+    ensures { result ≡ name_reply k place fault }
+{
+    match fault {
+        NameFault::NoMemory => out_of_memory(alloc, k),
+        fault => Reply::settled(alloc, place, Body::Error(Fault::from(fault))),
+    }
+}

@@ -1,0 +1,165 @@
+ghost use Rattle.std.specs.Prelude.{◌≡◌, ◌<◌, ◌≤◌, true, false};
+ghost use Rattle.im_history.specs.Cursors.{is_cursor_open};
+ghost use Rattle.im_history.specs.Tables.{tables};
+ghost use Rattle.im_history.specs.Transactions.{is_open};
+ghost use Rattle.im_history.specs.Views.{look_at};
+ghost use Rattle.im_names.specs.Fitting.{Serves};
+ghost use Rattle.im_reach.specs.Sides.{speaks};
+ghost use Rattle.im_session.specs.inner.Names.{defines};
+ghost use Rattle.im_session.specs.inner.Rests.{IsRest};
+ghost use Rattle.im_statements.specs.Outcomes.{State, said};
+ghost use Rattle.im_statements.specs.Statements as plan;
+ghost use Rattle.im_syntax.specs.Rules.{IsStmt};
+
+use crate::definition::{NewTable, alter, create};
+use crate::refusals::{name_reply, out_of_memory};
+use im_history::Look;
+use im_names::{Resolved, resolve};
+use im_reach::Reach;
+use im_replies::Reply;
+use im_syntax::Stmt;
+use im_unit::ColumnUnit;
+use im_values::limits::NUMBERS;
+use std::alloc::Global;
+use std::sync::Wait;
+
+/// CREATE TABLE and ALTER TABLE: an open transaction of the session is committed first, whether or not the statement is then
+/// refused, and its names are looked up behind that.
+pub fn define<R: Wait, H: Reach<ColumnUnit>>(
+    alloc: Global,
+    rt: &R,
+    reach: &mut H,
+    who: u32,
+    statement: &Stmt,
+) -> Reply
+    requires session { who < NUMBERS }
+    requires speaks { speaks (H.known reach.old).side who ≡ true }
+    requires shut { is_cursor_open (H.known reach.old).log who 0 ≡ false }
+    requires statement { IsStmt statement.now }
+    requires definition { plan.is_definition statement.now ≡ true }
+    ensures { (state : State) → IsRest who 0 (H.known reach.old) (plan.definition_plan (H.known reach.old).limits who state statement.now)
+        (said result) (H.known reach.new) }
+{
+    let Ok(look) = reach.look(rt, who) else {
+        return out_of_memory(alloc, 0);
+    };
+    if look.begun.is_none() {
+        return define_named(alloc, rt, reach, who, statement, &look, 0);
+    }
+    match reach.commit(rt, who) {
+        Ok(_) => define_later(alloc, rt, reach, who, statement),
+        Err(_) => out_of_memory(alloc, 0),
+    }
+}
+
+/// Plays a definition once the line has committed.
+fn define_later<R: Wait, H: Reach<ColumnUnit>>(
+    alloc: Global,
+    rt: &R,
+    reach: &mut H,
+    who: u32,
+    statement: &Stmt,
+) -> Reply
+    requires session { who < NUMBERS }
+    requires speaks { speaks (H.known reach.old).side who ≡ true }
+    requires shut { is_cursor_open (H.known reach.old).log who 0 ≡ false }
+    requires idle { is_open (H.known reach.old).log who ≡ false }
+    requires statement { IsStmt statement.now }
+    requires definition { plan.is_definition statement.now ≡ true }
+    ensures { (state : State) → IsRest who 1 (H.known reach.old) (plan.looked_up (H.known reach.old).limits who state statement.now)
+        (said result) (H.known reach.new) }
+{
+    match reach.look(rt, who) {
+        Ok(look) => define_named(alloc, rt, reach, who, statement, &look, 1),
+        Err(_) => out_of_memory(alloc, 1),
+    }
+}
+
+/// Plays a definition whose names are looked up at this look, once the line has made so many entries.
+fn define_named<R: Wait, H: Reach<ColumnUnit>>(
+    alloc: Global,
+    rt: &R,
+    reach: &mut H,
+    who: u32,
+    statement: &Stmt,
+    look: &Look,
+    entries: u64,
+) -> Reply
+    requires session { who < NUMBERS }
+    requires speaks { speaks (H.known reach.old).side who ≡ true }
+    requires shut { is_cursor_open (H.known reach.old).log who 0 ≡ false }
+    requires idle { is_open (H.known reach.old).log who ≡ false }
+    requires statement { IsStmt statement.now }
+    requires definition { plan.is_definition statement.now ≡ true }
+    requires look { look.now ≡ look_at (H.known reach.old).log who }
+    requires few { entries ≤ 1 }
+    ensures { (state : State) → IsRest who entries (H.known reach.old)
+        (plan.named_plan (H.known reach.old).limits who state statement.now (H.known reach.old).log) (said result) (H.known reach.new) }
+{
+    match resolve(alloc, statement, look) {
+        Ok(resolved) => define_resolved(alloc, rt, reach, who, resolved, entries),
+        Err(fault) => name_reply(alloc, entries, look.place, fault),
+    }
+}
+
+/// Plays a definition whose names are found, once the line has made so many entries.
+fn define_resolved<R: Wait, H: Reach<ColumnUnit>>(
+    alloc: Global,
+    rt: &R,
+    reach: &mut H,
+    who: u32,
+    resolved: Resolved,
+    entries: u64,
+) -> Reply
+    requires session { who < NUMBERS }
+    requires speaks { speaks (H.known reach.old).side who ≡ true }
+    requires shut { is_cursor_open (H.known reach.old).log who 0 ≡ false }
+    requires idle { is_open (H.known reach.old).log who ≡ false }
+    requires definition { defines resolved ≡ true }
+    requires serves { Serves (tables (H.known reach.old).log) resolved }
+    requires few { entries ≤ 1 }
+    ensures { (state : State) → IsRest who entries (H.known reach.old)
+        (plan.resolved_plan (H.known reach.old).limits who state (H.known reach.old).log resolved) (said result) (H.known reach.new) }
+{
+    match resolved {
+        Resolved::Create {
+            name,
+            schema,
+            shape,
+            memory,
+        } => create(
+            alloc,
+            rt,
+            reach,
+            who,
+            NewTable {
+                name,
+                schema,
+                shape,
+                memory,
+            },
+            entries,
+        ),
+        Resolved::Memory { table, priority } => {
+            alter(alloc, rt, reach, who, table, priority, entries)
+        }
+        Resolved::Select(_)
+        | Resolved::Explain(_)
+        | Resolved::Insert { .. }
+        | Resolved::Update { .. }
+        | Resolved::Delete { .. }
+        | Resolved::SetMode(_)
+        | Resolved::Commit
+        | Resolved::Rollback
+        | Resolved::OpenFor { .. }
+        | Resolved::Step(_)
+        | Resolved::Fetch(_)
+        | Resolved::Close(_)
+        | Resolved::Run
+        | Resolved::Begin
+        | Resolved::Switch
+        | Resolved::Cancel
+        | Resolved::Trickle(_)
+        | Resolved::Evict { .. } => unreachable!(),
+    }
+}
