@@ -1,4 +1,5 @@
 mod AssignLemmas
+mod CursorLemmas
 mod DefinitionLemmas
 mod NameLemmas
 mod OpeningLemmas

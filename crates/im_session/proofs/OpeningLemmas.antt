@@ -87,7 +87,7 @@ opened-opening at who cursor table =
 
 -- ---- its view
 
-present-same : (f g : ℕ → Option Row) (first count : ℕ) → ((rid : ℕ) → f rid ≡ g rid) → present f first count ≡ present g first count
+pub present-same : (f g : ℕ → Option Row) (first count : ℕ) → ((rid : ℕ) → f rid ≡ g rid) → present f first count ≡ present g first count
 present-same f g first zero same = refl
 present-same f g first (suc count) same =
     ap (λ (o : Option Row). cons_option (option_map (λ row. (first, row)) o) (present f (first + 1) count)) (same first)

@@ -1,3 +1,4 @@
+pub mod Cursors
 pub mod Definitions
 pub mod Names
 pub mod Rests

@@ -11,6 +11,7 @@
 #![tactic(auto)]
 
 mod changes;
+mod cursor;
 mod definition;
 mod inserts;
 mod query;
@@ -20,6 +21,7 @@ mod serving;
 mod statement;
 mod transaction;
 
+pub use cursor::{Cursor, Fetching, Opening, close, fetch, open_query};
 pub use definition::{NewTable, alter, create};
 pub use inserts::insert;
 pub use query::{explain, select};

@@ -49,3 +49,17 @@ pub fn name_reply(alloc: Global, k: u64, place: u64, fault: NameFault) -> Reply
         fault => Reply::settled(alloc, place, Body::Error(Fault::from(fault))),
     }
 }
+
+/// The reply of a line that was to open this cursor, and was refused once it had made so many entries.
+pub fn opening_refused(alloc: Global, cursor: u32, k: u64, refused: Refused) -> Reply
+    ensures { result ≡ turns.refused_reply (causes.opening_fault cursor) k refused.place refused.why }
+{
+    match refused.why {
+        Why::NoMemory => out_of_memory(alloc, k),
+        cause => Reply::settled(
+            alloc,
+            refused.place,
+            Body::Error(Fault::of_opening(cursor, cause)),
+        ),
+    }
+}

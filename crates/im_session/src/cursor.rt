@@ -1,0 +1,191 @@
+ghost use Rattle.std.specs.Prelude.{◌≡◌, ◌<◌, Some, true, false};
+ghost use Rattle.std.specs.Option.{ForSome};
+ghost use Rattle.im_history.specs.Cursors.{is_cursor_open};
+ghost use Rattle.im_history.specs.Tables.{tables};
+ghost use Rattle.im_history.specs.Views.{look_at};
+ghost use Rattle.im_names.specs.Fitting.{OfTable, QueryServes};
+ghost use Rattle.im_reach.specs.Sides.{speaks};
+ghost use Rattle.im_session.specs.inner.Cursors as inner;
+ghost use Rattle.im_session.specs.inner.Rests.{IsRest};
+ghost use Rattle.im_statements.specs.Cursors as plan;
+ghost use Rattle.im_statements.specs.Outcomes.{Closes, Replied, State, query_at};
+
+use crate::refusals::{opening_refused, out_of_memory};
+use crate::serving::answer_scan;
+use im_group::Partial;
+use im_history::{Look, View};
+use im_reach::Reach;
+use im_replies::{Body, Reply};
+use im_syntax::Bound;
+use im_unit::ColumnUnit;
+use im_values::Steps;
+use im_values::limits::NUMBERS;
+use std::alloc::Global;
+use std::sync::Wait;
+use std::sync::ledger::Ledger;
+
+/// A cursor that a session has open.
+#[derive(Drop)]
+pub struct Cursor {
+    /// Its number, from 1 on.
+    pub number: u32,
+    /// Its query.
+    pub bound: Bound,
+    /// What it sees.
+    pub view: View,
+    /// The next extent that a step serves.
+    pub next: u64,
+    /// What the extents before that one give to the query.
+    pub part: Partial,
+}
+
+/// What comes of an OPEN.
+#[derive(Drop)]
+pub struct Opening {
+    pub reply: Reply,
+    /// None where it was refused.
+    pub cursor: Option<Cursor>,
+}
+
+/// OPEN: opens a cursor for a query.
+pub fn open_query<R: Wait, H: Reach<ColumnUnit>>(
+    alloc: Global,
+    rt: &R,
+    reach: &mut H,
+    who: u32,
+    cursor: u32,
+    bound: Bound,
+) -> Opening
+    requires session { who < NUMBERS }
+    requires speaks { speaks (H.known reach.old).side who ≡ true }
+    requires shut { is_cursor_open (H.known reach.old).log who 0 ≡ false }
+    requires serves { OfTable (tables (H.known reach.old).log) bound.table (QueryServes bound) }
+    ensures rest { IsRest who 0 (H.known reach.old) (plan.open_query who cursor bound)
+        (inner.opening_outcome result.reply result.cursor) (H.known reach.new) }
+    ensures agrees { ForSome result.cursor (λ kept. inner.Agrees who kept (H.known reach.new)) }
+{
+    let Ok(part) = Partial::of_lent(alloc, &bound, &[]) else {
+        return Opening {
+            reply: out_of_memory(alloc, 0),
+            cursor: None,
+        };
+    };
+    match reach.open_cursor(rt, who, cursor, bound.table) {
+        Ok(view) => Opening {
+            reply: Reply::settled(
+                alloc,
+                view.place,
+                Body::Opened {
+                    cursor,
+                    scn: view.scn,
+                    extents: view.extents,
+                },
+            ),
+            cursor: Some(Cursor {
+                number: cursor,
+                bound,
+                view,
+                next: 0,
+                part,
+            }),
+        },
+        Err(refused) => Opening {
+            reply: opening_refused(alloc, cursor, 0, refused),
+            cursor: None,
+        },
+    }
+}
+
+/// CLOSE: closes a cursor that is open.
+pub fn close<R: Wait, H: Reach<ColumnUnit>>(
+    alloc: Global,
+    rt: &R,
+    reach: &mut H,
+    who: u32,
+    kept: &Cursor,
+) -> Reply
+    requires session { who < NUMBERS }
+    requires speaks { speaks (H.known reach.old).side who ≡ true }
+    requires agrees { inner.Agrees who kept.now (H.known reach.old) }
+    ensures { (state : State) → query_at state kept.now.number ≡ Some (inner.query_of kept.now) →
+        IsRest who 0 (H.known reach.old) (plan.close state who (H.known reach.old).log kept.now.number)
+        (Replied result (Closes kept.now.number)) (H.known reach.new) }
+{
+    let place = reach.shut(rt, who, kept.number);
+    Reply::settled(
+        alloc,
+        place,
+        Body::Closed {
+            cursor: kept.number,
+        },
+    )
+}
+
+/// What comes of a FETCH.
+#[derive(Drop)]
+pub struct Fetching {
+    pub reply: Reply,
+    /// Whether the cursor was closed. It stays open where memory was out.
+    pub closed: bool,
+}
+
+/// FETCH: answers the query of an open cursor over all rows that it sees, whatever steps served before, and closes it. The
+/// answer was settled at this look.
+pub fn fetch<R: Wait, H: Reach<ColumnUnit>, L: Ledger>(
+    alloc: Global,
+    rt: &R,
+    reach: &mut H,
+    who: u32,
+    look: &Look,
+    kept: &Cursor,
+    steps: &mut Steps<L>,
+) -> Fetching
+    requires session { who < NUMBERS }
+    requires speaks { speaks (H.known reach.old).side who ≡ true }
+    requires shut { is_cursor_open (H.known reach.old).log who 0 ≡ false }
+    requires look { look.now ≡ look_at (H.known reach.old).log who }
+    requires agrees { inner.Agrees who kept.now (H.known reach.old) }
+    ensures rest { (state : State) → query_at state kept.now.number ≡ Some (inner.query_of kept.now) →
+        IsRest who 0 (H.known reach.old) (plan.fetch state who (H.known reach.old).log kept.now.number)
+        (inner.fetch_outcome kept.now.number result.reply result.closed) (H.known reach.new) }
+    ensures agrees { result.closed ≡ false → inner.Agrees who kept.now (H.known reach.new) }
+{
+    let Ok(before) = kept.part.copy(alloc) else {
+        return Fetching {
+            reply: out_of_memory(alloc, 0),
+            closed: false,
+        };
+    };
+    let (view, bound) = (&kept.view, &kept.bound);
+    match answer_scan(
+        alloc,
+        rt,
+        reach,
+        who,
+        kept.number,
+        view,
+        kept.next,
+        before,
+        bound,
+        steps,
+    ) {
+        Ok(answered) => {
+            reach.shut(rt, who, kept.number);
+            Fetching {
+                reply: Reply {
+                    place: Some(look.place),
+                    marks: answered.marks,
+                    body: Body::Answer {
+                        scn: kept.view.scn,
+                        records: answered.records,
+                    },
+                },
+                closed: true,
+            }
+        }
+        Err(_) => Fetching {
+            reply: out_of_memory(alloc, 0),
+            closed: false,
+        },
+    }
+}
