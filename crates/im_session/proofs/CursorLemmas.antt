@@ -1,27 +1,36 @@
 -- Lines over cursors that a session keeps.
-use Rattle.std.proofs.Common.{◌≡◌, ℕ, ◌+◌, ◌*◌, ◌≤◌, min, true, [], Option, Some, refl, sym, ap, ◌∙◌, subst, arith}
-use Rattle.im_group.specs.Partials.{Parts, partial}
+use Rattle.std.proofs.Common.{◌≡◌, ℕ, ◌+◌, ◌*◌, ◌<◌, ◌≤◌, min, Bool, true, false, if◌then◌else◌, [], length, Option, Some, refl, sym, ap, ◌∙◌, subst, arith}
+use Rattle.std.specs.Prelude.{nat_lt}
+use Rattle.std.proofs.lemmas.Bool.Decides.{nat_tests}
+use Rattle.im_group.specs.Partials.{CanMerge, Parts, merged, partial}
 use Rattle.im_history.specs.declared.entry.What.TheVariants.{Open}
 use Rattle.im_history.specs.declared.view.View.{View}
 use Rattle.im_history.specs.Commits.{scn}
-use Rattle.im_history.specs.Cursors.{Opened, cursor_at}
+use Rattle.im_history.specs.Cursors.{Opened, cursor_at, is_cursor_open}
 use Rattle.im_history.specs.History.{History}
 use Rattle.im_history.specs.Legal.{IsLawful}
 use Rattle.im_names.specs.Fitting.{OfTable, QueryServes}
 use Rattle.im_history.specs.Tables.{tables}
 use Rattle.im_history.specs.Views.{seen_by}
-use Rattle.im_plan.specs.Plan.{Plan}
+use Rattle.im_plan.specs.Plan.{End, Plan}
 use Rattle.im_reach.specs.Sides.{Added, Known, speaks}
-use Rattle.im_scan.specs.Pinned.{seen_to}
-use Rattle.im_scan.proofs.ForCallers.{seen_by-later, seen_to-none}
+use Rattle.im_scan.specs.Pinned.{seen_in, seen_to}
+use Rattle.im_scan.proofs.ForCallers.{can-merge-seen, merged-seen, seen_by-later, seen_to-none}
 use Rattle.im_session.specs.declared.cursor.Cursor.{Cursor}
-use Rattle.im_session.specs.inner.Cursors.{Agrees, query_of}
+use Rattle.im_session.specs.inner.Cursors.{Agrees, cursor_after, query_of, served_reply_of, step_outcome}
+use Rattle.im_session.specs.inner.Rests.{IsRest}
+use Rattle.im_session.proofs.RestLemmas.{rest-end, rest-lacks, rest-look}
 use Rattle.im_session.specs.inner.Scans.{Went}
 use Rattle.im_session.proofs.OpeningLemmas.{HasOpened, added-asks, added-scan, present-same}
-use Rattle.im_session.proofs.ScanLemmas.{asks-went, scan-went}
+use Rattle.im_session.proofs.ScanLemmas.{asks-went, found-went, scan-went}
 use Rattle.im_session.proofs.TableLemmas.{exists-of}
-use Rattle.im_statements.specs.Cursors.{over, over_cursor}
-use Rattle.im_statements.specs.Outcomes.{Outcome, Query, State, query_at}
+use Rattle.im_replies.specs.declared.body.Body.TheVariants.{End as AtEnd}
+use Rattle.im_replies.specs.declared.reply.Reply.{Reply}
+use Rattle.im_replies.specs.declared.served.Served.{Served}
+use Rattle.im_statements.specs.Cursors.{over, over_cursor, step, step_reply}
+use Rattle.im_statements.specs.Scans.{mark_at}
+use Rattle.im_statements.specs.Turns.{answer_at, look}
+use Rattle.im_statements.specs.Outcomes.{Outcome, Query, Replied, State, Steps, query_at, said}
 use Rattle.im_values.specs.declared.limits.TheConstants.{MOST_ROWS}
 
 -- what a line does over a cursor that is kept
@@ -65,3 +74,63 @@ agrees-went who kept old new mine went agrees = record {
   next = agrees.next;
   part = agrees.part ∙ ap (partial kept.bound) (sym (seen_to-went old new kept.view kept.next agrees.scan.known went));
 }
+
+-- a cursor that took the part of its next extent agrees
+pub agrees-served : (who : ℕ) (kept : Cursor) (part : Parts) (old new : Known) → speaks old.side who ≡ true → Went old new → Agrees who kept old
+    → kept.next < kept.view.extents → part ≡ partial kept.bound (seen_in old.log kept.view kept.next)
+    → Agrees who (record kept { next = kept.next + 1; part = merged kept.part part }) new
+agrees-served who kept part old new mine went agrees more part_is =
+    agrees-went who (record kept { next = kept.next + 1; part = merged kept.part part }) old new mine went
+    (record {
+      scan = agrees.scan;
+      asks = agrees.asks;
+      query = agrees.query;
+      next = omega (arith, more);
+      part = merged-seen kept.bound old.log kept.view kept.next kept.part part agrees.part part_is;
+    })
+
+-- and if it may have taken it, or not
+pub agrees-after : (who : ℕ) (served : Bool) (kept after : Cursor) (part : Parts) (old new : Known) → speaks old.side who ≡ true → Went old new
+    → Agrees who kept old → kept.next < kept.view.extents → part ≡ partial kept.bound (seen_in old.log kept.view kept.next)
+    → after ≡ cursor_after served kept part → Agrees who after new
+agrees-after who true kept after part old new mine went agrees more part_is is =
+    subst (λ (k : Cursor). Agrees who k new) (sym is) (agrees-served who kept part old new mine went agrees more part_is)
+agrees-after who false kept after part old new mine went agrees more part_is is =
+    subst (λ (k : Cursor). Agrees who k new) (sym is) (agrees-went who kept old new mine went agrees)
+
+-- they may be merged
+pub agrees-merges : (who : ℕ) (kept : Cursor) (part : Parts) (old : Known) → Agrees who kept old
+    → part ≡ partial kept.bound (seen_in old.log kept.view kept.next) → CanMerge kept.part part
+agrees-merges who kept part old agrees part_is =
+    can-merge-seen kept.bound old.log kept.view kept.next kept.part part (let few = agrees.scan.few in omega (arith, few)) agrees.part part_is
+
+-- what a STEP does where an extent is left, and where none is
+abbrev pub step_at : ℕ → History → Query → View → Plan Outcome
+step_at cursor at query view =
+    if nat_lt query.next view.extents
+    then look (λ here. End (Replied (step_reply (mark_at here view query.bound.filter query.next)) (Steps cursor)))
+    else answer_at at (AtEnd cursor)
+
+less : (n m : ℕ) → n < m → nat_lt n m ≡ true
+less n m within = grind (arith, nat_tests)
+
+-- one was served, or memory ran out
+pub step-serves : (who : ℕ) (served : Bool) (kept : Cursor) (mark : Served) (old new : Known) (state : State) (reply : Reply)
+    → speaks old.side who ≡ true → is_cursor_open old.log who 0 ≡ false → Went old new → Agrees who kept old
+    → query_at state kept.number ≡ Some (query_of kept) → kept.next < kept.view.extents
+    → mark ≡ mark_at new.log kept.view kept.bound.filter kept.next → reply ≡ served_reply_of served mark
+    → IsRest who 0 old (step state who old.log kept.number) (step_outcome kept.number reply served) new
+step-serves who true kept mark old new state reply mine shut went agrees is more mark_is reply_is =
+    subst (λ (p : Plan Outcome). IsRest who 0 old p (Replied reply (Steps kept.number)) new)
+    (sym (over-kept state who kept old (step_at kept.number old.log) agrees is))
+    (rw (less kept.next kept.view.extents more)
+    (rest-look who 0 old new new (λ at. at ≡ new.log)
+    (λ here. End (Replied (step_reply (mark_at here kept.view kept.bound.filter kept.next)) (Steps kept.number)))
+    (Replied reply (Steps kept.number)) (found-went old new went)
+    (rest-end who 0 new (End (Replied (step_reply (mark_at new.log kept.view kept.bound.filter kept.next)) (Steps kept.number)))
+    (Replied reply (Steps kept.number))
+    (ap (λ (m : Served). End (Replied (step_reply m) (Steps kept.number))) (sym mark_is)
+    ∙ ap (λ (r : Reply). End (Replied r (Steps kept.number))) (sym reply_is)))))
+step-serves who false kept mark old new state reply mine shut went agrees is more mark_is reply_is =
+    subst (λ (r : Reply). IsRest who 0 old (step state who old.log kept.number) (said r) new) (sym reply_is)
+    (rest-lacks who 0 old new (λ at. at ≡ new.log) (step state who old.log kept.number) mine shut (found-went old new went))

@@ -1,5 +1,6 @@
-ghost use Rattle.std.specs.Prelude.{◌≡◌, ◌<◌, Some, true, false};
+ghost use Rattle.std.specs.Prelude.{◌≡◌, ◌<◌, ◌+◌, [], ◌∷◌, Some, true, false, IfOk};
 ghost use Rattle.std.specs.Option.{ForSome};
+ghost use Rattle.im_group.specs.Partials.{CanMerge};
 ghost use Rattle.im_history.specs.Cursors.{is_cursor_open};
 ghost use Rattle.im_history.specs.Tables.{tables};
 ghost use Rattle.im_history.specs.Views.{look_at};
@@ -11,15 +12,15 @@ ghost use Rattle.im_statements.specs.Cursors as plan;
 ghost use Rattle.im_statements.specs.Outcomes.{Closes, Replied, State, query_at};
 
 use crate::refusals::{opening_refused, out_of_memory};
-use crate::serving::answer_scan;
+use crate::serving::{ServedPart, answer_scan, served_part};
 use im_group::Partial;
 use im_history::{Look, View};
 use im_reach::Reach;
-use im_replies::{Body, Reply};
+use im_replies::{Body, Reply, Served};
 use im_syntax::Bound;
 use im_unit::ColumnUnit;
-use im_values::Steps;
 use im_values::limits::NUMBERS;
+use im_values::{List, NoMemory, Steps};
 use std::alloc::Global;
 use std::sync::Wait;
 use std::sync::ledger::Ledger;
@@ -188,4 +189,110 @@ pub fn fetch<R: Wait, H: Reach<ColumnUnit>, L: Ledger>(
             closed: false,
         },
     }
+}
+
+/// What comes of a STEP.
+#[derive(Drop)]
+pub struct Stepping {
+    pub reply: Reply,
+    /// Whether an extent was served. Where memory was out none was, and the cursor is as before.
+    pub served: bool,
+}
+
+/// STEP: serves an open cursor its next extent, unless none was left at this look.
+pub fn step<R: Wait, H: Reach<ColumnUnit>, L: Ledger>(
+    alloc: Global,
+    rt: &R,
+    reach: &mut H,
+    who: u32,
+    look: &Look,
+    kept: &mut Cursor,
+    steps: &mut Steps<L>,
+) -> Stepping
+    requires session { who < NUMBERS }
+    requires speaks { speaks (H.known reach.old).side who ≡ true }
+    requires shut { is_cursor_open (H.known reach.old).log who 0 ≡ false }
+    requires look { look.now ≡ look_at (H.known reach.old).log who }
+    requires agrees { inner.Agrees who kept.old (H.known reach.old) }
+    ensures rest { (state : State) → query_at state kept.old.number ≡ Some (inner.query_of kept.old) →
+        IsRest who 0 (H.known reach.old) (plan.step state who (H.known reach.old).log kept.old.number)
+        (inner.step_outcome kept.old.number result.reply result.served) (H.known reach.new) }
+    ensures kept { inner.query_of kept.new ≡ inner.query_after result.served (inner.query_of kept.old) }
+    ensures agrees { inner.Agrees who kept.new (H.known reach.new) }
+{
+    if kept.next >= kept.view.extents {
+        return Stepping {
+            reply: Reply::settled(
+                alloc,
+                look.place,
+                Body::End {
+                    cursor: kept.number,
+                },
+            ),
+            served: false,
+        };
+    }
+    let (number, next) = (kept.number, kept.next);
+    match served_part(
+        alloc,
+        rt,
+        reach,
+        who,
+        number,
+        &kept.view,
+        next,
+        &kept.bound,
+        steps,
+    ) {
+        Ok(served) => take(alloc, kept, served, next + 1),
+        Err(_) => Stepping {
+            reply: out_of_memory(alloc, 0),
+            served: false,
+        },
+    }
+}
+
+/// Takes the part of the next extent of a cursor. Behind it comes this one.
+fn take(alloc: Global, kept: &mut Cursor, served: ServedPart, behind: u64) -> Stepping
+    requires few { CanMerge kept.old.part served.part }
+    requires behind { behind ≡ kept.old.next + 1 }
+    ensures reply { result.reply ≡ inner.served_reply_of result.served served.mark }
+    ensures kept { kept.new ≡ inner.cursor_after result.served kept.old served.part }
+{
+    let ServedPart { mark, part } = served;
+    let Ok(marks) = single(alloc, mark) else {
+        return Stepping {
+            reply: out_of_memory(alloc, 0),
+            served: false,
+        };
+    };
+    match kept.part.merge(part) {
+        Ok(()) => {
+            kept.next = behind;
+            Stepping {
+                reply: Reply {
+                    place: Some(mark.place),
+                    marks,
+                    body: Body::Step {
+                        extent: mark.extent,
+                        how: mark.how,
+                    },
+                },
+                served: true,
+            }
+        }
+        Err(_) => Stepping {
+            reply: out_of_memory(alloc, 0),
+            served: false,
+        },
+    }
+}
+
+/// One mark.
+fn single(alloc: Global, mark: Served) -> Result<List<Served>, NoMemory>
+    ensures { IfOk result (λ marks. marks ≡ mark ∷ []) }
+{
+    let mut marks = Vec::with_capacity(alloc, 1)?;
+    marks.push(mark)?;
+    Ok(List::of(marks))
 }

@@ -1,12 +1,15 @@
 -- The cursors that a session keeps, and what they agree with in the history.
-use Rattle.std.specs.Prelude.{◌≡◌, ℕ, ◌≤◌, Bool, true, false, Option, Some, None, if◌then◌else◌}
-use Rattle.im_group.specs.Partials.{partial}
+use Rattle.std.specs.Prelude.{◌≡◌, ℕ, ◌+◌, ◌≤◌, Bool, true, false, Option, Some, None}
+use Rattle.im_group.specs.Partials.{Parts, merged, partial}
 use Rattle.im_reach.specs.Sides.{Known}
 use Rattle.im_replies.specs.declared.reply.Reply.{Reply}
+use Rattle.im_replies.specs.declared.served.Served.{Served}
 use Rattle.im_scan.specs.Pinned.{seen_to}
 use Rattle.im_session.specs.declared.cursor.Cursor.{Cursor}
 use Rattle.im_session.specs.inner.Scans.{IsScan, MayAskIn}
+use Rattle.im_statements.specs.Cursors.{step_reply}
 use Rattle.im_statements.specs.Outcomes.{Closes, Opens, Outcome, Query, Replied, Steps, said}
+use Rattle.im_statements.specs.Turns.{memory_reply}
 use Rattle.im_syntax.specs.BoundQuery.{IsQuery}
 
 -- what a session's plans know of a cursor that it keeps
@@ -35,3 +38,18 @@ step_outcome cursor reply false = said reply
 abbrev pub fetch_outcome : ℕ → Reply → Bool → Outcome
 fetch_outcome cursor reply true = Replied reply (Closes cursor)
 fetch_outcome cursor reply false = said reply
+
+-- the query, once an extent was served or was not
+abbrev pub query_after : Bool → Query → Query
+query_after true query = record query { next = query.next + 1 }
+query_after false query = query
+
+-- the reply of a STEP that was served this, or ran out of memory
+abbrev pub served_reply_of : Bool → Served → Reply
+served_reply_of true mark = step_reply mark
+served_reply_of false mark = memory_reply 0
+
+-- a cursor that took the part of its next extent, or did not
+abbrev pub cursor_after : Bool → Cursor → Parts → Cursor
+cursor_after true kept part = record kept { next = kept.next + 1; part = merged kept.part part }
+cursor_after false kept part = kept

@@ -1,0 +1,33 @@
+use Rattle.im_session.proofs.CursorLemmas.{agrees-after, agrees-merges, agrees-went, step-serves}
+use Rattle.im_session.proofs.RestLemmas.{rest-lacks}
+use Rattle.im_session.proofs.ScanLemmas.{found-went}
+use Rattle.im_session.proofs.cursor.step.Goals as goal
+use Rattle.im_statements.specs.Cursors.{step}
+
+pub take-requires-clause-few : goal.take-requires-clause-few
+take-requires-clause-few g c =
+    agrees-merges c.args.who c.args.kept.now c.in-Ok.served.part (g.H.Reach.known c.args.reach.now) c.requires.agrees c.in-Ok.ensures.part
+
+pub returns-in-Ok-clause-rest : goal.returns-in-Ok-clause-rest
+returns-in-Ok-clause-rest g c = λ state is.
+    step-serves c.args.who c.take.result.served c.args.kept.now c.in-Ok.served.mark (g.H.Reach.known c.args.reach.now)
+    (g.H.Reach.known c.served_part.new.reach) state c.take.result.reply c.requires.speaks c.requires.shut c.in-Ok.ensures.went c.requires.agrees is
+    c.if-kept.false c.in-Ok.ensures.mark c.take.ensures.reply
+
+pub returns-in-Ok-clause-agrees : goal.returns-in-Ok-clause-agrees
+returns-in-Ok-clause-agrees g c =
+    agrees-after c.args.who c.take.result.served c.args.kept.now c.take.new.kept c.in-Ok.served.part (g.H.Reach.known c.args.reach.now)
+    (g.H.Reach.known c.served_part.new.reach) c.requires.speaks c.in-Ok.ensures.went c.requires.agrees c.if-kept.false c.in-Ok.ensures.part
+    c.take.ensures.kept
+
+pub returns-in-Err-clause-rest : goal.returns-in-Err-clause-rest
+returns-in-Err-clause-rest g c = λ state is.
+    rw c.out_of_memory.ensures
+    (rest-lacks c.args.who 0 (g.H.Reach.known c.args.reach.now) (g.H.Reach.known c.served_part.new.reach) _
+    (step state c.args.who (g.H.Reach.known c.args.reach.now).log c.args.kept.now.number) c.requires.speaks c.requires.shut
+    (found-went (g.H.Reach.known c.args.reach.now) (g.H.Reach.known c.served_part.new.reach) c.in-Err.ensures.went))
+
+pub returns-in-Err-clause-agrees : goal.returns-in-Err-clause-agrees
+returns-in-Err-clause-agrees g c =
+    agrees-went c.args.who c.args.kept.now (g.H.Reach.known c.args.reach.now) (g.H.Reach.known c.served_part.new.reach) c.requires.speaks
+    c.in-Err.ensures.went c.requires.agrees
