@@ -1,6 +1,6 @@
 -- A row that fits its table still does once values that may stand there are assigned to its columns.
 use Rattle.std.proofs.lemmas.List.{drop_all, length-set, take_all}
-use Rattle.std.proofs.Common.{◌≡◌, ◌≤◌, ◌&&◌, ◌++◌, length, take, drop, ℕ, zero, suc, Bool, true, false, List, [], ◌∷◌, Option, Some, None, refl, ap, ◌∙◌, sym, arith, append-nil}
+use Rattle.std.proofs.Common.{◌≡◌, ◌&&◌, ◌++◌, length, take, drop, ℕ, zero, suc, Bool, true, false, List, [], ◌∷◌, Some, refl, ◌∙◌, arith, append-nil}
 use Rattle.std.specs.Prelude.{slice_set, slice_get}
 use Rattle.std.specs.List.{AllByRecursion}
 use Rattle.im_values.specs.declared.schema.Column.{Column}

@@ -10,7 +10,7 @@ use Rattle.im_history.specs.declared.entry.What.TheVariants as what
 use Rattle.im_history.specs.declared.look.TableInfo.{TableInfo}
 use Rattle.im_history.specs.declared.refused.Refused.{Refused}
 use Rattle.im_history.specs.Commits.{scn}
-use Rattle.im_history.specs.Cursors.{Opened, is_cursor, is_cursor_open, opened}
+use Rattle.im_history.specs.Cursors.{is_cursor, is_cursor_open, opened}
 use Rattle.im_history.specs.Grid.{Grid}
 use Rattle.im_history.specs.History.{History}
 use Rattle.im_history.specs.Legal.{MaySetMemory}

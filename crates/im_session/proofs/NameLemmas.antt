@@ -1,5 +1,5 @@
 -- From a statement to what its names come to, and the commit before a definition.
-use Rattle.std.proofs.Common.{◌≡◌, ℕ, ◌==◌, ◌⊎◌, inl, inr, Bool, true, false, if◌then◌else◌, List, [], ◌∷◌, ◌++◌, length, Option, Some, None, is_some, Result, Ok, Err, refl, sym, ap, ◌∙◌, subst, arith}
+use Rattle.std.proofs.Common.{◌≡◌, ℕ, ◌==◌, ◌⊎◌, inl, inr, Bool, true, false, if◌then◌else◌, List, [], ◌∷◌, ◌++◌, Option, Some, None, is_some, Result, Ok, Err, refl, sym, ap, ◌∙◌, subst, arith}
 use Rattle.std.proofs.lemmas.Bool.Decides.{nat_tests}
 use Rattle.std.specs.List.{list_any}
 use Rattle.im_history.specs.declared.entry.What.TheVariants as what
@@ -125,9 +125,6 @@ module _ (who : ℕ) (old new : Known) (P : History → Type 0) (added : Added o
       ∙ (ap (list_any (is_cursor 0))
       (opened-push added.at (record { who = who; what = what.Commit }) who ∙ if-same (who == who) (opened added.at who))
       ∙ (cursor-after old.side who 0 old.log added.at mine added.after ∙ shut))
-
-  pub speaks-commit : speaks old.side who ≡ true → speaks new.side who ≡ true
-  speaks-commit mine = ap (λ (s : Known). speaks s.side who) added.now ∙ mine
 
 limits-found : (old middle : Known) (P : History → Type 0) → Found old middle P → middle.limits ≡ old.limits
 limits-found old middle P found = ap (λ (s : Known). s.limits) found.now

@@ -1,5 +1,5 @@
 -- The opening of a cursor over a side of a store, and what it sees.
-use Rattle.std.proofs.Common.{◌≡◌, ℕ, zero, suc, ◌+◌, ◌≤◌, ◌==◌, ◌||◌, Bool, true, false, if◌then◌else◌, List, [], ◌∷◌, ◌++◌, length, take, drop, fold, Option, Some, None, refl, sym, ap, ◌∙◌, subst, arith}
+use Rattle.std.proofs.Common.{◌≡◌, ℕ, zero, suc, ◌+◌, ◌≤◌, ◌==◌, ◌||◌, Bool, true, false, if◌then◌else◌, List, [], ◌∷◌, ◌++◌, length, take, drop, Option, Some, None, refl, sym, ap, ◌∙◌, subst, arith}
 use Rattle.std.specs.List.{cons_option, find, list_any}
 use Rattle.std.specs.Option.{option_map}
 use Rattle.std.proofs.lemmas.Bool.Decides.{nat_tests}
@@ -7,21 +7,18 @@ use Rattle.std.proofs.lemmas.List.{take-append-drop}
 use Rattle.im_core.specs.Answers.{IsRefusal}
 use Rattle.im_values.specs.declared.limits.TheConstants.{MOST_ROWS}
 use Rattle.im_values.specs.declared.value.Value.{Value}
-use Rattle.im_history.specs.declared.entry.Entry.{Entry}
 use Rattle.im_history.specs.declared.entry.Mode.{Mode}
 use Rattle.im_history.specs.declared.entry.Mode.TheVariants as mode
 use Rattle.im_history.specs.declared.entry.What.TheVariants.{Open}
 use Rattle.im_history.specs.declared.refused.Refused.{Refused}
 use Rattle.im_history.specs.declared.refused.Why.TheVariants.{CursorOpen}
-use Rattle.im_history.specs.declared.limits.Limits.{Limits}
 use Rattle.im_history.specs.declared.view.View.{View}
 use Rattle.im_history.specs.Commits.{scn}
 use Rattle.im_history.specs.Cursors.{Opened, cursor_at, is_cursor, is_cursor_open, opened, opened_after}
-use Rattle.im_history.specs.Grid.{extents_for}
 use Rattle.im_history.specs.History.{History}
 use Rattle.im_history.specs.Legal.{Exists, IsLawful, IsLegal}
 use Rattle.im_history.specs.Refusals.{open_refusal}
-use Rattle.im_history.specs.Rows.{Row, present, rows, snapshot, snapshot_under}
+use Rattle.im_history.specs.Rows.{Row, present, snapshot, snapshot_under}
 use Rattle.im_history.specs.Tables.{tables}
 use Rattle.im_history.specs.Transactions.{begun, mode as mode_of}
 use Rattle.im_history.specs.Views.{per_at, seen_by, view_at}
@@ -95,7 +92,8 @@ present-same f g first (suc count) same =
 
 earlier : (h : History) (place : ℕ) → scn (take place h) ≤ scn h
 earlier h place =
-    subst (λ (log : History). scn (take place h) ≤ scn log) (take-append-drop place h) (scn-longer (take place h) (drop place h) (scn (take place h)) (omega arith))
+    subst (λ (log : History). scn (take place h) ≤ scn log) (take-append-drop place h)
+    (scn-longer (take place h) (drop place h) (scn (take place h)) (omega arith))
 
 snapshot-under : (h : History) (m : Mode) (began : Option ℕ) → snapshot_under h m began ≤ scn h
 snapshot-under h mode.Committed began = omega arith

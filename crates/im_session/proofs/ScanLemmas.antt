@@ -1,42 +1,32 @@
 -- A scan over a side of a store: what others leave of it, how its extents are served, and how it ends.
-use Rattle.std.proofs.Common.{◌≡◌, ℕ, zero, suc, ◌+◌, ◌-◌, ◌<◌, ◌≤◌, Bool, true, false, if◌then◌else◌, List, [], ◌∷◌, ◌++◌, length, map, Option, Some, None, refl, sym, ap, ◌∙◌, subst, arith, append_assoc}
-use Rattle.std.specs.List.{find, list_any}
-use Rattle.std.specs.Option.{option_map}
-use Rattle.std.proofs.lemmas.List.{length-map}
+use Rattle.std.proofs.Common.{◌≡◌, ℕ, suc, ◌+◌, ◌-◌, ◌<◌, ◌≤◌, Bool, true, false, if◌then◌else◌, List, [], ◌∷◌, ◌++◌, Option, Some, None, refl, sym, ap, ◌∙◌, subst, arith, append_assoc}
+use Rattle.std.specs.List.{find}
 use Rattle.std.proofs.lemmas.List.Elements.{All-append}
 use Rattle.im_values.specs.declared.value.Value.{Value}
-use Rattle.im_history.specs.declared.entry.What.{What}
 use Rattle.im_history.specs.declared.entry.What.TheVariants as what
 use Rattle.im_history.specs.declared.view.View.{View}
 use Rattle.im_history.specs.Commits.{scn}
-use Rattle.im_history.specs.Cursors.{Opened, cursor_at, is_cursor, is_cursor_open, opened}
+use Rattle.im_history.specs.Cursors.{is_cursor, is_cursor_open}
 use Rattle.im_history.specs.History.{History}
 use Rattle.im_history.specs.Legal.{Exists}
-use Rattle.im_history.specs.Rows.{Row, rows}
-use Rattle.im_history.specs.Serving.{committed_in, fetched_by, fetched_in, serving, serving_content}
-use Rattle.im_history.specs.Units.{Content, content_at, stale}
 use Rattle.im_history.specs.Tables.{tables}
 use Rattle.im_history.specs.Views.{per_at}
 use Rattle.im_names.specs.Fitting.{OfTable, QueryServes}
 use Rattle.im_core.specs.Answers.{cursor_view, view_of}
-use Rattle.im_plan.specs.Goes.{After, Ends, Goes, Others, Rest}
-use Rattle.im_plan.specs.Plan.{Plan, End, Turn, made}
-use Rattle.im_plan.proofs.GoesLaws.{others-go_on, rest-amended, rest-first}
+use Rattle.im_plan.specs.Goes.{After, Ends, Goes, Others}
+use Rattle.im_plan.specs.Plan.{Plan, End, made}
+use Rattle.im_plan.proofs.GoesLaws.{others-go_on, rest-amended}
 use Rattle.im_reach.specs.Sides.{Added, AreOthers, Found, Known, StoreSide, speaks}
 use Rattle.im_replies.specs.declared.reply.Reply.{Reply}
-use Rattle.im_replies.specs.declared.served.How.{How}
-use Rattle.im_replies.specs.declared.served.How.TheVariants.{Unit as ByUnit}
 use Rattle.im_replies.specs.declared.served.Served.{Served}
-use Rattle.im_replies.specs.Mixes.{mix, mix_by}
-use Rattle.im_scan.specs.Faces.{how_of}
 use Rattle.im_session.specs.inner.Rests.{IsRest}
 use Rattle.im_session.specs.inner.Scans.{Comes, IsScan, IsShut, MayAskIn, Stops, Went}
-use Rattle.im_session.proofs.OtherLemmas.{cursor-after, nobody-came, opened-after, others-of}
+use Rattle.im_session.proofs.OtherLemmas.{cursor-after, opened-after, others-of}
 use Rattle.im_session.proofs.RestLemmas.{ends-here, rest-adds, rest-end, rest-look, rest-went}
 use Rattle.im_session.proofs.TableLemmas.{exists-longer, of_table-longer, per-longer, scn-longer}
 use Rattle.im_statements.specs.Outcomes.{Outcome, said}
-use Rattle.im_statements.specs.Scans.{end_scan, mark_at, serve, serve_from}
-use Rattle.im_statements.specs.Turns.{amends, look, memory_reply}
+use Rattle.im_statements.specs.Scans.{end_scan, mark_at, serve}
+use Rattle.im_statements.specs.Turns.{amends, memory_reply}
 use Rattle.im_syntax.specs.declared.bound.Bound.{Bound}
 use Rattle.im_syntax.specs.Condition.{CondOf}
 
@@ -46,9 +36,6 @@ use Rattle.im_syntax.specs.Condition.{CondOf}
 pub went-found : (old new : Known) (P : History → Type 0) → Found old new P → Went old new
 went-found old new P found =
     subst (λ (s : Known). Went old s) (sym found.now) (record { after = found.after; now = refl })
-
-pub went-here : (old : Known) → Went old old
-went-here old = record { after = nobody-came old.side old.log; now = refl }
 
 pub found-went : (old new : Known) → Went old new → Found old new (λ at. at ≡ new.log)
 found-went old new went = record { at = new.log; after = went.after; now = went.now; fact = refl }
@@ -112,19 +99,7 @@ asks-went bound view old new went asks = record {
 pub view-scan : (who cursor : ℕ) (view : View) (now : Known) → IsScan who cursor view now → cursor_view now.log who cursor ≡ view
 view-scan who cursor view now scan = ap view_of scan.opened
 
--- ---- how an extent is served
-
-pub how-mix : (h : History) (view : View) (extent : ℕ) (filter : Option (CondOf ℕ Value))
-    → how_of (serving_content h view extent) (fetched_in h view extent) ≡ mix h view extent filter
-how-mix h view extent filter = by (serving h view extent)
-  where
-    by : (served : Option ℕ) → how_of (option_map (content_at h view.table extent) served) (fetched_by h view extent served) ≡ mix_by h view extent served
-    by None = refl
-    by (Some n) = ap (ByUnit n) (length-map (stale h view.table extent n view.scn) (λ rid. (rid, rows h view.table view.scn rid)))
-
--- the first extents are to be served
-pub comes-here : (who k : ℕ) (old : Known) (plan : Plan Outcome) → Comes who k old plan old plan
-comes-here who k old plan = record { rest = λ outcome late rest. rest }
+-- ---- how extents are served
 
 -- one more extent was served
 pub comes-next : (who k : ℕ) (first old new : Known) (plan : Plan Outcome) (view : View) (filter : Option (CondOf ℕ Value)) (extent : ℕ)

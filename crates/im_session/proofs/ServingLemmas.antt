@@ -1,9 +1,8 @@
 -- What is read of an extent for a scan, and what the parts of the extents so far are.
-use Rattle.std.proofs.Common.{◌≡◌, ℕ, ◌+◌, ◌<◌, ◌≤◌, ◌^◌, true, List, length, Option, Result, Ok, Err, refl, sym, ap, ◌∙◌, subst, arith}
+use Rattle.std.proofs.Common.{◌≡◌, ℕ, ◌+◌, ◌<◌, ◌≤◌, ◌^◌, true, List, length, Option, Result, Ok, Err, sym, ap, ◌∙◌}
 use Rattle.std.specs.List.{AllByRecursion}
 use Rattle.std.specs.Option.{ForSome}
 use Rattle.std.specs.Result.{IfErr}
-use Rattle.im_values.specs.declared.value.Value.{Value}
 use Rattle.im_core.specs.Answers.{cursor_view}
 use Rattle.im_group.specs.Partials.{CanMerge, Parts, merged, partial}
 use Rattle.im_history.specs.declared.view.View.{View}
@@ -14,17 +13,13 @@ use Rattle.im_history.specs.Rows.{Row}
 use Rattle.im_history.specs.Serving.{fetched_in, serving_content}
 use Rattle.im_history.specs.Units.{Content}
 use Rattle.im_reach.specs.Sides.{Known, speaks}
-use Rattle.im_replies.specs.declared.served.Served.{Served}
-use Rattle.im_scan.specs.Faces.{how_of}
 use Rattle.im_scan.specs.Parts.{MayAsk}
 use Rattle.im_scan.specs.Pinned.{IsPinned, seen_all, seen_in, seen_to}
 use Rattle.im_scan.proofs.ForCallers.{MayAskOf, can-merge-seen, fetched-may, merged-seen, pinned-serving, seen_in-later, seen_to-all, unit-may}
 use Rattle.im_session.specs.inner.Scans.{IsRead, IsScan, MayAskIn, Went}
-use Rattle.im_session.proofs.ScanLemmas.{asks-went, how-mix, scan-went, view-scan}
+use Rattle.im_session.proofs.ScanLemmas.{asks-went, scan-went, view-scan}
 use Rattle.im_session.proofs.TableLemmas.{asks-of}
-use Rattle.im_statements.specs.Scans.{mark_at}
 use Rattle.im_syntax.specs.declared.bound.Bound.{Bound}
-use Rattle.im_syntax.specs.Condition.{CondOf}
 
 -- ---- errors
 
@@ -43,14 +38,6 @@ read-of who cursor extent place view unit fetched now scan place_is unit_is fetc
   unit_is = unit_is ∙ ap (λ (v : View). serving_content now.log v extent) (view-scan who cursor view now scan);
   fetched_is = fetched_is ∙ ap (λ (v : View). fetched_in now.log v extent) (view-scan who cursor view now scan);
 }
-
--- how it is served
-pub mark-read : (h : History) (view : View) (extent place : ℕ) (unit : Option Content) (fetched : List (ℕ × Option Row))
-    (filter : Option (CondOf ℕ Value)) (mark : Served) → IsRead h view extent place unit fetched
-    → mark ≡ record { place = place; extent = extent; how = how_of unit fetched } → mark ≡ mark_at h view filter extent
-mark-read h view extent place unit fetched filter mark read is =
-    is ∙ rw (read.place_is, read.unit_is, read.fetched_is)
-    (ap (λ how. record { place = length h; extent = extent; how = how }) (how-mix h view extent filter))
 
 -- what is known of an extent that was read, of which a query is asked
 pub record MayScanPart (bound : Bound) (h : History) (view : View) (extent : ℕ) (unit : Option Content) (fetched : List (ℕ × Option Row)) : Type 0 where

@@ -1,14 +1,13 @@
 -- What later entries leave of a table that exists, and what may be asked of its rows.
 use Rattle.std.proofs.Common.{◌≡◌, ℕ, zero, suc, ◌+◌, ◌≤◌, Bool, true, false, if◌then◌else◌, IsTrue, List, [], ◌∷◌, ◌++◌, All, Option, Some, None, refl, sym, ap, ◌∙◌, subst, arith}
 use Rattle.std.specs.List.{AllByRecursion}
-use Rattle.std.specs.Option.{ForSome, option_map}
+use Rattle.std.specs.Option.{option_map}
 use Rattle.std.specs.Prelude.{slice_get}
 use Rattle.std.proofs.lemmas.List.Elements.{All-head, All-tail}
 use Rattle.im_values.specs.declared.priority.Priority.{Priority}
 use Rattle.im_values.specs.declared.schema.Column.{Column}
 use Rattle.im_values.specs.Fits.{fits}
 use Rattle.im_history.specs.declared.change.Change.{Change}
-use Rattle.im_history.specs.declared.entry.Entry.{Entry}
 use Rattle.im_history.specs.declared.entry.What.{What}
 use Rattle.im_history.specs.declared.entry.What.TheVariants as what
 use Rattle.im_history.specs.declared.limits.Limits.{Limits}
@@ -16,7 +15,7 @@ use Rattle.im_history.specs.declared.look.TableInfo.{TableInfo}
 use Rattle.im_history.specs.Commits.{scn, moves_clock}
 use Rattle.im_history.specs.History.{History}
 use Rattle.im_history.specs.Legal.{Exists, IsLegal, row_fits}
-use Rattle.im_history.specs.Rows.{Row, own_changes, rows}
+use Rattle.im_history.specs.Rows.{Row, own_changes}
 use Rattle.im_history.specs.Tables.{created, table_at, tables, with_memory}
 use Rattle.im_history.specs.Views.{per_at}
 use Rattle.im_history.proofs.FitLaws.{pending-fits, rows-fit}
@@ -62,7 +61,8 @@ pub columns-longer : (h more : History) (table : ℕ) (columns : List Column) �
     → columns_at (tables (h ++ more)) table ≡ Some columns
 columns-longer h more table columns is =
     each_longer (λ (log : History). columns_at (tables log) table ≡ Some columns)
-    (λ log entry so_far. ap (λ (ts : List TableInfo). columns_at ts table) (tables-push log entry) ∙ columns-created (tables log) entry.what table columns so_far)
+    (λ log entry so_far. ap (λ (ts : List TableInfo). columns_at ts table) (tables-push log entry)
+    ∙ columns-created (tables log) entry.what table columns so_far)
     h more is
 
 -- what fits a table fits it later
@@ -93,7 +93,8 @@ per-longer h more table per exists is = cut.is
 pub scn-longer : (h more : History) (n : ℕ) → n ≤ scn h → n ≤ scn (h ++ more)
 scn-longer h more n below =
     each_longer (λ (log : History). n ≤ scn log)
-    (λ log entry so_far. let now = scn-push log entry in grows (scn log) (scn (log ++ entry ∷ [])) (if moves_clock entry.what then 1 else 0) so_far now) h more below
+    (λ log entry so_far. let now = scn-push log entry in
+    grows (scn log) (scn (log ++ entry ∷ [])) (if moves_clock entry.what then 1 else 0) so_far now) h more below
   where
     grows : (before now step : ℕ) → n ≤ before → now ≡ before + step → n ≤ now
     grows before now step a b = omega (arith, a, b)

@@ -1,8 +1,7 @@
 -- Changes to rows that a scan saw may be written.
 use Rattle.std.proofs.Common.{◌≡◌, ℕ, zero, suc, ◌+◌, ◌<◌, ◌≤◌, ◌==◌, ◌&&◌, ◌⊎◌, inl, inr, Bool, true, false, if◌then◌else◌, IsTrue, List, [], ◌∷◌, ◌++◌, length, map, filter, fold, get_or, Option, Some, None, is_some, refl, sym, ap, ◌∙◌, subst, arith, rules, All}
 use Rattle.std.proofs.lemmas.List.Elements.{All-nil, All-cons}
-use Rattle.std.specs.Prelude.{slice_get}
-use Rattle.std.specs.List.{AllAdjacentBelow, AllByRecursion, cons_option}
+use Rattle.std.specs.List.{AllAdjacentBelow, cons_option}
 use Rattle.std.specs.Option.{option_map}
 use Rattle.im_values.specs.declared.schema.Column.{Column}
 use Rattle.im_values.specs.declared.value.Value.{Value}
@@ -11,14 +10,12 @@ use Rattle.im_group.specs.Partials.{Parts, groups_of, keeps, kept, partial}
 use Rattle.std.specs.FinMap as map_of
 use Rattle.im_history.specs.declared.change.Change.{Change}
 use Rattle.im_history.specs.declared.entry.What.TheVariants.{Open}
-use Rattle.im_history.specs.declared.look.TableInfo.{TableInfo}
 use Rattle.im_history.specs.declared.view.View.{View}
 use Rattle.im_history.specs.Commits.{scn}
-use Rattle.im_history.specs.Cursors.{Opened}
 use Rattle.im_history.specs.History.{History}
 use Rattle.im_history.specs.Legal.{IsLawful, IsLegal, MayWrite, still_seen, row_fits}
 use Rattle.im_history.specs.Rows.{Row, rows, row_after, seen, present, own_changes}
-use Rattle.im_history.specs.Tables.{tables, table_at}
+use Rattle.im_history.specs.Tables.{tables}
 use Rattle.im_history.specs.Transactions.{pending}
 use Rattle.im_history.specs.Views.{seen_by, view_at}
 use Rattle.im_history.proofs.FitLaws.{seen-fits}

@@ -1,9 +1,8 @@
 -- How a line that rewrites rows ends: with its write, refused or not, or with none.
-use Rattle.std.proofs.Common.{◌≡◌, ℕ, ◌+◌, ◌≤◌, ◌==◌, Bool, true, false, if◌then◌else◌, List, [], ◌∷◌, ◌++◌, length, Option, Some, None, refl, sym, ap, ◌∙◌, subst, inl, inr, arith}
+use Rattle.std.proofs.Common.{◌≡◌, ℕ, ◌≤◌, ◌==◌, Bool, true, false, if◌then◌else◌, List, [], ◌∷◌, ◌++◌, length, Option, Some, None, refl, sym, ap, ◌∙◌, subst, inl, inr, arith}
 use Rattle.std.specs.List.{list_any}
-use Rattle.im_core.specs.Answers.{IsRefusal, cursor_view, view_of}
+use Rattle.im_core.specs.Answers.{IsRefusal, cursor_view}
 use Rattle.im_history.specs.declared.change.Change.{Change}
-use Rattle.im_history.specs.declared.entry.What.{What}
 use Rattle.im_history.specs.declared.entry.What.TheVariants.{Shut, Write}
 use Rattle.im_history.specs.declared.limits.Limits.{Limits}
 use Rattle.im_history.specs.declared.refused.Refused.{Refused}
@@ -14,9 +13,8 @@ use Rattle.im_history.specs.Cursors.{is_cursor, is_cursor_open, opened}
 use Rattle.im_history.specs.History.{History}
 use Rattle.im_history.specs.Refusals.{write_refusal}
 use Rattle.im_history.proofs.Laws.{opened-push}
-use Rattle.im_plan.specs.Goes.{After, Goes, Others}
-use Rattle.im_plan.specs.Plan.{Plan, End, Turn, made}
-use Rattle.im_plan.proofs.GoesLaws.{goes-first, others-go_on, rest-goes}
+use Rattle.im_plan.specs.Goes.{After}
+use Rattle.im_plan.specs.Plan.{Plan}
 use Rattle.im_reach.specs.Sides.{Added, AreOthers, Found, Known, speaks}
 use Rattle.im_replies.specs.declared.body.Body.{Body}
 use Rattle.im_replies.specs.declared.body.Body.TheVariants.{Error}
@@ -26,12 +24,12 @@ use Rattle.im_replies.specs.Causes.{fault_of}
 use Rattle.im_session.specs.inner.Rests.{IsDecided, IsRest}
 use Rattle.im_session.specs.inner.Scans.{IsScan, IsShut, Went}
 use Rattle.im_session.specs.inner.Writes.{write_reply}
-use Rattle.im_session.proofs.OtherLemmas.{cursor-after, opened-after, others-of}
+use Rattle.im_session.proofs.OtherLemmas.{cursor-after, others-of}
 use Rattle.im_session.proofs.RestLemmas.{ends-here, rest-decides, rest-nothing, rest-went}
 use Rattle.im_session.proofs.ScanLemmas.{open-went, scan-ended, scan-lacks, scan-went, speaks-went, went-found, view-scan}
 use Rattle.im_statements.specs.Outcomes.{Outcome, said}
 use Rattle.im_statements.specs.Scans.{end_scan}
-use Rattle.im_statements.specs.Turns.{amends, memory_reply, served_reply, unless_refused}
+use Rattle.im_statements.specs.Turns.{memory_reply, served_reply, unless_refused}
 use Rattle.im_statements.specs.Writes.{or_fault, write_or_end, write_seen}
 
 -- cursor 0 is shut, and the line ends: its deciding entry was made

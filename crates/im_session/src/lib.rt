@@ -5,9 +5,10 @@
 //! and one that is shared: it is written over `Reach` of `im_reach`.
 //!
 //! The contract of each function says what is left of its line: it goes by the plan, or runs out of memory on the way and is
-//! amended (`specs/inner/Rests.antt`).
+//! amended (`specs/inner/Rests.antt`). A statement that scans opens cursor 0 and serves its extents each at a turn of its own
+//! (`specs/inner/Scans.antt`); a [`Cursor`] that a session keeps agrees with the history (`specs/inner/Cursors.antt`).
 //!
-//! Start with `transaction.rt`, whose statements make one call each.
+//! Start with `transaction.rt`, whose statements make one call each, then `serving.rt`, `query.rt` and `cursor.rt`.
 #![tactic(auto)]
 
 mod changes;

@@ -1,4 +1,4 @@
-use Rattle.std.proofs.Common.{◌≡◌, sym, refl, subst}
+use Rattle.std.proofs.Common.{sym, refl, subst}
 use Rattle.im_history.specs.declared.entry.What.TheVariants.{Shut}
 use Rattle.im_plan.specs.Plan.{End, Plan}
 use Rattle.im_replies.specs.declared.body.Body.TheVariants.{Closed}

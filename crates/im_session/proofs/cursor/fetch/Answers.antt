@@ -1,10 +1,9 @@
-use Rattle.std.proofs.Common.{◌≡◌, ◌∙◌, false, length, true, ap, refl, sym, subst}
+use Rattle.std.proofs.Common.{◌∙◌, length, ap, refl, sym, subst}
 use Rattle.im_group.specs.Answers.{answer}
 use Rattle.im_history.specs.declared.entry.What.TheVariants.{Shut}
 use Rattle.im_history.specs.declared.look.Look.{Look}
 use Rattle.im_plan.specs.Plan.{End, Plan}
 use Rattle.im_replies.specs.declared.body.Body.TheVariants.{Answer}
-use Rattle.im_session.specs.inner.Cursors.{fetch_outcome}
 use Rattle.im_session.specs.inner.Rests.{IsRest}
 use Rattle.im_session.proofs.CursorLemmas.{agrees-went, over-kept}
 use Rattle.im_session.proofs.RestLemmas.{decide_by-done, rest-lacks_here}

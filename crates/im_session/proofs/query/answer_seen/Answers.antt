@@ -1,15 +1,9 @@
-use Rattle.std.proofs.Common.{◌≡◌, ◌∙◌, List, Some, true, ap, subst}
 use Rattle.im_group.specs.Answers.{answer}
-use Rattle.im_history.specs.Cursors.{is_cursor_open}
-use Rattle.im_plan.specs.Plan.{Plan}
-use Rattle.im_reach.specs.Sides.{Known, speaks}
 use Rattle.im_replies.specs.declared.body.Body.TheVariants as body
-use Rattle.im_replies.specs.declared.served.Served.{Served}
 use Rattle.im_scan.specs.Pinned.{seen_all}
 use Rattle.im_session.proofs.ScanLemmas.{open-went, scan-lacks, scan-replies, scan-stops, speaks-went}
 use Rattle.im_session.proofs.query.answer_seen.Goals as goal
-use Rattle.im_statements.specs.Outcomes.{Outcome}
-use Rattle.im_statements.specs.Scans.{end_scan, serve_from}
+use Rattle.im_statements.specs.Scans.{end_scan}
 use Rattle.im_statements.specs.Turns.{served_reply}
 
 pub returns-in_default-clause-rest : goal.returns-in_default-clause-rest

@@ -1,4 +1,4 @@
-use Rattle.std.proofs.Common.{◌≡◌, ◌-◌, ℕ, List}
+use Rattle.std.proofs.Common.{◌-◌, ℕ, List}
 use Rattle.im_plan.specs.Plan.{Plan}
 use Rattle.im_replies.specs.declared.served.Served.{Served}
 use Rattle.im_session.specs.inner.Scans.{Comes, Went}

@@ -2,7 +2,6 @@ use Rattle.std.proofs.Common.{◌≡◌, ◌∙◌, ℕ, List, ap, sym, subst}
 use Rattle.im_group.specs.Partials.{Parts}
 use Rattle.im_history.specs.declared.limits.Limits.{Limits}
 use Rattle.im_history.specs.Rows.{Row}
-use Rattle.im_plan.specs.Plan.{Plan}
 use Rattle.im_reach.specs.Sides.{Known}
 use Rattle.im_replies.specs.declared.served.Served.{Served}
 use Rattle.im_scan.specs.Pinned.{seen_all}
@@ -11,7 +10,7 @@ use Rattle.im_session.specs.inner.Writes.{AreRows}
 use Rattle.im_session.proofs.ScanLemmas.{open-went, scan-lacks, scan-stops, scan-went, side-went, speaks-went}
 use Rattle.im_session.proofs.WriteLemmas.{kept-rows, rewrites-went, rows-went}
 use Rattle.im_session.proofs.rewriting.rewrite_seen.Goals as goal
-use Rattle.im_statements.specs.Outcomes.{Outcome, said}
+use Rattle.im_statements.specs.Outcomes.{said}
 use Rattle.im_statements.specs.Writes.{changes_to, kept_rows, write_or_end, written}
 
 pub returns-in_default-clause-rest : goal.returns-in_default-clause-rest

@@ -1,4 +1,4 @@
-use Rattle.std.proofs.Common.{◌≡◌, ◌<◌, ◌≤◌, ◌+◌, ◌-◌, ◌^◌, ◌∙◌, [], ◌∷◌, ◌++◌, ℕ, List, ap, sym, subst, arith}
+use Rattle.std.proofs.Common.{◌+◌, ◌-◌, ◌∙◌, [], ◌∷◌, ◌++◌, ℕ, List, ap, sym, subst, arith}
 use Rattle.im_replies.specs.declared.served.Served.{Served}
 use Rattle.im_plan.specs.Plan.{Plan}
 use Rattle.im_session.specs.inner.Scans.{Comes, Stops}

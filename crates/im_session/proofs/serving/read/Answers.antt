@@ -7,7 +7,8 @@ use Rattle.im_session.proofs.serving.read.Goals as goal
 pub returns-in-Ok-clause-read : goal.returns-in-Ok-clause-read
 returns-in-Ok-clause-read g c =
     let found = went-log (g.H.Reach.known c.args.reach.now) (g.H.Reach.known c.pin.new.self) _ c.in-Ok.ensures.ok in
-    read-of c.args.who c.args.cursor c.args.extent c.in-Ok.pin.place c.args.view.now (option_map arc_value c.in-Ok.pin.unit) c.in-Ok.pin.fetched (g.H.Reach.known c.pin.new.self)
+    read-of c.args.who c.args.cursor c.args.extent c.in-Ok.pin.place c.args.view.now (option_map arc_value c.in-Ok.pin.unit) c.in-Ok.pin.fetched
+    (g.H.Reach.known c.pin.new.self)
     (scan-went c.args.who c.args.cursor c.args.view.now (g.H.Reach.known c.args.reach.now) (g.H.Reach.known c.pin.new.self) c.requires.speaks
     (went-found (g.H.Reach.known c.args.reach.now) (g.H.Reach.known c.pin.new.self) _ c.in-Ok.ensures.ok) c.requires.scan)
     found.0 found.1 found.2

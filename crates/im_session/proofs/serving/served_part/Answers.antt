@@ -4,7 +4,7 @@ use Rattle.std.specs.List.{AllByRecursion}
 use Rattle.std.specs.Option.{ForSome, option_map}
 use Rattle.im_group.specs.Partials.{partial}
 use Rattle.im_scan.specs.Parts.{MayAsk}
-use Rattle.im_session.proofs.ServingLemmas.{MayScanPart, may-read, seen_in-went}
+use Rattle.im_session.proofs.ServingLemmas.{may-read, seen_in-went}
 use Rattle.im_session.proofs.serving.served_part.Goals as goal
 
 pub part-requires-clause-unit_fits : goal.part-requires-clause-unit_fits

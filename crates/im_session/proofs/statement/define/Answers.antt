@@ -1,7 +1,7 @@
 use Rattle.std.proofs.Common.{◌≡◌, ◌∙◌, false, is_some, true, ap, sym}
 use Rattle.im_history.specs.declared.look.Look.{Look}
 use Rattle.im_history.specs.Transactions.{is_open}
-use Rattle.im_session.proofs.NameLemmas.{definition-alone, definition-committed, idle-commit, shut-commit, speaks-commit}
+use Rattle.im_session.proofs.NameLemmas.{definition-alone, definition-committed, idle-commit, shut-commit}
 use Rattle.im_session.proofs.RestLemmas.{rest-lacks, rest-look}
 use Rattle.im_session.proofs.ScanLemmas.{open-went, speaks-went, went-found, went-log}
 use Rattle.im_session.proofs.statement.define.Goals as goal

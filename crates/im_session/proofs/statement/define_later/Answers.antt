@@ -1,4 +1,4 @@
-use Rattle.std.proofs.Common.{◌≡◌, ◌∙◌, ap, subst}
+use Rattle.std.proofs.Common.{ap, subst}
 use Rattle.im_history.specs.declared.limits.Limits.{Limits}
 use Rattle.im_reach.specs.Sides.{Known}
 use Rattle.im_session.specs.inner.Rests.{IsRest}

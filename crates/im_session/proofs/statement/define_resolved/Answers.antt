@@ -1,6 +1,6 @@
 use Rattle.im_session.proofs.TableLemmas.{exists-of}
 use Rattle.im_session.proofs.statement.define_resolved.Goals as goal
-use Rattle.std.proofs.Common.{sym, subst}
+use Rattle.std.proofs.Common.{subst}
 use Rattle.im_history.specs.Tables.{tables}
 use Rattle.im_names.specs.declared.resolved.Resolved.{Resolved}
 use Rattle.im_names.specs.Fitting.{Serves}
