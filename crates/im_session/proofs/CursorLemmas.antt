@@ -17,7 +17,7 @@ use Rattle.im_reach.specs.Sides.{Added, Known, speaks}
 use Rattle.im_scan.specs.Pinned.{seen_in, seen_to}
 use Rattle.im_scan.proofs.ForCallers.{can-merge-seen, merged-seen, seen_by-later, seen_to-none}
 use Rattle.im_session.specs.declared.cursor.Cursor.{Cursor}
-use Rattle.im_session.specs.inner.Cursors.{Agrees, cursor_after, query_of, served_reply_of, step_outcome}
+use Rattle.im_session.specs.inner.Cursors.{IsKept, cursor_after, query_of, served_reply_of, step_outcome}
 use Rattle.im_session.specs.inner.Rests.{IsRest}
 use Rattle.im_session.proofs.RestLemmas.{rest-end, rest-lacks, rest-look}
 use Rattle.im_session.specs.inner.Scans.{Went}
@@ -34,7 +34,7 @@ use Rattle.im_statements.specs.Outcomes.{Outcome, Query, Replied, State, Steps, 
 use Rattle.im_values.specs.declared.limits.TheConstants.{MOST_ROWS}
 
 -- what a line does over a cursor that is kept
-pub over-kept : (state : State) (who : ℕ) (kept : Cursor) (now : Known) (on : Query → View → Plan Outcome) → Agrees who kept now
+pub over-kept : (state : State) (who : ℕ) (kept : Cursor) (now : Known) (on : Query → View → Plan Outcome) → IsKept who kept now
     → query_at state kept.number ≡ Some (query_of kept) → over_cursor state who now.log kept.number on ≡ on (query_of kept) kept.view
 over-kept state who kept now on agrees is =
     ap (λ (q : Option Query). over kept.number now.log q (cursor_at now.log who kept.number) on) is
@@ -44,7 +44,7 @@ over-kept state who kept now on agrees is =
 pub agrees-opened : (who : ℕ) (kept : Cursor) (old middle : Known)
     → Added old middle who (λ at. Open kept.number kept.bound.table) (HasOpened who kept.number kept.bound.table kept.view)
     → IsLawful middle.limits middle.log → OfTable (tables old.log) kept.bound.table (QueryServes kept.bound) → kept.view.rows ≤ MOST_ROWS
-    → 1 ≤ kept.view.per → kept.next ≡ 0 → kept.part ≡ partial kept.bound [] → Agrees who kept middle
+    → 1 ≤ kept.view.per → kept.next ≡ 0 → kept.part ≡ partial kept.bound [] → IsKept who kept middle
 agrees-opened who kept old middle added lawful of few some first none = record {
   scan = added-scan who kept.number kept.bound.table old middle kept.view added
       (exists-of old.log kept.bound.table (QueryServes kept.bound) of) few some;
@@ -66,7 +66,7 @@ seen_to-went old new view extents known went =
     ap (λ (h : History). seen_by h view rid) went.after.log ∙ seen_by-later old.log went.after.between view rid known)
 
 -- a cursor that is kept agrees once others went on
-pub agrees-went : (who : ℕ) (kept : Cursor) (old new : Known) → speaks old.side who ≡ true → Went old new → Agrees who kept old → Agrees who kept new
+pub agrees-went : (who : ℕ) (kept : Cursor) (old new : Known) → speaks old.side who ≡ true → Went old new → IsKept who kept old → IsKept who kept new
 agrees-went who kept old new mine went agrees = record {
   scan = scan-went who kept.number kept.view old new mine went agrees.scan;
   asks = asks-went kept.bound kept.view old new went agrees.asks;
@@ -76,9 +76,9 @@ agrees-went who kept old new mine went agrees = record {
 }
 
 -- a cursor that took the part of its next extent agrees
-pub agrees-served : (who : ℕ) (kept : Cursor) (part : Parts) (old new : Known) → speaks old.side who ≡ true → Went old new → Agrees who kept old
+pub agrees-served : (who : ℕ) (kept : Cursor) (part : Parts) (old new : Known) → speaks old.side who ≡ true → Went old new → IsKept who kept old
     → kept.next < kept.view.extents → part ≡ partial kept.bound (seen_in old.log kept.view kept.next)
-    → Agrees who (record kept { next = kept.next + 1; part = merged kept.part part }) new
+    → IsKept who (record kept { next = kept.next + 1; part = merged kept.part part }) new
 agrees-served who kept part old new mine went agrees more part_is =
     agrees-went who (record kept { next = kept.next + 1; part = merged kept.part part }) old new mine went
     (record {
@@ -91,15 +91,15 @@ agrees-served who kept part old new mine went agrees more part_is =
 
 -- and if it may have taken it, or not
 pub agrees-after : (who : ℕ) (served : Bool) (kept after : Cursor) (part : Parts) (old new : Known) → speaks old.side who ≡ true → Went old new
-    → Agrees who kept old → kept.next < kept.view.extents → part ≡ partial kept.bound (seen_in old.log kept.view kept.next)
-    → after ≡ cursor_after served kept part → Agrees who after new
+    → IsKept who kept old → kept.next < kept.view.extents → part ≡ partial kept.bound (seen_in old.log kept.view kept.next)
+    → after ≡ cursor_after served kept part → IsKept who after new
 agrees-after who true kept after part old new mine went agrees more part_is is =
-    subst (λ (k : Cursor). Agrees who k new) (sym is) (agrees-served who kept part old new mine went agrees more part_is)
+    subst (λ (k : Cursor). IsKept who k new) (sym is) (agrees-served who kept part old new mine went agrees more part_is)
 agrees-after who false kept after part old new mine went agrees more part_is is =
-    subst (λ (k : Cursor). Agrees who k new) (sym is) (agrees-went who kept old new mine went agrees)
+    subst (λ (k : Cursor). IsKept who k new) (sym is) (agrees-went who kept old new mine went agrees)
 
 -- they may be merged
-pub agrees-merges : (who : ℕ) (kept : Cursor) (part : Parts) (old : Known) → Agrees who kept old
+pub agrees-merges : (who : ℕ) (kept : Cursor) (part : Parts) (old : Known) → IsKept who kept old
     → part ≡ partial kept.bound (seen_in old.log kept.view kept.next) → CanMerge kept.part part
 agrees-merges who kept part old agrees part_is =
     can-merge-seen kept.bound old.log kept.view kept.next kept.part part (let few = agrees.scan.few in omega (arith, few)) agrees.part part_is
@@ -116,7 +116,7 @@ less n m within = grind (arith, nat_tests)
 
 -- one was served, or memory ran out
 pub step-serves : (who : ℕ) (served : Bool) (kept : Cursor) (mark : Served) (old new : Known) (state : State) (reply : Reply)
-    → speaks old.side who ≡ true → is_cursor_open old.log who 0 ≡ false → Went old new → Agrees who kept old
+    → speaks old.side who ≡ true → is_cursor_open old.log who 0 ≡ false → Went old new → IsKept who kept old
     → query_at state kept.number ≡ Some (query_of kept) → kept.next < kept.view.extents
     → mark ≡ mark_at new.log kept.view kept.bound.filter kept.next → reply ≡ served_reply_of served mark
     → IsRest who 0 old (step state who old.log kept.number) (step_outcome kept.number reply served) new

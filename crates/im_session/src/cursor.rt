@@ -42,7 +42,7 @@ pub struct Cursor {
 
 /// What comes of an OPEN.
 #[derive(Drop)]
-pub struct Opening {
+pub struct OpenOutcome {
     pub reply: Reply,
     /// None where it was refused.
     pub cursor: Option<Cursor>,
@@ -56,23 +56,23 @@ pub fn open_query<R: Wait, H: Reach<ColumnUnit>>(
     who: u32,
     cursor: u32,
     bound: Bound,
-) -> Opening
+) -> OpenOutcome
     requires session { who < NUMBERS }
     requires speaks { speaks (H.known reach.old).side who ≡ true }
     requires shut { is_cursor_open (H.known reach.old).log who 0 ≡ false }
     requires serves { OfTable (tables (H.known reach.old).log) bound.table (QueryServes bound) }
     ensures rest { IsRest who 0 (H.known reach.old) (plan.open_query who cursor bound)
         (inner.opening_outcome result.reply result.cursor) (H.known reach.new) }
-    ensures agrees { ForSome result.cursor (λ kept. inner.Agrees who kept (H.known reach.new)) }
+    ensures agrees { ForSome result.cursor (λ kept. inner.IsKept who kept (H.known reach.new)) }
 {
     let Ok(part) = Partial::of_lent(alloc, &bound, &[]) else {
-        return Opening {
+        return OpenOutcome {
             reply: out_of_memory(alloc, 0),
             cursor: None,
         };
     };
     match reach.open_cursor(rt, who, cursor, bound.table) {
-        Ok(view) => Opening {
+        Ok(view) => OpenOutcome {
             reply: Reply::settled(
                 alloc,
                 view.place,
@@ -90,7 +90,7 @@ pub fn open_query<R: Wait, H: Reach<ColumnUnit>>(
                 part,
             }),
         },
-        Err(refused) => Opening {
+        Err(refused) => OpenOutcome {
             reply: opening_refused(alloc, cursor, 0, refused),
             cursor: None,
         },
@@ -107,7 +107,7 @@ pub fn close<R: Wait, H: Reach<ColumnUnit>>(
 ) -> Reply
     requires session { who < NUMBERS }
     requires speaks { speaks (H.known reach.old).side who ≡ true }
-    requires agrees { inner.Agrees who kept.now (H.known reach.old) }
+    requires agrees { inner.IsKept who kept.now (H.known reach.old) }
     ensures { (state : State) → query_at state kept.now.number ≡ Some (inner.query_of kept.now) →
         IsRest who 0 (H.known reach.old) (plan.close state who (H.known reach.old).log kept.now.number)
         (Replied result (Closes kept.now.number)) (H.known reach.new) }
@@ -124,7 +124,7 @@ pub fn close<R: Wait, H: Reach<ColumnUnit>>(
 
 /// What comes of a FETCH.
 #[derive(Drop)]
-pub struct Fetching {
+pub struct FetchOutcome {
     pub reply: Reply,
     /// Whether the cursor was closed. It stays open where memory was out.
     pub closed: bool,
@@ -140,19 +140,19 @@ pub fn fetch<R: Wait, H: Reach<ColumnUnit>, L: Ledger>(
     look: &Look,
     kept: &Cursor,
     steps: &mut Steps<L>,
-) -> Fetching
+) -> FetchOutcome
     requires session { who < NUMBERS }
     requires speaks { speaks (H.known reach.old).side who ≡ true }
     requires shut { is_cursor_open (H.known reach.old).log who 0 ≡ false }
     requires look { look.now ≡ look_at (H.known reach.old).log who }
-    requires agrees { inner.Agrees who kept.now (H.known reach.old) }
+    requires agrees { inner.IsKept who kept.now (H.known reach.old) }
     ensures rest { (state : State) → query_at state kept.now.number ≡ Some (inner.query_of kept.now) →
         IsRest who 0 (H.known reach.old) (plan.fetch state who (H.known reach.old).log kept.now.number)
         (inner.fetch_outcome kept.now.number result.reply result.closed) (H.known reach.new) }
-    ensures agrees { result.closed ≡ false → inner.Agrees who kept.now (H.known reach.new) }
+    ensures agrees { result.closed ≡ false → inner.IsKept who kept.now (H.known reach.new) }
 {
     let Ok(before) = kept.part.copy(alloc) else {
-        return Fetching {
+        return FetchOutcome {
             reply: out_of_memory(alloc, 0),
             closed: false,
         };
@@ -172,7 +172,7 @@ pub fn fetch<R: Wait, H: Reach<ColumnUnit>, L: Ledger>(
     ) {
         Ok(answered) => {
             reach.shut(rt, who, kept.number);
-            Fetching {
+            FetchOutcome {
                 reply: Reply {
                     place: Some(look.place),
                     marks: answered.marks,
@@ -184,7 +184,7 @@ pub fn fetch<R: Wait, H: Reach<ColumnUnit>, L: Ledger>(
                 closed: true,
             }
         }
-        Err(_) => Fetching {
+        Err(_) => FetchOutcome {
             reply: out_of_memory(alloc, 0),
             closed: false,
         },
@@ -193,7 +193,7 @@ pub fn fetch<R: Wait, H: Reach<ColumnUnit>, L: Ledger>(
 
 /// What comes of a STEP.
 #[derive(Drop)]
-pub struct Stepping {
+pub struct StepOutcome {
     pub reply: Reply,
     /// Whether an extent was served. Where memory was out none was, and the cursor is as before.
     pub served: bool,
@@ -208,20 +208,20 @@ pub fn step<R: Wait, H: Reach<ColumnUnit>, L: Ledger>(
     look: &Look,
     kept: &mut Cursor,
     steps: &mut Steps<L>,
-) -> Stepping
+) -> StepOutcome
     requires session { who < NUMBERS }
     requires speaks { speaks (H.known reach.old).side who ≡ true }
     requires shut { is_cursor_open (H.known reach.old).log who 0 ≡ false }
     requires look { look.now ≡ look_at (H.known reach.old).log who }
-    requires agrees { inner.Agrees who kept.old (H.known reach.old) }
+    requires agrees { inner.IsKept who kept.old (H.known reach.old) }
     ensures rest { (state : State) → query_at state kept.old.number ≡ Some (inner.query_of kept.old) →
         IsRest who 0 (H.known reach.old) (plan.step state who (H.known reach.old).log kept.old.number)
         (inner.step_outcome kept.old.number result.reply result.served) (H.known reach.new) }
     ensures kept { inner.query_of kept.new ≡ inner.query_after result.served (inner.query_of kept.old) }
-    ensures agrees { inner.Agrees who kept.new (H.known reach.new) }
+    ensures agrees { inner.IsKept who kept.new (H.known reach.new) }
 {
     if kept.next >= kept.view.extents {
-        return Stepping {
+        return StepOutcome {
             reply: Reply::settled(
                 alloc,
                 look.place,
@@ -245,7 +245,7 @@ pub fn step<R: Wait, H: Reach<ColumnUnit>, L: Ledger>(
         steps,
     ) {
         Ok(served) => take(alloc, kept, served, next + 1),
-        Err(_) => Stepping {
+        Err(_) => StepOutcome {
             reply: out_of_memory(alloc, 0),
             served: false,
         },
@@ -253,7 +253,7 @@ pub fn step<R: Wait, H: Reach<ColumnUnit>, L: Ledger>(
 }
 
 /// Takes the part of the next extent of a cursor. Behind it comes this one.
-fn take(alloc: Global, kept: &mut Cursor, served: ServedPart, behind: u64) -> Stepping
+fn take(alloc: Global, kept: &mut Cursor, served: ServedPart, behind: u64) -> StepOutcome
     requires few { CanMerge kept.old.part served.part }
     requires behind { behind ≡ kept.old.next + 1 }
     ensures reply { result.reply ≡ inner.served_reply_of result.served served.mark }
@@ -261,7 +261,7 @@ fn take(alloc: Global, kept: &mut Cursor, served: ServedPart, behind: u64) -> St
 {
     let ServedPart { mark, part } = served;
     let Ok(marks) = single(alloc, mark) else {
-        return Stepping {
+        return StepOutcome {
             reply: out_of_memory(alloc, 0),
             served: false,
         };
@@ -269,7 +269,7 @@ fn take(alloc: Global, kept: &mut Cursor, served: ServedPart, behind: u64) -> St
     match kept.part.merge(part) {
         Ok(()) => {
             kept.next = behind;
-            Stepping {
+            StepOutcome {
                 reply: Reply {
                     place: Some(mark.place),
                     marks,
@@ -281,7 +281,7 @@ fn take(alloc: Global, kept: &mut Cursor, served: ServedPart, behind: u64) -> St
                 served: true,
             }
         }
-        Err(_) => Stepping {
+        Err(_) => StepOutcome {
             reply: out_of_memory(alloc, 0),
             served: false,
         },

@@ -22,7 +22,7 @@ mod serving;
 mod statement;
 mod transaction;
 
-pub use cursor::{Cursor, Fetching, Opening, Stepping, close, fetch, open_query, step};
+pub use cursor::{Cursor, FetchOutcome, OpenOutcome, StepOutcome, close, fetch, open_query, step};
 pub use definition::{NewTable, alter, create};
 pub use inserts::insert;
 pub use query::{explain, select};

@@ -17,7 +17,7 @@ abbrev pub query_of : Cursor → Query
 query_of kept = record { cursor = kept.number; bound = kept.bound; next = kept.next }
 
 -- a cursor that is kept is open, with its view, and the parts of the extents before the next one are merged
-pub record Agrees (who : ℕ) (kept : Cursor) (now : Known) : Type 0 where
+pub record IsKept (who : ℕ) (kept : Cursor) (now : Known) : Type 0 where
   pub scan : IsScan who kept.number kept.view now
   pub asks : MayAskIn kept.bound kept.view now
   pub query : IsQuery kept.bound

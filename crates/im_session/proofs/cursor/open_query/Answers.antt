@@ -9,7 +9,7 @@ use Rattle.im_replies.specs.declared.body.Body.TheVariants.{Opened}
 use Rattle.im_replies.specs.declared.reply.Reply.{Reply}
 use Rattle.im_replies.specs.Causes.{opening_fault}
 use Rattle.im_session.specs.declared.cursor.Cursor.{Cursor}
-use Rattle.im_session.specs.inner.Cursors.{Agrees}
+use Rattle.im_session.specs.inner.Cursors.{IsKept}
 use Rattle.im_session.proofs.CursorLemmas.{agrees-opened}
 use Rattle.im_session.proofs.RestLemmas.{decide-done, rest-lacks_here, rest-refused}
 use Rattle.im_session.proofs.TableLemmas.{exists-of}
@@ -46,7 +46,7 @@ returns-in-Ok-open_cursor-clause-agrees g c = λ x is.
     let kept : Cursor = record
     { number = c.args.cursor; bound = c.args.bound; view = c.in-Ok-open_cursor.view; next = 0; part = c.in-Ok.part } in
     let same : kept ≡ x = cc in
-    subst (λ (k : Cursor). Agrees c.args.who k (g.H.Reach.known c.open_cursor.new.self)) same
+    subst (λ (k : Cursor). IsKept c.args.who k (g.H.Reach.known c.open_cursor.new.self)) same
     (agrees-opened c.args.who kept (g.H.Reach.known c.args.reach.now) (g.H.Reach.known c.open_cursor.new.self) c.in-Ok-open_cursor.ensures.ok
     c.in-Ok-open_cursor.ensures.lawful c.requires.serves c.in-Ok-open_cursor.ensures.few c.in-Ok-open_cursor.ensures.some refl c.in-Ok.ensures)
 
