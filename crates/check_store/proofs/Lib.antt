@@ -1,3 +1,4 @@
 mod OpeningLemmas
-mod TestLemmas
 mod OwnLemmas
+mod TestLemmas
+mod UnitLemmas

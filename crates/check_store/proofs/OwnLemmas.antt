@@ -10,7 +10,7 @@ use Rattle.im_history.specs.declared.task.Held.{Held}
 use Rattle.im_history.specs.declared.task.Task.{Task}
 use Rattle.im_history.specs.History.{History}
 use Rattle.im_history.specs.Legal.{IsAllowed, IsLegal}
-use Rattle.im_history.specs.Units.{IsOwn, builds, held_at, killed_by, task_at}
+use Rattle.im_history.specs.Units.{IsOwn, builds, held_at, killed_by}
 use Rattle.im_history.proofs.BuildLaws.{begun_at, held_at-build, held_at-cancel, held_at-nil, held_at-plain, held_at-switch}
 use Rattle.im_history.proofs.Laws.{IsLegal-pop}
 use Rattle.im_history.proofs.RowLaws.{each_history}

@@ -1,12 +1,15 @@
-ghost use Rattle.std.specs.Prelude.{◌≡◌, ◌+◌, ◌<◌, ◌≤◌, ◌^◌, [], ◌∷◌, slice_get, All, IfOk, IsTrue, IsSomeAnd, Some, None, is_some};
+ghost use Rattle.std.specs.Prelude.{◌≡◌, ℕ, ◌+◌, ◌<◌, ◌≤◌, ◌^◌, [], ◌∷◌, slice_get, All, IfOk, IsTrue, IsSomeAnd, Some, None, is_some};
 ghost use Rattle.std.specs.Bool.{OnTrue};
 ghost use Rattle.im_history.specs.Last.{change_of};
+ghost use Rattle.im_history.specs.declared.task.Task.{Task};
 ghost use Rattle.im_history.specs.Legal.{MayInsert};
+ghost use Rattle.im_history.specs.Units.{IsOwn};
 
 mod builds;
+mod units;
 
 use im_core::{Core, Fetched, Made};
-use im_history::{Change, Limits, Mode, OwnChanges, Refused, Shape, UnitLike, Why};
+use im_history::{Change, Limits, Mode, OwnChanges, Priority, Refused, Shape, UnitLike, Why};
 use im_values::{Column, Kind, Name, NoMemory, Row, Schema, Steps, Value, clone_row, fits};
 use std::alloc::Global;
 use std::marker::Brand;
@@ -259,7 +262,7 @@ fn numbers(alloc: Global) -> Result<Schema, NoMemory> {
 }
 
 /// Whether the first table takes a row.
-fn takes(store: &mut Core<NoUnit>, who: u32, row: &Row) -> Result<bool, Refused>
+fn takes<U: UnitLike>(store: &mut Core<U>, who: u32, row: &Row) -> Result<bool, Refused>
     requires { who < 25 }
     ensures same { store.new ≡ store.old }
     ensures takes { IfOk result (λ takes. OnTrue takes (MayInsert store.old.log 1 (row.now ∷ []))) }
@@ -271,7 +274,28 @@ fn takes(store: &mut Core<NoUnit>, who: u32, row: &Row) -> Result<bool, Refused>
     }
 }
 
-fn insert(alloc: Global, store: &mut Core<NoUnit>, who: u32, count: u64) -> Answer
+/// Lets the first table join the column store or leave it, and answers the place of the entry.
+fn set_memory<U: UnitLike>(
+    alloc: Global,
+    store: &mut Core<U>,
+    who: u32,
+    priority: Option<Priority>,
+) -> Result<u64, Refused>
+    requires { who < 25 }
+{
+    let Ok(row) = row(alloc, 1) else {
+        return Err(OUT_OF_PLACE);
+    };
+    if store.look(who)?.begun.is_some() {
+        return Err(OUT_OF_PLACE);
+    }
+    if !takes(store, who, &row)? {
+        return Err(OUT_OF_PLACE);
+    }
+    store.set_memory(who, 1, priority)
+}
+
+fn insert<U: UnitLike>(alloc: Global, store: &mut Core<U>, who: u32, count: u64) -> Answer
     requires { who < 25 }
 {
     let Ok(row) = row(alloc, 1) else {
@@ -309,14 +333,15 @@ fn stands(fetched: &Fetched, rid: u64) -> bool
     }
 }
 
-fn update<L: Ledger>(
+fn update<U: UnitLike, L: Ledger>(
     alloc: Global,
-    store: &mut Core<NoUnit>,
+    store: &mut Core<U>,
     who: u32,
     rid: u64,
     steps: &mut Steps<L>,
 ) -> Answer
     requires { who < 25 }
+    ensures owned { (holder : ℕ) (task : Task) → IsOwn store.old.log holder task → IsOwn store.new.log holder task }
 {
     let Ok(row) = row(alloc, 7) else {
         return Err(OUT_OF_PLACE);
@@ -429,7 +454,11 @@ fn take<L: Ledger>(
 }
 
 /// A store with one table of numbers, which session 1 created, and what the creation answered.
-fn stocked(alloc: Global, limits: Limits) -> Result<(Core<NoUnit>, Made), Refused>
+fn stocked<U: UnitLike>(
+    alloc: Global,
+    limits: Limits,
+    shape: Shape,
+) -> Result<(Core<U>, Made), Refused>
     requires store { limits.store ≤ 536870912 }
     requires changes { limits.changes ≤ 65536 }
 {
@@ -440,7 +469,7 @@ fn stocked(alloc: Global, limits: Limits) -> Result<(Core<NoUnit>, Made), Refuse
     if store.look(1)?.begun.is_some() {
         return Err(OUT_OF_PLACE);
     }
-    let made = store.create(1, name, schema, Shape::standard())?;
+    let made = store.create(1, name, schema, shape)?;
     Ok((store, made))
 }
 
@@ -458,7 +487,7 @@ fn answered<L: Ledger>(
     requires some { 0 < blank.parts }
 {
     let mut steps = Steps::<L>::new(blank);
-    let (mut store, _made) = stocked(alloc, limits)?;
+    let (mut store, _made) = stocked(alloc, limits, Shape::standard())?;
     let mut count = 0;
     for (who, step, answer) in cases {
         if *who >= 25 || take(alloc, &mut store, *who, *step, &mut steps) != *answer {
@@ -483,7 +512,7 @@ fn sessions_see_and_are_refused_as_the_cases_say(rt: HostRuntime) -> Result<(), 
 
 #[test]
 fn a_table_is_found_once_it_was_created(rt: HostRuntime) -> Result<(), Fail> {
-    let (mut store, made) = stocked(rt.alloc(), AMPLE)?;
+    let (mut store, made) = stocked::<NoUnit>(rt.alloc(), AMPLE, Shape::standard())?;
     assert_eq!(rt;
         made,
         Made {

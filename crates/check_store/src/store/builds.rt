@@ -1,35 +1,14 @@
 //! Tables that join the column store, and the builds of their extents.
 ghost use Rattle.std.specs.Prelude.{◌≡◌, ◌<◌};
 
-use crate::store::{AMPLE, NoUnit, OUT_OF_PLACE, insert, row, stocked, sum_of, takes};
+use crate::store::{AMPLE, NoUnit, OUT_OF_PLACE, insert, row, set_memory, stocked, sum_of, takes};
 use im_core::{Core, Offer};
-use im_history::{Priority, Refused, Why};
+use im_history::{Priority, Refused, Shape, Why};
 use im_values::Steps;
 use std::alloc::Global;
 use std::marker::Brand;
 use std::sync::ledger::{Blank, Ledger};
 use std::test::Fail;
-
-/// Lets the first table join the column store or leave it, and answers the place of the entry.
-fn set_memory(
-    alloc: Global,
-    store: &mut Core<NoUnit>,
-    who: u32,
-    priority: Option<Priority>,
-) -> Result<u64, Refused>
-    requires { who < 25 }
-{
-    let Ok(row) = row(alloc, 1) else {
-        return Err(OUT_OF_PLACE);
-    };
-    if store.look(who)?.begun.is_some() {
-        return Err(OUT_OF_PLACE);
-    }
-    if !takes(store, who, &row)? {
-        return Err(OUT_OF_PLACE);
-    }
-    store.set_memory(who, 1, priority)
-}
 
 /// Asks for a build of an extent of the first table: the number that it has, or none.
 fn build(
@@ -65,7 +44,7 @@ fn evict(alloc: Global, store: &mut Core<NoUnit>, extent: u64) -> Result<u64, Re
 
 /// The numbers of the builds that begin, one after the other, as a table of two rows joins the column store and leaves it.
 fn built(alloc: Global) -> Result<[Option<u64>; 6], Refused> {
-    let (mut store, _made) = stocked(alloc, AMPLE)?;
+    let (mut store, _made) = stocked(alloc, AMPLE, Shape::standard())?;
     let outside = build(alloc, &mut store, 0, 0)?;
     let _joined = set_memory(alloc, &mut store, 1, Some(Priority::High))?;
     let without_rows = build(alloc, &mut store, 0, 0)?;
@@ -89,7 +68,7 @@ fn an_extent_with_rows_is_built_once_at_a_time(rt: HostRuntime) -> Result<(), Fa
 
 #[test]
 fn what_is_not_there_is_not_evicted(rt: HostRuntime) -> Result<(), Fail> {
-    let (mut store, _made) = stocked(rt.alloc(), AMPLE)?;
+    let (mut store, _made) = stocked(rt.alloc(), AMPLE, Shape::standard())?;
     assert_eq!(rt;
         evict(rt.alloc(), &mut store, 0),
         Err(Refused {
@@ -130,7 +109,7 @@ fn read_twice<L: Ledger>(alloc: Global, blank: Blank) -> Result<[(u64, u64); 2],
     requires some { 0 < blank.parts }
 {
     let mut steps = Steps::<L>::new(blank);
-    let (mut store, _made) = stocked(alloc, AMPLE)?;
+    let (mut store, _made) = stocked(alloc, AMPLE, Shape::standard())?;
     let _joined = set_memory(alloc, &mut store, 1, Some(Priority::Low))?;
     let _wrote = insert(alloc, &mut store, 1, 2)?;
     let _committed = store.commit(1)?;

@@ -1,0 +1,13 @@
+use Rattle.std.proofs.Common.{refl, sym, subst}
+use Rattle.im_core.specs.Seen.{Seen}
+use Rattle.im_history.specs.declared.entry.What.TheVariants.{Evict}
+use Rattle.im_history.specs.Units.{IsOwn}
+use Rattle.check_store.proofs.UnitLemmas.{own-adds}
+use Rattle.check_store.proofs.store.units.evict.Goals as goal
+
+pub returns : goal.returns
+returns c = record {
+  owned = λ task own.
+      own-adds c.takes.new.store c.evict.new.self 0 (Evict 1 0) 0 task refl c.in_ok-evict.ensures.ok
+      (subst (λ (s : Seen). IsOwn s.log 0 task) (sym c.in_ok-takes.ensures.same) own);
+}
