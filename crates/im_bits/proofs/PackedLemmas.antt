@@ -1,9 +1,10 @@
 -- Words and the codes in them.
-use Rattle.std.proofs.Common.{◌≡◌, ℕ, zero, suc, ◌+◌, ◌*◌, ◌/◌, ◌%◌, ◌^◌, ◌<◌, ◌≤◌, List, [], ◌∷◌, ◌++◌, length, drop, get_or, slice_index, All, sym, refl, ap, ◌∙◌, arith, pow_pos, pow-add, mul_assoc, add_comm, add-mul, suc-mul, zero-mul, div-one, take, bit_or, le_trans, mul-le-mul_right, div-mul-le_self, length-take, length-take-le, get_or-drop, get_or-take, div-add-mod'}
+use Rattle.std.proofs.Common.{◌≡◌, ℕ, zero, suc, ◌+◌, ◌*◌, ◌/◌, ◌%◌, ◌^◌, ◌<◌, ◌≤◌, List, [], ◌∷◌, ◌++◌, length, drop, get_or, slice_index, All, ⊎_elim, sym, refl, ap, ◌∙◌, arith, pow_pos, pow-add, mul_assoc, add_comm, add-mul, suc-mul, zero-mul, div-one, take, bit_or, le_trans, mul-le-mul_right, div-mul-le_self, length-take, length-take-le, get_or-drop, get_or-take, div-add-mod'}
 use Rattle.std.specs.Int.{div_ceil}
 use Rattle.std.proofs.lemmas.Grind.{div_ceil_times}
 use Rattle.std.proofs.Math.Nat.{zero-div, zero-mod}
-use Rattle.std.proofs.lemmas.List.{same_lists, get_or_default, get_or_read, take_more, take_all}
+use Rattle.std.proofs.lemmas.List.{same_lists, get_or_default, get_or_past, get_or_read, take_more, take_all}
+use Rattle.std.proofs.lemmas.Bool.{cases_lt}
 use Rattle.std.proofs.lemmas.Bool.Decides.{nat_tests}
 use Rattle.std.proofs.lemmas.List.Elements.{All-head, All-tail, All-take, All-drop}
 use Rattle.std.proofs.lemmas.List.FromFn.{length-map-range_with_len, get_or-map-range_with_len}
@@ -136,19 +137,30 @@ word_of-more width codes i word code inside few fit so_far is =
       ← so_far,
     ) (omega arith)
 
--- the code at a place is found in its word
-pub code_in-words_of : (width : ℕ) (codes : List ℕ) (i : ℕ) → 0 < width → width ≤ 32 → All (λ code. code < 2 ^ width) codes → i < length codes →
+-- past the words there is no code
+pub past-words : (width n i : ℕ) → 0 < width → width ≤ 32 → words_for n width ≤ i / codes_per_word width → n ≤ i
+past-words width n i some most past =
+    ⊎_elim (λ (inside : i < n). let there = place-inside width n i some most inside in omega (arith, there, past)) (λ (over : n ≤ i). over) (cases_lt i n)
+
+-- the code at a place is found in its word, and 0 past the last one
+pub code_in-words_of : (width : ℕ) (codes : List ℕ) (i : ℕ) → 0 < width → width ≤ 32 → All (λ code. code < 2 ^ width) codes →
     code_in width (words_of width codes) i ≡ get_or codes i 0
-code_in-words_of width codes i some most fit inside =
+code_in-words_of width codes i some most fit =
     let per = codes_per_word width in
     let pos = codes_per_word-pos width some most in
     let q = i / per in
     let r = i % per in
     let low = mod_below i per pos in
-    let word = get_or-words_of width codes q 0 (place-inside width (length codes) i some most inside) in
+    ⊎_elim (λ (there : q < words_for (length codes) width).
+    let word = get_or-words_of width codes q 0 there in
     rw word (field-word_of width (share_of width codes q) r (share-fit width codes q fit)
     ∙ (get_or-take per (drop (q * per) codes) r 0 low
-    ∙ (get_or-drop (q * per) codes r 0 ∙ ap (λ k. get_or codes k 0) (div-add-mod' i per))))
+    ∙ (get_or-drop (q * per) codes r 0 ∙ ap (λ k. get_or codes k 0) (div-add-mod' i per)))))
+    (λ (past : words_for (length codes) width ≤ q).
+    let none = get_or_past (words_of width codes) q 0 (omega (arith, length-words_of width codes, past)) in
+    let over = get_or_past codes i 0 (past-words width (length codes) i some most past) in
+    rw (none, over, zero-div (2 ^ (r * width)), zero-mod (2 ^ width)) refl)
+    (cases_lt q (words_for (length codes) width))
 
 -- what was packed is read back
 pub codes_in-words_of : (width : ℕ) (codes : List ℕ) → width ≤ 32 → All (λ code. code < 2 ^ width) codes →
@@ -163,7 +175,7 @@ codes_in-words_of (suc width) codes most fit =
     same_lists _ _ (length-codes_in (suc width) (words_of (suc width) codes) (length codes)) (λ k d h.
     let inside : k < length codes = omega (arith, length-codes_in (suc width) (words_of (suc width) codes) (length codes), h) in
     get_or-codes_in (suc width) (words_of (suc width) codes) (length codes) k d inside
-    ∙ (code_in-words_of (suc width) codes k (omega arith) most fit inside ∙ get_or_default codes k 0 d inside))
+    ∙ (code_in-words_of (suc width) codes k (omega arith) most fit ∙ get_or_default codes k 0 d inside))
 
 -- without bits each code is 0
 pub get-zero : (width : ℕ) (words : List ℕ) (n : ℕ) (codes : List ℕ) (i : ℕ) → codes_in width words n ≡ codes → width ≡ 0 → i < length codes →

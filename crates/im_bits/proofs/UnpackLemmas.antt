@@ -1,9 +1,11 @@
 -- Codes unpacked one after another.
-use Rattle.std.proofs.Common.{◌≡◌, ◌≢◌, ℕ, ◌+◌, ◌-◌, ◌/◌, ◌<◌, ◌≤◌, List, length, set, get_or, ⊎_elim, sym, refl, ap, ◌∙◌, arith}
+use Rattle.std.proofs.Common.{◌≡◌, ◌≢◌, ℕ, ◌+◌, ◌-◌, ◌*◌, ◌/◌, ◌%◌, ◌^◌, ◌<◌, ◌≤◌, List, length, set, get_or, slice_index, All, ⊎_elim, sym, ap, ◌∙◌, arith, add-mul, div-add-mod'}
 use Rattle.std.proofs.lemmas.Bool.{cases_lt}
-use Rattle.std.proofs.lemmas.List.{get_or-set_same, get_or-set_other, get_or_past, length-set}
+use Rattle.std.proofs.lemmas.List.{get_or-set_same, get_or-set_other, get_or_past}
+use Rattle.std.proofs.lemmas.Nat.{div-mul-add, mod-mul-add, mod_below}
 use Rattle.im_bits.specs.Packed.{code_in, codes_in, codes_per_word, words_of}
-use Rattle.im_bits.proofs.PackedLemmas.{length-codes_in, get_or-codes_in, get-inside}
+use Rattle.im_bits.specs.inner.Unpacking.{HasCodesOf, HasFields}
+use Rattle.im_bits.proofs.PackedLemmas.{codes_in-fit, codes_per_word-pos, code_in-words_of}
 
 -- one code more is unpacked
 pub unpack-more : (out codes : List ℕ) (first k code : ℕ) → k < length out → code ≡ get_or codes (first + k) 0 →
@@ -14,23 +16,50 @@ unpack-more out codes first k code inside is before j below =
     ap (λ n. get_or (set out k code) n 0) e ∙ (get_or-set_same out k code 0 inside ∙ (is ∙ ap (λ n. get_or codes (first + n) 0) (sym e))))
     (cases_lt j k)
 
--- the code that the words have at a place is the one there
-pub read-inside : (width : ℕ) (words : List ℕ) (n : ℕ) (codes : List ℕ) (i : ℕ) → codes_in width words n ≡ codes → i < length codes →
-    code_in width words i ≡ get_or codes i 0
-read-inside width words n codes i is inside =
-    sym (get_or-codes_in width words n i 0 (omega (arith, length-codes_in width words n, ap length is))) ∙ ap (λ l. get_or l i 0) is
+-- the code that a field of a word is
+pub code_in-field : (width : ℕ) (words : List ℕ) (first j : ℕ) → j < codes_per_word width →
+    code_in width words (first * codes_per_word width + j) ≡ slice_index words first / 2 ^ (j * width) % 2 ^ width
+code_in-field width words first j low =
+    let per = codes_per_word width in
+    ap (λ q. slice_index words q / 2 ^ ((first * per + j) % per * width) % 2 ^ width) (div-mul-add first per j low)
+    ∙ ap (λ r. slice_index words first / 2 ^ (r * width) % 2 ^ width) (mod-mul-add first per j low)
+
+-- one word more is unpacked
+pub unpack-word : (width : ℕ) (words old new : List ℕ) (first k word : ℕ) →
+    HasCodesOf width words (first * codes_per_word width) (k * codes_per_word width) old → word ≡ slice_index words (first + k) →
+    HasFields width word (k * codes_per_word width) (codes_per_word width) old new →
+    HasCodesOf width words (first * codes_per_word width) ((k + 1) * codes_per_word width) new
+unpack-word width words old new first k word before is has =
+    let per = codes_per_word width in
+    let end : (k + 1) * per ≡ k * per + per = add-mul k 1 per ∙ omega arith in
+    record {
+      codes = λ i below.
+          ⊎_elim (λ (under : i < k * per). has.before i under ∙ before.codes i under)
+          (λ (over : k * per ≤ i).
+          let j = i - k * per in
+          let low : j < per = omega (arith, end, below) in
+          let at : k * per + j ≡ i = omega arith in
+          let place : (first + k) * per + j ≡ first * per + i = omega (arith, add-mul first k per, at) in
+          ap (λ n. slice_index new n) (sym at) ∙ (has.fields j low ∙ (ap (λ w. w / 2 ^ (j * width) % 2 ^ width) is
+          ∙ (sym (code_in-field width words (first + k) j low) ∙ ap (code_in width words) place))))
+          (cases_lt i (k * per));
+    }
+
+-- a code read from whole words is the one there, or 0 past the last one
+pub unpack-read : (known width : ℕ) (words : List ℕ) (n : ℕ) (codes out : List ℕ) (first per k : ℕ) → width ≡ known → 0 < known → width ≤ 32 →
+    codes_in width words n ≡ codes → words ≡ words_of width (codes_in width words n) → per ≡ codes_per_word known → k < 64 →
+    HasCodesOf known words (first / per * codes_per_word known) (codes_per_word known + 63) out →
+    slice_index out (first % per + k) ≡ get_or codes (first + k) 0
+unpack-read known width words n codes out first per k same some most is canonical share below has =
+    let fits : All (λ code. code < 2 ^ width) codes = rw (← is) (codes_in-fit width words n) in
+    let words_is : words ≡ words_of width codes = canonical ∙ ap (words_of width) is in
+    let pos : 0 < per = rw share (codes_per_word-pos known some (omega (arith, same, most))) in
+    let low = mod_below first per pos in
+    let place : first / per * codes_per_word known + (first % per + k) ≡ first + k = rw (← share) (omega (arith, div-add-mod' first per)) in
+    has.codes (first % per + k) (omega (arith, low, share, below)) ∙ (ap (code_in known words) place
+    ∙ (ap (λ w. code_in w words (first + k)) (sym same) ∙ (ap (λ ws. code_in width ws (first + k)) words_is
+    ∙ code_in-words_of width codes (first + k) (omega (arith, same, some)) most fits)))
 
 -- past the last code there is 0
 pub zero-past : (codes : List ℕ) (first k : ℕ) → length codes - first ≤ k → 0 ≡ get_or codes (first + k) 0
 zero-past codes first k past = sym (get_or_past codes (first + k) 0 (omega arith))
-
--- the word of a code, where the width is known
-pub unpack-inside : (known width : ℕ) (words : List ℕ) (n : ℕ) (codes : List ℕ) (i : ℕ) → width ≡ known → 0 < known → width ≤ 32 →
-    codes_in width words n ≡ codes → words ≡ words_of width (codes_in width words n) → i < length codes → i / codes_per_word known < length words
-unpack-inside known width words n codes i same some most is canonical inside =
-    rw (← same) (get-inside width words n codes i (codes_per_word width) is canonical (omega arith) most inside refl)
-
--- the code in it
-pub unpack-read : (known width : ℕ) (words : List ℕ) (n : ℕ) (codes : List ℕ) (i : ℕ) → width ≡ known → codes_in width words n ≡ codes → i < length codes →
-    code_in known words i ≡ get_or codes i 0
-unpack-read known width words n codes i same is inside = rw (← same) (read-inside width words n codes i is inside)

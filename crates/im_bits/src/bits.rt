@@ -1,5 +1,6 @@
 ghost use Rattle.std.specs.Prelude.{◌≡◌, ◌==◌, ◌+◌, ◌*◌, ◌/◌, ◌%◌, ◌^◌, ◌<◌, ◌≤◌, All, IfOk, length, min, take, drop, slice_index};
-ghost use Rattle.im_bits.specs.Packed.{codes_per_word, code_in, word_of, words_of, share_of, HasCodesFrom};
+ghost use Rattle.im_bits.specs.Packed.{codes_per_word, word_of, words_of, share_of, HasCodesFrom};
+ghost use Rattle.im_bits.specs.inner.Unpacking.{HasCodesOf, HasFields};
 
 use crate::size::{per_word, words_for};
 use im_values::NoMemory;
@@ -88,14 +89,14 @@ impl Bits {
         requires within { first ≤ length self.now.codes }
         ensures { HasCodesFrom self.now.codes first out.new }
     {
-        if self.len() - first < 64 {
-            self.codes_one_by_one(first, out);
-            return;
-        }
         let words = self.words.as_slice();
-        let start = first as usize;
+        let share = per_word(W);
+        let place = first as usize;
+        let mut codes = [0; 128];
+        unpack_words::<W>(words, place / share, &mut codes);
+        let skipped = place % share;
         for k in 0..64 {
-            out[k] = code_of_width::<W>(words, start + k);
+            out[k] = codes[skipped + k];
         }
     }
 
@@ -156,19 +157,55 @@ impl Bits {
     }
 }
 
-/// The code at a place, read from words of the width `W`.
+/// The word at a place, and 0 past the last one.
+fn word_at(words: &[u64], place: usize) -> u64
+    ensures { result ≡ slice_index words.now place }
+{
+    if place >= words.len() {
+        return 0;
+    }
+    words[place]
+}
+
+/// Unpacks words from one on, as many as 64 codes from any place of the first one lie in.
 #[inline(always)]
-fn code_of_width<const W: u32>(words: &[u64], place: usize) -> u32
+fn unpack_words<const W: u32>(words: &[u64], first: usize, codes: &mut [u32; 128])
     requires some { 0 < W }
     requires most { W ≤ 32 }
-    requires inside { place / codes_per_word W < length words.now }
-    ensures { result ≡ code_in W words.now place }
+    requires first { first < 2 ^ 31 }
+    ensures { HasCodesOf W words.now (first * codes_per_word W) (codes_per_word W + 63) codes.new }
 {
     let share = per_word(W);
-    field(words[place / share], place % share, W)
+    for k in 0..words_spanned(share) {
+        unpack_word::<W>(word_at(words, first + k), codes, k * share);
+    }
+}
+
+/// How many words 64 codes lie in at most, where each word has so many.
+fn words_spanned(share: usize) -> usize
+    requires some { 0 < share }
+    requires most { share ≤ 64 }
+    ensures enough { share + 63 ≤ result * share }
+    ensures least { result * share ≤ 2 * share + 62 }
+{
+    1 + 63usize.div_ceil(share)
+}
+
+/// Unpacks a word: its codes stand from a place on.
+#[inline(always)]
+fn unpack_word<const W: u32>(word: u64, codes: &mut [u32; 128], at: usize)
+    requires some { 0 < W }
+    requires most { W ≤ 32 }
+    requires room { at + codes_per_word W ≤ 128 }
+    ensures { HasFields W word at (codes_per_word W) codes.old codes.new }
+{
+    for j in 0..per_word(W) {
+        codes[at + j] = field(word, j, W);
+    }
 }
 
 /// The field of a word at a place, from the lowest on.
+#[inline(always)]
 fn field(word: u64, place: usize, width: u32) -> u32
     requires some { 0 < width }
     requires most { width ≤ 32 }

@@ -1,4 +1,4 @@
-use Rattle.std.proofs.Common.{◌≡◌, ◌<◌, length, set, arith}
+use Rattle.std.proofs.Common.{◌<◌, length, arith}
 use Rattle.std.proofs.lemmas.List.{length-set}
 use Rattle.im_bits.proofs.UnpackLemmas.{unpack-more}
 use Rattle.im_bits.proofs.bits.Bits.codes_one_by_one.Goals as goal
