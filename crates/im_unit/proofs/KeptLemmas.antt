@@ -16,7 +16,7 @@ use Rattle.im_unit.specs.inner.Kept.{count_set, spread, row_across, rows_across,
 
 -- ---- which rows are present
 
-set-more : (flags : List Bool) → count_set (true ∷ flags) ≡ 1 + count_set flags
+pub set-more : (flags : List Bool) → count_set (true ∷ flags) ≡ 1 + count_set flags
 set-more flags = sum_by-cons (λ (flag : Bool). cond flag 1 0) true flags
 
 pub count-flags : (rows : List (Option Row)) → count_set (map is_some rows) ≡ count_present rows

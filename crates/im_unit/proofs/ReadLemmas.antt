@@ -1,19 +1,20 @@
 -- Rows that are read back from columns.
-use Rattle.std.proofs.Common.{◌≡◌, ◌≢◌, ℕ, suc, ◌+◌, ◌*◌, ◌^◌, ◌<◌, ◌≤◌, Bool, true, false, if◌then◌else◌, List, [], ◌∷◌, ◌++◌, length, take, map, get_or, Option, Some, None, sym, ap, ◌∙◌, append_assoc, arith}
+use Rattle.std.proofs.Common.{refl, drop, ◌≡◌, ◌≢◌, ℕ, zero, suc, ◌+◌, ◌*◌, ◌^◌, ◌<◌, ◌≤◌, Bool, true, false, if◌then◌else◌, List, [], ◌∷◌, ◌++◌, length, take, map, get_or, Option, Some, None, sym, ap, ◌∙◌, append_assoc, arith}
 use Rattle.std.specs.Prelude.{nat_lt}
-use Rattle.std.proofs.lemmas.List.{get_or-map, length-map, map_more, map_push, take_more, take_all, length-append}
-use Rattle.std.proofs.Math.Nat.{mul-le-mul_left}
+use Rattle.std.proofs.lemmas.List.{get_or-map, length-map, map_more, map_push, length-append, append-nil, drop_all}
+use Rattle.std.proofs.Math.Nat.{mul-le-mul_left, lt_irrefl}
+use Rattle.std.proofs.Math.Seq.{drop-cons}
 use Rattle.std.proofs.lemmas.Bool.Decides.{nat_tests}
 use Rattle.std.proofs.lemmas.List.FromFn.{map-range_with_len_more}
-use Rattle.std.proofs.lemmas.List.Sums.{count_by_more_yes, count_by_more_no}
+use Rattle.std.proofs.lemmas.List.Sums.{count_by-le-length, count_by_more_yes, count_by_more_no}
 use mir.Val.{bool_byte}
 use Rattle.im_values.specs.declared.value.Value.{Value}
 use Rattle.im_values.specs.declared.value.Value.TheVariants.{Null}
 use Rattle.im_values.specs.Stretches.{cut}
 use Rattle.im_values.proofs.ForCallers.{cut-push}
 use Rattle.im_history.specs.Rows.{Row}
-use Rattle.im_unit.specs.inner.Kept.{HaveLength, count_set, row_across, rows_across, spread}
-use Rattle.im_unit.proofs.KeptLemmas.{at-spread, length-spread, before-present}
+use Rattle.im_unit.specs.inner.Kept.{HaveLength, Takes, count_set, row_across, rows_across, spread}
+use Rattle.im_unit.proofs.KeptLemmas.{set-more}
 
 -- ---- bits
 
@@ -80,43 +81,37 @@ block-fits count width few narrow =
 
 -- ---- rows, put where a flag is set
 
-pub spot-inside : (flags : List Bool) (rows : List Row) (place spot : ℕ) (b : Bool) → count_set flags ≡ length rows → b ≡ get_or flags place false →
-    spot ≡ count_set (take place flags) → b ≡ true → spot < length rows
-spot-inside flags rows place spot b all is at e = omega (arith, before-present flags place (sym is ∙ e), all, at)
+-- one place more has its row, or none
+pub spread-more : (flags : List Bool) (place : ℕ) (b : Bool) (rows next later : List Row) (slot : Option Row) (slots longer : List (Option Row)) →
+    place < length flags → b ≡ get_or flags place false → Takes b next slot later → longer ≡ slots ++ slot ∷ [] →
+    slots ++ spread (drop place flags) next ≡ spread flags rows → longer ++ spread (drop (place + 1) flags) later ≡ spread flags rows
+spread-more flags place b rows next later slot slots longer inside is takes more so_far =
+    let behind : place + 1 ≡ suc place = omega arith in
+    ap (λ (l : List (Option Row)). l ++ spread (drop (place + 1) flags) later) more
+    ∙ (append_assoc slots (slot ∷ []) (spread (drop (place + 1) flags) later)
+    ∙ (ap (λ (l : List (Option Row)). slots ++ l) (sym (takes.spreads (drop (place + 1) flags)))
+    ∙ (ap (λ (l : List Bool). slots ++ spread l next) (ap (λ (f : Bool). f ∷ drop (place + 1) flags) is ∙ sym (drop-cons flags place false inside ∙ ap (λ (n : ℕ). get_or flags place false ∷ drop n flags) (sym behind))) ∙ so_far)))
 
-pub spot-more : (flags : List Bool) (place spot one : ℕ) (b : Bool) → place < length flags → b ≡ get_or flags place false →
-    spot ≡ count_set (take place flags) →
-    one ≡ bool_byte b → spot + one ≡ count_set (take (place + 1) flags)
-spot-more flags place spot one b inside is at e =
-    ap (λ (n : ℕ). spot + n) e ∙ (by b at ∙ sym (count-more flags place b inside (sym is)))
-  where
-    by : (b : Bool) → spot ≡ count_set (take place flags) →
-        spot + bool_byte b ≡ (if b then count_set (take place flags) + 1 else count_set (take place flags))
-    by true at = omega (arith, at)
-    by false at = omega (arith, at)
+-- all places have theirs
+pub spread-all : (flags : List Bool) (place : ℕ) (rows next : List Row) (slots : List (Option Row)) → length flags ≤ place →
+    slots ++ spread (drop place flags) next ≡ spread flags rows → slots ≡ spread flags rows
+spread-all flags place rows next slots past so_far =
+    sym (append-nil slots) ∙ (ap (λ (l : List Bool). slots ++ spread l next) (sym (drop_all place flags past)) ∙ so_far)
 
-pub one-at-most : (b : Bool) → bool_byte b ≤ 1
-one-at-most true = omega arith
-one-at-most false = omega arith
+-- ---- every flag is set
 
-pub spread-more : (flags : List Bool) (rows : List Row) (place spot : ℕ) (b : Bool) (row : Option Row) (slots longer : List (Option Row)) →
-    place < length flags → count_set flags ≡ length rows → b ≡ get_or flags place false → row ≡ (if b then Some (get_or rows spot []) else None) →
-    spot ≡ count_set (take place flags) → slots ≡ take place (spread flags rows) → longer ≡ slots ++ row ∷ [] →
-    longer ≡ take (place + 1) (spread flags rows)
-spread-more flags rows place spot b row slots longer inside all is row_is at so_far more =
-    let slot : row ≡ get_or (spread flags rows) place None =
-    row_is
-    ∙ (ap (λ (n : ℕ). if b then Some (get_or rows n []) else None) at
-    ∙ (ap (λ (f : Bool). if f then Some (get_or rows (count_set (take place flags)) []) else None) is
-    ∙ sym (at-spread flags rows place (omega (arith, all))))) in
-    more
-    ∙ (ap (λ (l : List (Option Row)). l ++ row ∷ []) so_far
-    ∙ (ap (λ (r : Option Row). take place (spread flags rows) ++ r ∷ []) slot
-    ∙ sym (take_more (spread flags rows) place None (omega (arith, length-spread flags rows, inside)))))
+pub full-at : (flags : List Bool) (i : ℕ) → count_set flags ≡ length flags → i < length flags → true ≡ get_or flags i false
+full-at [] i all inside = elim inside [ ]
+full-at (true ∷ flags) zero all inside = refl
+full-at (true ∷ flags) (suc i) all inside = full-at flags i (omega (arith, all, set-more flags)) (omega (arith, inside))
+full-at (false ∷ flags) i all inside = absurd (lt_irrefl (length flags) (omega (arith, all, count_by-le-length (λ (flag : Bool). flag) flags)))
 
-pub spread-all : (flags : List Bool) (rows : List Row) (place : ℕ) (slots : List (Option Row)) → length flags ≤ place →
-    slots ≡ take place (spread flags rows) → slots ≡ spread flags rows
-spread-all flags rows place slots past so_far = so_far ∙ take_all place (spread flags rows) (omega (arith, length-spread flags rows, past))
+pub full-before : (flags : List Bool) (i : ℕ) → count_set flags ≡ length flags → i ≤ length flags → i ≡ count_set (take i flags)
+full-before flags zero all inside = refl
+full-before [] (suc i) all inside = elim inside [ ]
+full-before (true ∷ flags) (suc i) all inside =
+    omega (arith, full-before flags i (omega (arith, all, set-more flags)) (omega (arith, inside)), set-more (take i flags))
+full-before (false ∷ flags) (suc i) all inside = absurd (lt_irrefl (length flags) (omega (arith, all, count_by-le-length (λ (flag : Bool). flag) flags)))
 
 -- ---- bits that are counted
 

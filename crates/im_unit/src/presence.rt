@@ -1,4 +1,5 @@
 ghost use Rattle.std.specs.Prelude.{◌≡◌, ◌+◌, ◌*◌, ◌^◌, ◌<◌, ◌≤◌, All, IfOk, length, map, is_some, nat_lt, take, get_or, false};
+ghost use Rattle.std.specs.Bool.{OnTrue};
 ghost use Rattle.std.specs.Int.{div_ceil};
 ghost use Rattle.im_unit.specs.inner.Kept.{count_set};
 
@@ -87,19 +88,32 @@ impl Presence {
         self.count
     }
 
+    /// Whether every row is present.
+    fn is_full(&self) -> bool
+        ensures { OnTrue result (count_set self.now ≡ length self.now) }
+    {
+        self.count == self.bits.len()
+    }
+
     /// Whether the row at a place is present.
     pub fn is_present(&self, place: u64) -> bool
         requires { place < length self.now }
         ensures { result ≡ get_or self.now place false }
     {
+        if self.is_full() {
+            return true;
+        }
         self.bits.get(place) != 0
     }
 
-    /// How many rows before a place are present. It costs the places before.
+    /// How many rows before a place are present. It costs the places before, unless every row is present.
     pub fn before(&self, place: u64) -> u64
         requires { place ≤ length self.now }
         ensures { result ≡ count_set (take place self.now) }
     {
+        if self.is_full() {
+            return place;
+        }
         count_before(&self.bits, place)
     }
 

@@ -1,12 +1,14 @@
 ghost use Rattle.std.specs.Prelude.{◌≡◌, ◌+◌, ◌*◌, ◌^◌, ◌<◌, ◌≤◌, ◌++◌, IfOk, OnOk, length, map, get_or, true, None, Some, [], if◌then◌else◌};
 ghost use Rattle.std.specs.Arc.{arc_value};
-ghost use Rattle.im_unit.specs.inner.Kept.{HaveLength, count_set, row_across, rows_across, spread};
+ghost use Rattle.std.specs.Vec.Iter.{into_iter_items};
+ghost use Rattle.im_unit.specs.inner.Kept.{HaveLength, Takes, row_across, rows_across, spread};
 
 use crate::presence::Presence;
 use im_column::Column;
-use im_values::{NoMemory, Row, Value, clone_row, rows_of_block};
+use im_values::{NoMemory, Row, Value, rows_of_block};
 use std::alloc::Global;
 use std::sync::Arc;
+use std::vec::IntoIter;
 
 /// Puts the values at a place of columns behind others.
 fn push_row(
@@ -58,36 +60,27 @@ pub fn rows_of(alloc: Global, columns: &[Arc<Column>], count: u64) -> Result<Vec
 }
 
 /// The row that comes next, where a place has one.
-fn row_where(
-    alloc: Global,
-    is_present: bool,
-    rows: &[Row],
-    spot: usize,
-) -> Result<Option<Row>, NoMemory>
-    requires { is_present ≡ true → spot < length rows.now }
-    ensures { IfOk result (λ row. row ≡ (if is_present then Some (get_or rows.now spot []) else None)) }
+fn next_where(is_present: bool, rows: &mut IntoIter<Row>) -> Option<Row>
+    ensures { Takes is_present (into_iter_items rows.old) result (into_iter_items rows.new) }
 {
     if !is_present {
-        return Ok(None);
+        return None;
     }
-    Ok(Some(clone_row(alloc, &rows[spot])?))
+    rows.next()
 }
 
 /// Rows, put one after another where a row is present.
 pub fn spread_rows(
     alloc: Global,
     presence: &Presence,
-    rows: &[Row],
+    rows: Vec<Row>,
 ) -> Result<Vec<Option<Row>>, NoMemory>
-    requires { count_set presence.now ≡ length rows.now }
-    ensures { IfOk result (λ spread_out. spread_out.items ≡ spread presence.now rows.now) }
+    ensures { IfOk result (λ spread_out. spread_out.items ≡ spread presence.now rows.items) }
 {
     let mut slots = Vec::with_capacity(alloc, presence.len() as usize)?;
-    let mut spot = 0;
+    let mut rows = rows.into_iter();
     for place in 0..presence.len() {
-        let is_present = presence.is_present(place);
-        slots.push(row_where(alloc, is_present, rows, spot)?)?;
-        spot += usize::from(is_present);
+        slots.push(next_where(presence.is_present(place), &mut rows))?;
     }
     Ok(slots)
 }

@@ -112,7 +112,7 @@ impl ColumnUnit {
         ensures { IfOk result (λ rows. rows.items ≡ self.now.rows) }
     {
         let rows = rows_of(alloc, self.columns.as_slice(), self.presence.count())?;
-        spread_rows(alloc, &self.presence, rows.as_slice())
+        spread_rows(alloc, &self.presence, rows)
     }
 
     /// The columns: the values of the rows that are present, in order of row numbers.

@@ -20,6 +20,10 @@ spread (false ∷ flags) rows = None ∷ spread flags rows
 spread (true ∷ flags) [] = None ∷ spread flags []
 spread (true ∷ flags) (row ∷ rows) = Some row ∷ spread flags rows
 
+-- a place takes its row from those that come next, where its flag is set
+pub record Takes (flag : Bool) (old : List Row) (slot : Option Row) (new : List Row) : Type 0 where
+  pub spreads : (flags : List Bool) → spread (flag ∷ flags) old ≡ slot ∷ spread flags new
+
 -- the row across columns at a place
 abbrev pub row_across : List (List Value) → ℕ → Row
 row_across columns spot = map (λ column. get_or column spot Null) columns

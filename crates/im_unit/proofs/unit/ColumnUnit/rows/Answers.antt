@@ -1,9 +1,8 @@
-use Rattle.std.proofs.Common.{◌∙◌, length, map, sym, ap}
+use Rattle.std.proofs.Common.{◌∙◌, map, ap}
 use Rattle.std.specs.Arc.{arc_value}
 use Rattle.std.proofs.lemmas.Result.{IfOk-weaker}
 use Rattle.im_history.specs.Units.{Content}
 use Rattle.im_unit.specs.inner.Kept.{spread}
-use Rattle.im_unit.proofs.KeptLemmas.{length-across}
 use Rattle.im_unit.proofs.UnitLemmas.{spread-kept}
 use Rattle.im_unit.proofs.unit.ColumnUnit.rows.Goals as goal
 
@@ -14,18 +13,12 @@ rows_of-requires c = record {
   few_columns = rw c.as_slice.ensures.value c.self.invariant.1;
 }
 
-pub spread_rows-requires : goal.spread_rows-requires
-spread_rows-requires c =
-    let u = c.self.inside in
-    sym (ap length (c.as_slice-2.ensures.value ∙ c.in_ok-rows.ensures)
-    ∙ (length-across (map arc_value c.as_slice.result.now) c.count.result ∙ c.count.ensures.count))
-
 pub returns : goal.returns
 returns c =
     let u = c.self.inside in
     IfOk-weaker c.spread_rows.result _ _
     (λ rows is. is
-    ∙ (ap (spread u.presence) (c.as_slice-2.ensures.value ∙ c.in_ok-rows.ensures)
+    ∙ (ap (spread u.presence) c.in_ok-rows.ensures
     ∙ (spread-kept u.presence (map arc_value c.as_slice.result.now) (map arc_value u.columns.items) c.count.result
     (ap (map arc_value) c.as_slice.ensures.value) c.count.ensures.count
     ∙ ap (λ (k : Content). k.rows) c.self.view_is))) c.spread_rows.ensures
