@@ -21,9 +21,15 @@ enum Shape {
 ///
 /// NULL counts for 1 byte, a number for 9, a text of n bytes for 3 + n, a word of codes and a run for 8. Where two forms take the
 /// same bytes, plain values come before codes, and codes before runs.
-const CASES: [(&[(Cell, u32)], Shape, u64); 19] = [
+const CASES: [(&[(Cell, u32)], Shape, u64); 23] = [
     (&[], Plain, 0),
     (&[(Null, 1)], Coded(0), 0),
+    (&[(Null, 2)], Coded(0), 0),
+    (
+        &[(Int(10), 1), (Int(20), 1), (Int(30), 1), (Int(50), 1)],
+        Plain,
+        36,
+    ),
     (&[(Int(10), 1), (Int(20), 1), (Int(30), 1)], Plain, 27),
     (&[(Int(30), 1), (Int(20), 1), (Int(10), 1)], Plain, 27),
     (&[(Int(1), 1), (Null, 1), (Int(2), 1)], Plain, 19),
@@ -31,11 +37,13 @@ const CASES: [(&[(Cell, u32)], Shape, u64); 19] = [
     (&[(Null, 9), (Int(7), 1)], Coded(1), 17),
     (&[(Int(7), 64)], Coded(1), 17),
     (&[(Int(7), 65)], Runs(1), 17),
+    (&[(Int(7), 100)], Runs(1), 17),
     (&[(Null, 70), (Int(5), 70)], Runs(2), 25),
     (&[(Int(5), 64), (Null, 64)], Coded(1), 25),
     (&[(Text(b"abcde"), 2)], Plain, 16),
     (&[(Text(b"abcdef"), 2)], Coded(1), 17),
     (&[(Text(b""), 3)], Plain, 9),
+    (&[(Text(b"ab"), 3)], Coded(1), 13),
     (&[(Text(b"b"), 1), (Int(2), 1), (Null, 1)], Plain, 14),
     (&[(Text(b"2"), 30), (Int(2), 30), (Null, 30)], Coded(2), 37),
     (&[(Text(b"fifteen letters"), 40), (Null, 1)], Coded(1), 26),
@@ -150,6 +158,55 @@ fn a_column_has_codes_of_the_least_width(rt: HostRuntime) -> Result<(), Fail> {
                 assert!(rt; agrees(&column, values.as_slice()), "{count} of {series:?}");
             }
         }
+    }
+    Ok(())
+}
+
+/// In which order the numbers of a list come: 1 and 2 in turn, or so many that rise from 1 and then NULLs.
+#[derive(Clone, Copy, Debug)]
+enum Order {
+    InTurn,
+    RisingThenNull(u32),
+}
+
+/// The number at a place, or 0 for NULL.
+fn number_at(order: Order, place: u32) -> u32 {
+    match order {
+        Order::InTurn => place % 2 + 1,
+        Order::RisingThenNull(rising) if place < rising => place.wrapping_add(1),
+        Order::RisingThenNull(_) => 0,
+    }
+}
+
+/// So many numbers and NULLs in an order.
+fn ordered(alloc: Global, order: Order, count: u32) -> Result<Vec<Value>, NoMemory>
+    ensures { IfOk result (λ values. All IsShort values.items) }
+{
+    let mut values = Vec::new(alloc);
+    for place in 0..count {
+        values.push(nth(alloc, Series::Numbers(1), number_at(order, place))?)?;
+    }
+    Ok(values)
+}
+
+/// 128 numbers count for 1,152 bytes, their codes have 8 bits, and 129 runs count for 1,032: as much as so many NULLs.
+const ORDERED: [(Order, u32, Shape, u64); 4] = [
+    (Order::InTurn, 64, Coded(2), 34),
+    (Order::RisingThenNull(128), 1159, Plain, 2183),
+    (Order::RisingThenNull(128), 1160, Plain, 2184),
+    (Order::RisingThenNull(128), 1161, Runs(129), 2184),
+];
+
+#[test]
+fn plain_values_come_before_as_many_bytes_of_runs(rt: HostRuntime) -> Result<(), Fail> {
+    let alloc = rt.alloc();
+    for (order, count, wanted, bytes) in ORDERED {
+        let values = ordered(alloc, order, count)?;
+        assert!(rt; values.len() < 1_000_000);
+        let column = built(alloc, values.as_slice())?;
+        let found = (shape_of(&column), column.bytes());
+        assert_eq!(rt; found, (wanted, bytes), "{count} of {order:?}");
+        assert!(rt; agrees(&column, values.as_slice()), "{count} of {order:?}");
     }
     Ok(())
 }
