@@ -1,4 +1,5 @@
 ghost use Rattle.std.specs.Prelude.{◌≡◌, ◌<◌, map, slice_index};
+ghost use Rattle.std.specs.Str.{bytes_eq};
 ghost use Rattle.im_syntax.specs.Keywords as keywords;
 ghost use Rattle.im_syntax.specs.inner.Slots as slots;
 
@@ -171,12 +172,27 @@ fn slot_of(word: &[u8]) -> usize
     (second * 11 + last * 19 + word.len()) % 256
 }
 
+/// Whether a word has these letters. The letters are few, so a plain loop is the fastest.
+fn is_spelled(letters: &[u8], word: &[u8]) -> bool
+    ensures { result ≡ bytes_eq letters.now word.now }
+{
+    if letters.len() != word.len() {
+        return false;
+    }
+    for (i, letter) in letters.iter().enumerate() {
+        if *letter != word[i] {
+            return false;
+        }
+    }
+    true
+}
+
 /// The keyword at a place of a table, where the word has its letters.
 fn keyword_at(table: &[(&[u8], Keyword)], place: usize, word: &[u8]) -> Option<Keyword>
     ensures { result ≡ slots.keyword_at (map (λ entry. (entry.0.now, entry.1)) table.entry.now) place word.now }
 {
     match table.get(place) {
-        Some((letters, keyword)) if *letters == word => Some(*keyword),
+        Some((letters, keyword)) if is_spelled(letters, word) => Some(*keyword),
         _ => None,
     }
 }
