@@ -1,2 +1,3 @@
 mod FieldLemmas
 mod PageLemmas
+pub mod Inserted

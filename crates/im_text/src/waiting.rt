@@ -1,4 +1,5 @@
 ghost use Rattle.std.specs.Prelude.{◌≡◌, ◌++◌, [], IfOk, OnOk, OnErr};
+ghost use Rattle.im_replies.specs.declared.body.Body.TheVariants.{Inserted};
 ghost use Rattle.im_text.specs.Replies.{reply_text};
 ghost use Rattle.im_text.specs.inner.Pages.{IsReady, Says};
 
@@ -6,11 +7,15 @@ use crate::bodies::put_body;
 use crate::page::Page;
 use im_replies::Body;
 use im_values::NoMemory;
+use itoa::Buffer;
 use std::alloc::Global;
 use std::marker::Model;
 
 /// The most bytes of a text for which there is always room behind a piece.
 const SHORT: usize = 4096;
+
+/// Room for the record of rows that were inserted.
+const RECORD: usize = 80;
 
 /// The text of replies that waits to be written.
 ///
@@ -21,6 +26,8 @@ const SHORT: usize = 4096;
 pub struct Waiting {
     page: Page,
     text: Vec<u8>,
+    /// The record of rows that were inserted, before it is put behind the text.
+    record: Vec<u8>,
     piece: usize,
 }
 
@@ -43,6 +50,37 @@ fn put_on_page(page: &mut Page, line: u64, body: &Body) -> Result<(), NoMemory>
     page.turn_to(line);
     put_body(page, body)?;
     page.flush()
+}
+
+/// Puts the record of rows that were inserted at the end of a text, by no page: none of its fields calls for quotes.
+fn put_inserted(text: &mut Vec<u8>, line: u64, rows: u64, first: u64) -> Result<(), NoMemory>
+    ensures { OnOk result (text.new.items ≡ text.old.items ++ reply_text line (Inserted rows first)) }
+{
+    let mut digits = Buffer::new();
+    text.extend_from_slice(digits.format(line).as_bytes())?;
+    text.extend_from_slice(b",inserted,")?;
+    text.extend_from_slice(digits.format(rows).as_bytes())?;
+    text.push(b',')?;
+    text.extend_from_slice(digits.format(first).as_bytes())?;
+    text.push(b'\n')?;
+    Ok(())
+}
+
+/// The same, or nothing where there is no memory for all of it.
+fn put_inserted_behind(
+    text: &mut Vec<u8>,
+    line: u64,
+    rows: u64,
+    first: u64,
+    record: &mut Vec<u8>,
+) -> Result<(), NoMemory>
+    ensures ok { OnOk result (text.new.items ≡ text.old.items ++ reply_text line (Inserted rows first)) }
+    ensures err { OnErr result (text.new.items ≡ text.old.items) }
+{
+    record.clear();
+    put_inserted(record, line, rows, first)?;
+    text.extend_from_slice(record.as_slice())?;
+    Ok(())
 }
 
 /// Puts the reply to a line at the end of a page, and its text behind what waits.
@@ -83,6 +121,7 @@ impl Waiting {
         Ok(Waiting {
             page: Page::over(Vec::with_capacity(alloc, room)?),
             text: Vec::with_capacity(alloc, room)?,
+            record: Vec::with_capacity(alloc, RECORD)?,
             piece,
         })
     }
@@ -94,8 +133,8 @@ impl Waiting {
         self.text.as_slice()
     }
 
-    /// Puts the reply to a line behind what waits. It fails out of memory alone.
-    pub fn put_reply(&mut self, alloc: Global, line: u64, body: &Body) -> Result<(), NoMemory>
+    /// Puts the reply to a line behind what waits, by the page.
+    fn put_by_page(&mut self, alloc: Global, line: u64, body: &Body) -> Result<(), NoMemory>
         ensures ok { OnOk result (self.new ≡ self.old ++ reply_text line body.now) }
         ensures err { OnErr result (self.new ≡ self.old) }
     {
@@ -104,6 +143,19 @@ impl Waiting {
             renew(&mut self.page, alloc, room_for(self.piece));
         }
         put
+    }
+
+    /// Puts the reply to a line behind what waits. It fails out of memory alone.
+    pub fn put_reply(&mut self, alloc: Global, line: u64, body: &Body) -> Result<(), NoMemory>
+        ensures ok { OnOk result (self.new ≡ self.old ++ reply_text line body.now) }
+        ensures err { OnErr result (self.new ≡ self.old) }
+    {
+        match body {
+            Body::Inserted { rows, first } => {
+                put_inserted_behind(&mut self.text, line, *rows, *first, &mut self.record)
+            }
+            _ => self.put_by_page(alloc, line, body),
+        }
     }
 
     /// Lets go of all that waits, and of room past a piece and a short text.
