@@ -1,3 +1,4 @@
 pub mod Texts
 pub mod Fits
 pub mod Rounds
+pub mod Capitals

@@ -1,4 +1,4 @@
-ghost use Rattle.std.specs.Prelude.{◌≡◌, ◌+◌, ◌-◌, ◌*◌, ◌^◌, ◌≤◌, min, drop, length, map};
+ghost use Rattle.std.specs.Prelude.{◌≡◌, ◌+◌, ◌-◌, ◌*◌, ◌^◌, ◌≤◌, ◌<◌, min, take, drop, length, map, IfSome, IfNone};
 ghost use Rattle.std.specs.Char.{is_ascii_digit, to_ascii_uppercase};
 ghost use Rattle.im_lex.specs.Bytes as bytes_of;
 ghost use Rattle.im_lex.specs.inner.Pieces as pieces;
@@ -8,17 +8,6 @@ pub fn is_blank(byte: u8) -> bool
     ensures { result ≡ bytes_of.is_blank byte }
 {
     byte == b' ' || byte == b'\t' || byte == b'\r'
-}
-
-/// What goes on in a word: a letter, a digit, `_`, `$` or `#`.
-pub fn is_word_part(byte: u8) -> bool
-    ensures { result ≡ bytes_of.is_word_part byte }
-{
-    byte.is_ascii_alphabetic()
-        || byte.is_ascii_digit()
-        || byte == b'_'
-        || byte == b'$'
-        || byte == b'#'
 }
 
 /// The bytes behind so many.
@@ -39,16 +28,52 @@ pub fn first(bytes: &[u8]) -> u8
     }
 }
 
-/// The longest prefix of bytes that go on in a word.
-pub fn word_run(bytes: &[u8]) -> &[u8]
-    ensures { result.now ≡ bytes_of.run bytes_of.is_word_part bytes.now }
+/// The capital of each byte that goes on in a word, and 0 for each other byte.
+static CAPITALS: [u8; 256] = [
+    0, 0, 0, 0, 0, 0, 0, 0, 0, 0, 0, 0, 0, 0, 0, 0, 0, 0, 0, 0, 0, 0, 0, 0, 0, 0, 0, 0, 0, 0, 0, 0,
+    0, 0, 0, 35, 36, 0, 0, 0, 0, 0, 0, 0, 0, 0, 0, 0, 48, 49, 50, 51, 52, 53, 54, 55, 56, 57, 0, 0,
+    0, 0, 0, 0, 0, 65, 66, 67, 68, 69, 70, 71, 72, 73, 74, 75, 76, 77, 78, 79, 80, 81, 82, 83, 84,
+    85, 86, 87, 88, 89, 90, 0, 0, 0, 0, 95, 0, 65, 66, 67, 68, 69, 70, 71, 72, 73, 74, 75, 76, 77,
+    78, 79, 80, 81, 82, 83, 84, 85, 86, 87, 88, 89, 90, 0, 0, 0, 0, 0, 0, 0, 0, 0, 0, 0, 0, 0, 0,
+    0, 0, 0, 0, 0, 0, 0, 0, 0, 0, 0, 0, 0, 0, 0, 0, 0, 0, 0, 0, 0, 0, 0, 0, 0, 0, 0, 0, 0, 0, 0, 0,
+    0, 0, 0, 0, 0, 0, 0, 0, 0, 0, 0, 0, 0, 0, 0, 0, 0, 0, 0, 0, 0, 0, 0, 0, 0, 0, 0, 0, 0, 0, 0, 0,
+    0, 0, 0, 0, 0, 0, 0, 0, 0, 0, 0, 0, 0, 0, 0, 0, 0, 0, 0, 0, 0, 0, 0, 0, 0, 0, 0, 0, 0, 0, 0, 0,
+    0, 0, 0, 0, 0, 0, 0, 0, 0, 0, 0, 0, 0, 0, 0, 0, 0, 0, 0, 0, 0, 0, 0,
+];
+
+/// What an entry of the table says of its byte.
+fn by_entry(entry: u8) -> Option<u8>
+    ensures { result ≡ pieces.by_entry entry }
+{
+    if entry == 0 { None } else { Some(entry) }
+}
+
+/// What a byte is in a word, with a letter as its capital.
+#[tactic(auto, using(crate::proofs::Capitals::capital_in_table))]
+fn capital_of(byte: u8) -> Option<u8>
+    ensures { result ≡ pieces.capital_of byte }
+{
+    by_entry(CAPITALS[usize::from(byte)])
+}
+
+/// Writes the word at the front into a buffer, with its letters as capitals, and says how long it is. There is none where
+/// the buffer is too short for it.
+pub fn put_word(buffer: &mut [u8], bytes: &[u8]) -> Option<usize>
+    ensures whole { IfSome result (λ count. count ≡ length (bytes_of.run bytes_of.is_word_part bytes.now)) }
+    ensures within { IfSome result (λ count. count ≤ length buffer.new) }
+    ensures put { IfSome result (λ count. take count buffer.new ≡ map to_ascii_uppercase (bytes_of.run bytes_of.is_word_part bytes.now)) }
+    ensures long { IfNone result (length buffer.old < length (bytes_of.run bytes_of.is_word_part bytes.now)) }
 {
     for (i, byte) in bytes.iter().enumerate() {
-        if !is_word_part(*byte) {
-            return &bytes[..i];
+        let Some(capital) = capital_of(*byte) else {
+            return Some(i);
+        };
+        if i >= buffer.len() {
+            return None;
         }
+        buffer[i] = capital;
     }
-    bytes
+    Some(bytes.len())
 }
 
 /// The longest prefix of digits.
@@ -100,16 +125,6 @@ pub fn plain_len(bytes: &[u8]) -> usize
         }
     }
     bytes.len()
-}
-
-/// Writes the letters as capitals into a buffer of their length.
-pub fn put_capitals(buffer: &mut [u8], letters: &[u8])
-    requires { length buffer.old ≡ length letters.now }
-    ensures { buffer.new ≡ map to_ascii_uppercase letters.now }
-{
-    for (i, letter) in letters.iter().enumerate() {
-        buffer[i] = letter.to_ascii_uppercase();
-    }
 }
 
 /// Whether a comment stands at the front.

@@ -4,7 +4,7 @@ ghost use Rattle.im_lex.specs.Bytes as bytes_of;
 ghost use Rattle.im_lex.specs.inner.Pieces as pieces;
 
 use crate::bytes::{
-    behind, capped_value, digit_run, first, is_blank, only_ends, plain_len, put_capitals, word_run,
+    behind, capped_value, digit_run, first, is_blank, only_ends, plain_len, put_word,
 };
 use crate::front::{Front, Piece};
 use im_syntax::{Keyword, Sign, Token};
@@ -22,18 +22,16 @@ fn word_token(alloc: Global, word: &[u8]) -> Result<Token, NoMemory>
     }
 }
 
-/// A word, by its whole run of bytes.
-fn word(alloc: Global, run: &[u8]) -> Result<Front, NoMemory>
-    ensures { IfOk result (λ f. f ≡ bytes_of.word_front run.now) }
+/// A word, as long as it goes on.
+fn word(alloc: Global, bytes: &[u8]) -> Result<Front, NoMemory>
+    ensures { IfOk result (λ f. f ≡ bytes_of.word_front (bytes_of.run bytes_of.is_word_part bytes.now)) }
 {
-    if run.len() > MOST_WORD_BYTES {
-        return Ok(Front::Bad);
-    }
     let mut buffer = [0; MOST_WORD_BYTES];
-    let capitals = &mut buffer[..run.len()];
-    put_capitals(capitals, run);
-    let token = word_token(alloc, capitals)?;
-    Ok(Front::Lexed(token, run.len().saturating_sub(1)))
+    let Some(count) = put_word(&mut buffer, bytes) else {
+        return Ok(Front::Bad);
+    };
+    let token = word_token(alloc, &buffer[..count])?;
+    Ok(Front::Lexed(token, count.saturating_sub(1)))
 }
 
 /// A number without a sign.
@@ -211,7 +209,7 @@ fn front_at(alloc: Global, byte: u8, rest: &[u8], bytes: &[u8]) -> Result<Front,
         return Ok(Front::Blank);
     }
     if byte.is_ascii_alphabetic() {
-        return word(alloc, word_run(bytes));
+        return word(alloc, bytes);
     }
     if byte.is_ascii_digit() {
         return Ok(positive(digit_run(bytes)));
