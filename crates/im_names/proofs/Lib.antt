@@ -8,3 +8,4 @@ pub mod FitLemmas
 pub mod RowLemmas
 pub mod ServeLemmas
 pub mod TargetLemmas
+pub mod Fitting

@@ -1,1 +1,2 @@
 pub mod TargetNumbers
+pub mod FittingLiterals

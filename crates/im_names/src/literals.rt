@@ -1,6 +1,7 @@
 ghost use Rattle.std.specs.Prelude.{◌≡◌, IfOk, OnOk, IfErr, None};
 ghost use Rattle.im_names.specs.Faults.{IsCause};
 ghost use Rattle.im_names.specs.Literals as spec;
+ghost use Rattle.im_names.specs.inner.FittingLiterals as fitting;
 
 use crate::fault::NameFault;
 use im_syntax::Lit;
@@ -61,13 +62,37 @@ fn check_length(alloc: Global, column: &Column, lit: &Lit) -> Result<(), NameFau
     }
 }
 
-/// A literal that a column may hold.
-pub fn check_stored(alloc: Global, column: &Column, lit: &Lit) -> Result<(), NameFault>
+/// What is wrong with a literal for a column, if anything is.
+#[inline(never)]
+fn check_kind_and_length(alloc: Global, column: &Column, lit: &Lit) -> Result<(), NameFault>
     ensures ok { OnOk result (spec.stored (spec.value_of lit.now) column.now ≡ None) }
     ensures err { IfErr result (IsCause (spec.stored (spec.value_of lit.now) column.now)) }
 {
     check_compared(alloc, column, lit)?;
     check_length(alloc, column, lit)
+}
+
+/// Whether a literal fits a column of a kind.
+fn fits(kind: Kind, lit: &Lit) -> bool
+    ensures { result ≡ fitting.fits kind lit.now }
+{
+    match (kind, lit) {
+        (Kind::Int, Lit::Int(_) | Lit::Null) | (Kind::Text(_), Lit::Null) => true,
+        (Kind::Text(limit), Lit::Text(text)) => text.bytes().len() <= usize::from(limit),
+        (Kind::Int, Lit::Text(_)) | (Kind::Text(_), Lit::Int(_)) => false,
+    }
+}
+
+/// A literal that a column may hold. Most fit, and are told by one test.
+#[tactic(auto, using(crate::proofs::Fitting::fits_stored))]
+pub fn check_stored(alloc: Global, column: &Column, lit: &Lit) -> Result<(), NameFault>
+    ensures ok { OnOk result (spec.stored (spec.value_of lit.now) column.now ≡ None) }
+    ensures err { IfErr result (IsCause (spec.stored (spec.value_of lit.now) column.now)) }
+{
+    if fits(column.kind, lit) {
+        return Ok(());
+    }
+    check_kind_and_length(alloc, column, lit)
 }
 
 /// A column that may be added up.
