@@ -1,10 +1,11 @@
 ghost use Rattle.std.specs.Prelude.{◌≡◌, true, pos, [], ◌∷◌, IfOk};
+ghost use Rattle.std.specs.List.{AllByRecursion};
 ghost use Rattle.im_values.specs.declared.value.Value.TheVariants.{Int as AnInt};
 ghost use Rattle.im_syntax.specs.BoundFits.{TestFits, FilterFits, agree as may_meet};
 
 use im_eval::holds;
-use im_syntax::{Filter, Test, TestForm, Tests};
-use im_values::{Cmp, List, Name, Row, Truth, Value};
+use im_syntax::{Choices, Filter, Test, TestForm, Tests};
+use im_values::{Cmp, Name, Row, Truth, Value, compare};
 use std::alloc::Global;
 use std::test::Fail;
 
@@ -158,23 +159,34 @@ fn between_holds_both_its_ends(rt: HostRuntime) -> Result<(), Fail> {
     Ok(())
 }
 
-/// The truth of `left [NOT] IN (first, second)`.
-fn within(
-    alloc: Global,
-    left: Sample,
-    negated: bool,
-    first: Sample,
-    second: Sample,
-) -> Result<Truth, Fail> {
+fn values(alloc: Global, samples: &[Sample]) -> Result<Vec<Value>, Fail> {
+    let mut values = Vec::with_capacity(alloc, samples.len())?;
+    for sample in samples {
+        values.push(value(alloc, *sample)?)?;
+    }
+    Ok(values)
+}
+
+/// Values each of which may be compared with this one.
+fn check_all_kinds(left: &Value, values: &[Value]) -> Result<(), Fail>
+    ensures { IfOk result (λ _. AllByRecursion (λ value. may_meet left.now value ≡ true) values.now) }
+{
+    for value in values {
+        check_kinds(left, value)?;
+    }
+    Ok(())
+}
+
+/// The truth of `left [NOT] IN (choices)`.
+fn within(alloc: Global, left: Sample, negated: bool, choices: &[Sample]) -> Result<Truth, Fail> {
     let left = value(alloc, left)?;
-    let (first, second) = (value(alloc, first)?, value(alloc, second)?);
-    check_kinds(&left, &first)?;
-    check_kinds(&left, &second)?;
+    let choices = values(alloc, choices)?;
+    check_all_kinds(&left, choices.as_slice())?;
     let row = Row::of(vec![in alloc; left]?);
     let form = TestForm::Within {
         column: 0,
         negated,
-        values: List::of(vec![in alloc; first, second]?),
+        values: Choices::of(alloc, choices)?,
     };
     holds_alone(alloc, Test::of(form), &row)
 }
@@ -183,22 +195,125 @@ fn within(
 fn in_is_an_or_of_equalities(rt: HostRuntime) -> Result<(), Fail> {
     let (five, six, seven) = (Sample::Int(5), Sample::Int(6), Sample::Int(7));
     let (ab, b, null) = (Sample::Text(b"ab"), Sample::Text(b"b"), Sample::Null);
-    let cases: [(Sample, Sample, Sample, Truth, Truth); 10] = [
+    let cases: [(Sample, Sample, Sample, Truth, Truth); 12] = [
         (five, five, seven, YES, NO),
         (seven, five, seven, YES, NO),
+        (seven, seven, five, YES, NO),
         (six, five, seven, NO, YES),
         (six, null, seven, UNKNOWN, UNKNOWN),
         (six, seven, null, UNKNOWN, UNKNOWN),
         (seven, null, seven, YES, NO),
         (seven, seven, null, YES, NO),
+        (six, null, null, UNKNOWN, UNKNOWN),
         (null, five, seven, UNKNOWN, UNKNOWN),
         (ab, b, ab, YES, NO),
         (ab, b, b, NO, YES),
     ];
     for (left, first, second, plain, negated) in cases {
-        assert_eq!(rt; within(rt.alloc(), left, false, first, second)?, plain);
-        assert_eq!(rt; within(rt.alloc(), left, true, first, second)?, negated);
+        assert_eq!(rt; within(rt.alloc(), left, false, &[first, second])?, plain);
+        assert_eq!(rt; within(rt.alloc(), left, true, &[first, second])?, negated);
     }
+    Ok(())
+}
+
+/// The truth of IN by a walk through the values.
+fn walked(alloc: Global, left: Sample, choices: &[Sample]) -> Result<Truth, Fail> {
+    let left = value(alloc, left)?;
+    let choices = values(alloc, choices)?;
+    let mut truth = Truth::No;
+    for choice in choices.as_slice() {
+        truth = truth.or(compare(&left, Cmp::Eq, choice));
+    }
+    Ok(truth)
+}
+
+const NUMBERS: [Sample; 16] = [
+    Sample::Null,
+    Sample::Int(-9),
+    Sample::Int(-8),
+    Sample::Int(-7),
+    Sample::Int(-1),
+    Sample::Int(0),
+    Sample::Int(1),
+    Sample::Int(3),
+    Sample::Int(4),
+    Sample::Int(5),
+    Sample::Int(9),
+    Sample::Int(39),
+    Sample::Int(40),
+    Sample::Int(98),
+    Sample::Int(99),
+    Sample::Int(100),
+];
+
+const SOME_NUMBERS: [Sample; 9] = [
+    Sample::Int(40),
+    Sample::Int(-7),
+    Sample::Int(3),
+    Sample::Int(4),
+    Sample::Int(3),
+    Sample::Int(99),
+    Sample::Int(0),
+    Sample::Int(40),
+    Sample::Int(-8),
+];
+
+const NUMBERS_AND_NULL: [Sample; 6] = [
+    Sample::Int(9),
+    Sample::Null,
+    Sample::Int(-7),
+    Sample::Int(5),
+    Sample::Null,
+    Sample::Int(4),
+];
+
+const TEXTS: [Sample; 10] = [
+    Sample::Null,
+    Sample::Text(b""),
+    Sample::Text(b"A"),
+    Sample::Text(b"B"),
+    Sample::Text(b"a"),
+    Sample::Text(b"aa"),
+    Sample::Text(b"ab"),
+    Sample::Text(b"abc"),
+    Sample::Text(b"b"),
+    Sample::Text(b"ba"),
+];
+
+const SOME_TEXTS: [Sample; 6] = [
+    Sample::Text(b"b"),
+    Sample::Text(b"ab"),
+    Sample::Text(b"B"),
+    Sample::Text(b"a"),
+    Sample::Text(b"ab"),
+    Sample::Text(b"abc"),
+];
+
+const TEXTS_AND_NULL: [Sample; 3] = [Sample::Text(b"b"), Sample::Null, Sample::Text(b"a")];
+
+/// Whether IN and NOT IN of each of these are what the walk gives.
+fn all_agree(alloc: Global, lefts: &[Sample], choices: &[Sample]) -> Result<bool, Fail> {
+    for left in lefts {
+        let truth = walked(alloc, *left, choices)?;
+        if within(alloc, *left, false, choices)? != truth
+            || within(alloc, *left, true, choices)? != truth.negated()
+        {
+            return Ok(false);
+        }
+    }
+    Ok(true)
+}
+
+#[test]
+fn in_agrees_with_a_walk_through_its_values(rt: HostRuntime) -> Result<(), Fail> {
+    let alloc = rt.alloc();
+    assert!(rt; all_agree(alloc, &NUMBERS, &[])?);
+    assert!(rt; all_agree(alloc, &NUMBERS, &[Sample::Int(4)])?);
+    assert!(rt; all_agree(alloc, &NUMBERS, &[Sample::Null])?);
+    assert!(rt; all_agree(alloc, &NUMBERS, &SOME_NUMBERS)?);
+    assert!(rt; all_agree(alloc, &NUMBERS, &NUMBERS_AND_NULL)?);
+    assert!(rt; all_agree(alloc, &TEXTS, &SOME_TEXTS)?);
+    assert!(rt; all_agree(alloc, &TEXTS, &TEXTS_AND_NULL)?);
     Ok(())
 }
 

@@ -2,7 +2,7 @@ ghost use Rattle.std.specs.Prelude.{◌≡◌, ◌<◌, length};
 ghost use Rattle.im_syntax.specs.BoundFits.{FilterFits, TestsFit, TestFits, value_at};
 ghost use Rattle.im_eval.specs.Holds as spec;
 
-use im_syntax::{Filter, Test, TestForm, Tests};
+use im_syntax::{Choices, Filter, Test, TestForm, Tests};
 use im_values::{Cmp, Row, Truth, Value, compare};
 
 /// The truth of a condition on a row, by SQL's three-valued logic.
@@ -46,17 +46,19 @@ fn between(value: &Value, low: &Value, high: &Value) -> Truth
     compare(value, Cmp::Ge, low).and(compare(value, Cmp::Le, high))
 }
 
-fn within(value: &Value, choices: &[Value]) -> Truth
+/// IN without a walk through its values: a look-up, and whether NULL is one of them.
+fn within(value: &Value, choices: &Choices) -> Truth
     ensures { result ≡ spec.within_truth value.now choices.now }
 {
-    let mut truth = Truth::No;
-    for choice in choices {
-        truth = truth.or(compare(value, Cmp::Eq, choice));
-        if truth == Truth::Yes {
-            return truth;
-        }
+    if choices.is_empty() {
+        return Truth::No;
     }
-    truth
+    match value {
+        Value::Null => Truth::Unknown,
+        _ if choices.has(value) => Truth::Yes,
+        _ if choices.has_null() => Truth::Unknown,
+        _ => Truth::No,
+    }
 }
 
 #[cycle(condition)]
@@ -79,7 +81,7 @@ fn test_holds(test: &Test, row: &[Value]) -> Truth
             column,
             negated,
             values,
-        } => with_not(*negated, within(value_in(row, *column), values.items())),
+        } => with_not(*negated, within(value_in(row, *column), values)),
         TestForm::Not(test) => test_holds(test, row).negated(),
         TestForm::Nest(filter) => some_hold(filter, row),
     }

@@ -8,8 +8,8 @@ ghost use Rattle.im_names.specs.Conditions as spec;
 use crate::columns::{check_known, number_of};
 use crate::fault::NameFault;
 use crate::literals::{check_compared, value_of};
-use im_syntax::{Cond, Conj, Filter, Lit, Term, TermForm, Test, TestForm, Tests};
-use im_values::{List, Name, NoMemory, Schema, Value};
+use im_syntax::{Choices, Cond, Conj, Filter, Lit, Term, TermForm, Test, TestForm, Tests};
+use im_values::{Name, NoMemory, Schema, Value};
 use std::alloc::Global;
 
 // ---- names
@@ -82,7 +82,7 @@ fn bind_values(
     schema: &Schema,
     column: &Name,
     lits: &[Lit],
-) -> Result<List<Value>, NameFault>
+) -> Result<Choices, NameFault>
     ensures ok { IfOk result (λ xs. Passes
         (spec.values_fault schema.now (map (spec.behind column.now) lits.now))
         (xs ≡ map value lits.now)) }
@@ -93,7 +93,7 @@ fn bind_values(
     for lit in lits {
         values.push(bind_value(alloc, schema, number, lit)?)?;
     }
-    Ok(List::of(values))
+    Ok(Choices::of(alloc, values)?)
 }
 
 #[cycle(filter)]

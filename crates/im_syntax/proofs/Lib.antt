@@ -1,3 +1,4 @@
 pub mod ConditionParts
 pub mod Slots
 pub mod SpellLists
+mod ChoicesLemmas

@@ -1,4 +1,5 @@
 pub mod Keywords
+pub mod Choices
 pub mod Condition
 pub mod Forms
 pub mod inner

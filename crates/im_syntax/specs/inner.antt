@@ -2,3 +2,4 @@ pub mod ConditionCode
 pub mod ConditionFalls
 pub mod FormFalls
 pub mod Slots
+pub mod Ordered

@@ -11,6 +11,7 @@
 #![tactic(auto)]
 
 mod bound;
+mod choices;
 mod condition;
 mod keyword;
 pub mod limits;
@@ -28,6 +29,7 @@ mod token;
 mod word;
 
 pub use bound::{Bound, Item, Key};
+pub use choices::Choices;
 pub use condition::{
     Cond, CondOf, Conj, ConjOf, Filter, FormOf, Term, TermForm, TermOf, Test, TestForm, Tests,
 };

@@ -1,10 +1,10 @@
 -- How a condition is kept where a contract compares it: one tree of numbers for each.
 use Rattle.std.specs.Prelude.{◌≡◌, ℕ}
-use Rattle.std.specs.Coded.{Coded, coded_bool, coded_list}
+use Rattle.std.specs.Coded.{Coded, coded_bool}
 use base.Stored.{Gv, gnil, gnum, gcons}
 use Rattle.std.proofs.Common.{ap, refl, arith}
 use Rattle.im_values.specs.declared.comparison.Cmp.{Cmp}
-use Rattle.im_syntax.specs.Condition.{TermOf, negation, nested, comparison, null_test, between, within, ConjOf, no_term, and_term, CondOf, no_conj, or_conj}
+use Rattle.im_syntax.specs.Condition.{TermTree, negation, nested, comparison, null_test, between, within, ConjTree, no_term, and_term, CondTree, no_conj, or_conj}
 
 abbrev pub left : Gv → Gv
 left gnil = gnil
@@ -21,9 +21,9 @@ number gnil = 0
 number (gnum n) = n
 number (gcons a b) = 0
 
-module _ {C V : Type 0} (c : Coded C) (m : Coded Cmp) (v : Coded V) where
+module _ {C V L : Type 0} (c : Coded C) (m : Coded Cmp) (v : Coded V) (l : Coded L) where
   abbrev mutual
-    pub term_code : TermOf C V → Gv
+    pub term_code : TermTree C V L → Gv
     term_code (negation t) = gcons (gnum 0) (term_code t)
     term_code (nested t) = gcons (gnum 1) (cond_code t)
     term_code (comparison column cmp value) = gcons (gnum 2) (gcons (c.code column) (gcons (m.code cmp) (v.code value)))
@@ -31,18 +31,18 @@ module _ {C V : Type 0} (c : Coded C) (m : Coded Cmp) (v : Coded V) where
     term_code (between column negated low high) =
         gcons (gnum 4) (gcons (c.code column) (gcons (coded_bool.code negated) (gcons (v.code low) (v.code high))))
     term_code (within column negated values) =
-        gcons (gnum 5) (gcons (c.code column) (gcons (coded_bool.code negated) ((coded_list v).code values)))
+        gcons (gnum 5) (gcons (c.code column) (gcons (coded_bool.code negated) (l.code values)))
 
-    pub conj_code : ConjOf C V → Gv
+    pub conj_code : ConjTree C V L → Gv
     conj_code no_term = gnil
     conj_code (and_term t ts) = gcons (term_code t) (conj_code ts)
 
-    pub cond_code : CondOf C V → Gv
+    pub cond_code : CondTree C V L → Gv
     cond_code no_conj = gnil
     cond_code (or_conj t ts) = gcons (conj_code t) (cond_code ts)
 
   mutual
-    pub term_inj : (x y : TermOf C V) → term_code x ≡ term_code y → x ≡ y
+    pub term_inj : (x y : TermTree C V L) → term_code x ≡ term_code y → x ≡ y
     term_inj (negation x) (negation y) p = ap negation (term_inj x y (ap right p))
     term_inj (nested x) (nested y) p = ap nested (cond_inj x y (ap right p))
     term_inj (comparison a x b) (comparison a2 x2 b2) p = λ i.
@@ -64,26 +64,26 @@ module _ {C V : Type 0} (c : Coded C) (m : Coded Cmp) (v : Coded V) where
         within
         (c.inj a a2 (ap (λ g. left (right g)) p) i)
         (coded_bool.inj n n2 (ap (λ g. left (right (right g))) p) i)
-        ((coded_list v).inj vs vs2 (ap (λ g. right (right (right g))) p) i)
+        (l.inj vs vs2 (ap (λ g. right (right (right g))) p) i)
     term_inj x y p = absurd (omega (arith, ap (λ g. number (left g)) p))
 
-    pub conj_inj : (x y : ConjOf C V) → conj_code x ≡ conj_code y → x ≡ y
+    pub conj_inj : (x y : ConjTree C V L) → conj_code x ≡ conj_code y → x ≡ y
     conj_inj no_term no_term p = refl
     conj_inj no_term (and_term y ys) p = absurd cc
     conj_inj (and_term x xs) no_term p = absurd cc
     conj_inj (and_term x xs) (and_term y ys) p = λ i. and_term (term_inj x y (ap left p) i) (conj_inj xs ys (ap right p) i)
 
-    pub cond_inj : (x y : CondOf C V) → cond_code x ≡ cond_code y → x ≡ y
+    pub cond_inj : (x y : CondTree C V L) → cond_code x ≡ cond_code y → x ≡ y
     cond_inj no_conj no_conj p = refl
     cond_inj no_conj (or_conj y ys) p = absurd cc
     cond_inj (or_conj x xs) no_conj p = absurd cc
     cond_inj (or_conj x xs) (or_conj y ys) p = λ i. or_conj (conj_inj x y (ap left p) i) (cond_inj xs ys (ap right p) i)
 
-  abbrev pub coded_term : Coded (TermOf C V)
+  abbrev pub coded_term : Coded (TermTree C V L)
   coded_term = record { code = term_code; inj = term_inj }
 
-  abbrev pub coded_conj : Coded (ConjOf C V)
+  abbrev pub coded_conj : Coded (ConjTree C V L)
   coded_conj = record { code = conj_code; inj = conj_inj }
 
-  abbrev pub coded_cond : Coded (CondOf C V)
+  abbrev pub coded_cond : Coded (CondTree C V L)
   coded_cond = record { code = cond_code; inj = cond_inj }

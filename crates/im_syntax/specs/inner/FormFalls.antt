@@ -7,7 +7,7 @@ use Rattle.im_syntax.specs.declared.condition.CondOf.TheDeep.{deep-FormOf}
 use Rattle.im_syntax.specs.Condition.{term_size}
 use Rattle.im_syntax.specs.Forms.{term_of_form}
 
-pub form_falls : {C V : Type 0} → (t : FormOf C V) → max (deep-FormOf C V t) 0 ≤ term_size (term_of_form t)
+pub form_falls : {C V L : Type 0} → (t : FormOf C V L) → max (deep-FormOf C V L t) 0 ≤ term_size (term_of_form t)
 form_falls (form.Not t) = omega arith
 form_falls (form.Nest c) = omega arith
 form_falls (form.Compare column cmp value) = omega arith
