@@ -1,44 +1,36 @@
 -- Lines over cursors that a session keeps.
-use Rattle.std.proofs.Common.{◌≡◌, ℕ, ◌+◌, ◌*◌, ◌<◌, ◌≤◌, min, Bool, true, false, if◌then◌else◌, [], Option, Some, sym, ap, ◌∙◌, subst, arith}
+use Rattle.std.proofs.Common.{◌≡◌, ℕ, ◌+◌, ◌*◌, ◌<◌, ◌≤◌, min, Bool, true, false, [], sym, ap, ◌∙◌, subst, arith}
 use Rattle.std.specs.Prelude.{nat_lt}
 use Rattle.std.proofs.lemmas.Bool.Decides.{nat_tests}
 use Rattle.im_group.specs.Partials.{CanMerge, Parts, merged, partial}
 use Rattle.im_history.specs.declared.entry.What.TheVariants.{Open}
 use Rattle.im_history.specs.declared.view.View.{View}
 use Rattle.im_history.specs.Commits.{scn}
-use Rattle.im_history.specs.Cursors.{Opened, cursor_at, is_cursor_open}
+use Rattle.im_history.specs.Cursors.{is_cursor_open}
 use Rattle.im_history.specs.History.{History}
 use Rattle.im_history.specs.Legal.{IsLawful}
 use Rattle.im_names.specs.Fitting.{OfTable, QueryServes}
 use Rattle.im_history.specs.Tables.{tables}
 use Rattle.im_history.specs.Views.{seen_by}
-use Rattle.im_plan.specs.Plan.{End, Plan}
+use Rattle.im_plan.specs.Plan.{End}
 use Rattle.im_reach.specs.Sides.{Added, Known, speaks}
 use Rattle.im_scan.specs.Pinned.{seen_in, seen_to}
 use Rattle.im_scan.proofs.ForCallers.{can-merge-seen, merged-seen, seen_by-later, seen_to-none}
 use Rattle.im_session.specs.declared.cursor.Cursor.{Cursor}
-use Rattle.im_session.specs.inner.Cursors.{IsKept, cursor_after, query_of, served_reply_of, step_outcome}
+use Rattle.im_session.specs.Cursors.{IsSound, query_of}
+use Rattle.im_session.specs.inner.Cursors.{IsKept, cursor_after, served_reply_of, step_outcome}
 use Rattle.im_session.specs.inner.Rests.{IsRest}
 use Rattle.im_session.proofs.RestLemmas.{rest-end, rest-lacks, rest-look}
-use Rattle.im_session.specs.inner.Scans.{Went}
+use Rattle.im_session.specs.inner.Scans.{IsScan, Longer, Went}
 use Rattle.im_session.proofs.OpeningLemmas.{HasOpened, added-asks, added-scan, present-same}
-use Rattle.im_session.proofs.ScanLemmas.{asks-went, found-went, scan-went}
+use Rattle.im_session.proofs.ScanLemmas.{asks-longer, found-went, longer-went, scan-went, view-longer}
 use Rattle.im_session.proofs.TableLemmas.{exists-of}
-use Rattle.im_replies.specs.declared.body.Body.TheVariants.{End as AtEnd}
 use Rattle.im_replies.specs.declared.reply.Reply.{Reply}
 use Rattle.im_replies.specs.declared.served.Served.{Served}
-use Rattle.im_statements.specs.Cursors.{over, over_cursor, step, step_reply}
+use Rattle.im_statements.specs.Cursors.{step_query, step_reply}
 use Rattle.im_statements.specs.Scans.{mark_at}
-use Rattle.im_statements.specs.Turns.{answer_at, look}
-use Rattle.im_statements.specs.Outcomes.{Outcome, Query, Replied, State, Steps, query_at, said}
+use Rattle.im_statements.specs.Outcomes.{Replied, Steps, said}
 use Rattle.im_values.specs.declared.limits.TheConstants.{MOST_ROWS}
-
--- what a line does over a cursor that is kept
-pub over-kept : (state : State) (who : ℕ) (kept : Cursor) (now : Known) (on : Query → View → Plan Outcome) → IsKept who kept now
-    → query_at state kept.number ≡ Some (query_of kept) → over_cursor state who now.log kept.number on ≡ on (query_of kept) kept.view
-over-kept state who kept now on agrees is =
-    ap (λ (q : Option Query). over kept.number now.log q (cursor_at now.log who kept.number) on) is
-    ∙ ap (λ (o : Option Opened). over kept.number now.log (Some (query_of kept)) o on) agrees.scan.opened
 
 -- a cursor that was opened just now is kept with no extent served
 pub agrees-opened : (who : ℕ) (kept : Cursor) (old middle : Known)
@@ -46,33 +38,46 @@ pub agrees-opened : (who : ℕ) (kept : Cursor) (old middle : Known)
     → IsLawful middle.limits middle.log → OfTable (tables old.log) kept.bound.table (QueryServes kept.bound) → kept.view.rows ≤ MOST_ROWS
     → 1 ≤ kept.view.per → kept.next ≡ 0 → kept.part ≡ partial kept.bound [] → IsKept who kept middle
 agrees-opened who kept old middle added lawful of few some first none = record {
-  scan = added-scan who kept.number kept.bound.table old middle kept.view added
-      (exists-of old.log kept.bound.table (QueryServes kept.bound) of) few some;
-  asks = added-asks who kept.number kept.bound.table old middle kept.view added kept.bound lawful of;
-  query = of.is.query;
-  next = omega (arith, first);
-  part =
-      none
-      ∙ ap (partial kept.bound)
-      (sym (ap (seen_to middle.log kept.view) first ∙ seen_to-none middle.log kept.view));
+  scan = scan;
+  sound = record {
+    sees = scan.sees;
+    asks = added-asks who kept.number kept.bound.table old middle kept.view added kept.bound lawful of;
+    query = of.is.query;
+    next = omega (arith, first);
+    part =
+        none
+        ∙ ap (partial kept.bound)
+        (sym (ap (seen_to middle.log kept.view) first ∙ seen_to-none middle.log kept.view));
+  };
 }
+  where
+    scan : IsScan who kept.number kept.view middle
+    scan = added-scan who kept.number kept.bound.table old middle kept.view added
+        (exists-of old.log kept.bound.table (QueryServes kept.bound) of) few some
 
--- a view sees the same rows in its first extents once others went on
-seen_to-went : (old new : Known) (view : View) (extents : ℕ) → view.scn ≤ scn old.log → Went old new
+-- a view sees the same rows in its first extents later
+seen_to-longer : (old new : Known) (view : View) (extents : ℕ) → view.scn ≤ scn old.log → Longer old new
     → seen_to new.log view extents ≡ seen_to old.log view extents
-seen_to-went old new view extents known went =
+seen_to-longer old new view extents known longer =
     present-same (seen_by new.log view) (seen_by old.log view) 0 (min (extents * view.per) view.rows)
     (λ rid.
-    ap (λ (h : History). seen_by h view rid) went.after.log ∙ seen_by-later old.log went.after.between view rid known)
+    ap (λ (h : History). seen_by h view rid) longer.log ∙ seen_by-later old.log longer.more view rid known)
+
+-- what is kept of a cursor holds later
+pub sound-longer : (kept : Cursor) (old new : Known) → Longer old new → IsSound kept old → IsSound kept new
+sound-longer kept old new longer sound = record {
+  sees = view-longer kept.view old new longer sound.sees;
+  asks = asks-longer kept.bound kept.view old new longer sound.asks;
+  query = sound.query;
+  next = sound.next;
+  part = sound.part ∙ ap (partial kept.bound) (sym (seen_to-longer old new kept.view kept.next sound.sees.known longer));
+}
 
 -- a cursor that is kept agrees once others went on
 pub agrees-went : (who : ℕ) (kept : Cursor) (old new : Known) → speaks old.side who ≡ true → Went old new → IsKept who kept old → IsKept who kept new
 agrees-went who kept old new mine went agrees = record {
   scan = scan-went who kept.number kept.view old new mine went agrees.scan;
-  asks = asks-went kept.bound kept.view old new went agrees.asks;
-  query = agrees.query;
-  next = agrees.next;
-  part = agrees.part ∙ ap (partial kept.bound) (sym (seen_to-went old new kept.view kept.next agrees.scan.known went));
+  sound = sound-longer kept old new (longer-went old new went) agrees.sound;
 }
 
 -- a cursor that took the part of its next extent agrees
@@ -83,10 +88,13 @@ agrees-served who kept part old new mine went agrees more part_is =
     agrees-went who (record kept { next = kept.next + 1; part = merged kept.part part }) old new mine went
     (record {
       scan = agrees.scan;
-      asks = agrees.asks;
-      query = agrees.query;
-      next = omega (arith, more);
-      part = merged-seen kept.bound old.log kept.view kept.next kept.part part agrees.part part_is;
+      sound = record {
+        sees = agrees.sound.sees;
+        asks = agrees.sound.asks;
+        query = agrees.sound.query;
+        next = omega (arith, more);
+        part = merged-seen kept.bound old.log kept.view kept.next kept.part part agrees.sound.part part_is;
+      };
     })
 
 -- and if it may have taken it, or not
@@ -102,35 +110,25 @@ agrees-after who false kept after part old new mine went agrees more part_is is 
 pub agrees-merges : (who : ℕ) (kept : Cursor) (part : Parts) (old : Known) → IsKept who kept old
     → part ≡ partial kept.bound (seen_in old.log kept.view kept.next) → CanMerge kept.part part
 agrees-merges who kept part old agrees part_is =
-    can-merge-seen kept.bound old.log kept.view kept.next kept.part part (let few = agrees.scan.few in omega (arith, few)) agrees.part part_is
-
--- what a STEP does where an extent is left, and where none is
-abbrev pub step_at : ℕ → History → Query → View → Plan Outcome
-step_at cursor at query view =
-    if nat_lt query.next view.extents
-    then look (λ here. End (Replied (step_reply (mark_at here view query.bound.filter query.next)) (Steps cursor)))
-    else answer_at at (AtEnd cursor)
+    can-merge-seen kept.bound old.log kept.view kept.next kept.part part (let few = agrees.scan.sees.few in omega (arith, few)) agrees.sound.part part_is
 
 less : (n m : ℕ) → n < m → nat_lt n m ≡ true
 less n m within = grind (arith, nat_tests)
 
 -- one was served, or memory ran out
-pub step-serves : (who : ℕ) (served : Bool) (kept : Cursor) (mark : Served) (old new : Known) (state : State) (reply : Reply)
-    → speaks old.side who ≡ true → is_cursor_open old.log who 0 ≡ false → Went old new → IsKept who kept old
-    → query_at state kept.number ≡ Some (query_of kept) → kept.next < kept.view.extents
+pub step-serves : (who : ℕ) (served : Bool) (kept : Cursor) (mark : Served) (old new : Known) (reply : Reply)
+    → speaks old.side who ≡ true → is_cursor_open old.log who 0 ≡ false → Went old new → kept.next < kept.view.extents
     → mark ≡ mark_at new.log kept.view kept.bound.filter kept.next → reply ≡ served_reply_of served mark
-    → IsRest who 0 old (step state who old.log kept.number) (step_outcome kept.number reply served) new
-step-serves who true kept mark old new state reply mine shut went agrees is more mark_is reply_is =
-    subst (λ (p : Plan Outcome). IsRest who 0 old p (Replied reply (Steps kept.number)) new)
-    (sym (over-kept state who kept old (step_at kept.number old.log) agrees is))
-    (rw (less kept.next kept.view.extents more)
+    → IsRest who 0 old (step_query old.log (query_of kept)) (step_outcome kept.number reply served) new
+step-serves who true kept mark old new reply mine shut went more mark_is reply_is =
+    rw (less kept.next kept.view.extents more)
     (rest-look who 0 old new new (λ at. at ≡ new.log)
     (λ here. End (Replied (step_reply (mark_at here kept.view kept.bound.filter kept.next)) (Steps kept.number)))
     (Replied reply (Steps kept.number)) (found-went old new went)
     (rest-end who 0 new (End (Replied (step_reply (mark_at new.log kept.view kept.bound.filter kept.next)) (Steps kept.number)))
     (Replied reply (Steps kept.number))
     (ap (λ (m : Served). End (Replied (step_reply m) (Steps kept.number))) (sym mark_is)
-    ∙ ap (λ (r : Reply). End (Replied r (Steps kept.number))) (sym reply_is)))))
-step-serves who false kept mark old new state reply mine shut went agrees is more mark_is reply_is =
-    subst (λ (r : Reply). IsRest who 0 old (step state who old.log kept.number) (said r) new) (sym reply_is)
-    (rest-lacks who 0 old new (λ at. at ≡ new.log) (step state who old.log kept.number) mine shut (found-went old new went))
+    ∙ ap (λ (r : Reply). End (Replied r (Steps kept.number))) (sym reply_is))))
+step-serves who false kept mark old new reply mine shut went more mark_is reply_is =
+    subst (λ (r : Reply). IsRest who 0 old (step_query old.log (query_of kept)) (said r) new) (sym reply_is)
+    (rest-lacks who 0 old new (λ at. at ≡ new.log) (step_query old.log (query_of kept)) mine shut (found-went old new went))

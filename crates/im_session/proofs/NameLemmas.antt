@@ -14,9 +14,10 @@ use Rattle.im_history.proofs.Laws.{begun-push, opened-push}
 use Rattle.im_names.specs.declared.fault.NameFault.{NameFault}
 use Rattle.im_names.specs.declared.fault.NameFault.TheVariants.{NoMemory}
 use Rattle.im_names.specs.declared.resolved.Resolved.{Resolved}
-use Rattle.im_names.specs.Faults.{unless}
+use Rattle.im_names.specs.declared.resolved.Resolved.TheVariants as resolved
+use Rattle.im_names.specs.Faults.{formed, unless}
 use Rattle.im_names.specs.Lookups.{of_table, table_called}
-use Rattle.im_names.specs.Statements.{answer}
+use Rattle.im_names.specs.Statements.{answer, query_answer}
 use Rattle.im_plan.specs.Plan.{End, Plan}
 use Rattle.im_reach.specs.Sides.{Added, Found, Known, speaks}
 use Rattle.im_replies.specs.declared.body.Body.TheVariants.{Error}
@@ -57,6 +58,53 @@ defines-answer ts _ e = absurd cc
 -- a definition resolves to one
 pub definition-resolves : (ts : List TableInfo) (s : Stmt) (r : Resolved) → is_definition s ≡ true → answer ts s ≡ Ok r → defines r ≡ true
 definition-resolves ts s r definition is = subst Defines is (defines-answer ts s definition)
+
+-- an answer that defines none, where it is one
+abbrev Other : Result Resolved NameFault → Type 0
+Other (Ok r) = defines r ≡ false
+Other (Err fault) = Unit {0}
+
+other-unless : (fault : Option NameFault) (r : Resolved) → defines r ≡ false → Other (unless fault r)
+other-unless None r e = e
+other-unless (Some fault) r e = tt
+
+other-formed : {A : Type 0} (form : A → Resolved) → ((value : A) → defines (form value) ≡ false) → (r : Result A NameFault) → Other (formed form r)
+other-formed form each (Ok value) = each value
+other-formed form each (Err fault) = tt
+
+other-of_table : (o : Option TableInfo) (name : List ℕ) (on : TableInfo → Result Resolved NameFault) → ((table : TableInfo) → Other (on table))
+    → Other (of_table o name on)
+other-of_table None name on each = tt
+other-of_table (Some table) name on each = each table
+
+other-answer : (ts : List TableInfo) (s : Stmt) → is_definition s ≡ false → Other (answer ts s)
+other-answer ts (stmt.Select q) e = other-formed resolved.Select (λ bound. refl) (query_answer ts q)
+other-answer ts (stmt.Explain q) e = other-formed resolved.Explain (λ bound. refl) (query_answer ts q)
+other-answer ts (stmt.OpenFor cursor q) e = other-formed (resolved.OpenFor cursor) (λ bound. refl) (query_answer ts q)
+other-answer ts (stmt.Insert name names tuples) e = other-of_table (table_called ts name) name _ (λ table. other-unless _ _ refl)
+other-answer ts (stmt.Update name sets cond) e = other-of_table (table_called ts name) name _ (λ table. other-unless _ _ refl)
+other-answer ts (stmt.Delete name cond) e = other-of_table (table_called ts name) name _ (λ table. other-unless _ _ refl)
+other-answer ts (stmt.Evict name extent) e = other-of_table (table_called ts name) name _ (λ table. refl)
+other-answer ts (stmt.Create name columns block extent memory) e = absurd cc
+other-answer ts (stmt.AlterMemory name memory) e = absurd cc
+other-answer ts (stmt.AlterNoMemory name) e = absurd cc
+other-answer ts stmt.SetReadOnly e = refl
+other-answer ts stmt.SetSerializable e = refl
+other-answer ts stmt.SetCommitted e = refl
+other-answer ts stmt.Commit e = refl
+other-answer ts stmt.Rollback e = refl
+other-answer ts (stmt.Step cursor) e = refl
+other-answer ts (stmt.Fetch cursor) e = refl
+other-answer ts (stmt.Close cursor) e = refl
+other-answer ts stmt.Run e = refl
+other-answer ts stmt.Begin e = refl
+other-answer ts stmt.Switch e = refl
+other-answer ts stmt.Cancel e = refl
+other-answer ts (stmt.Trickle credits) e = refl
+
+-- and another statement does not
+pub other-resolves : (ts : List TableInfo) (s : Stmt) (r : Resolved) → is_definition s ≡ false → answer ts s ≡ Ok r → defines r ≡ false
+other-resolves ts s r other is = subst Other is (other-answer ts s other)
 
 -- ---- names
 

@@ -32,7 +32,9 @@ use Rattle.im_replies.specs.Causes.{fault_of}
 use Rattle.im_scan.specs.Pinned.{seen_all}
 use Rattle.im_scan.proofs.ForCallers.{seen_by-later}
 use Rattle.im_session.specs.inner.Rests.{IsRest}
-use Rattle.im_session.specs.inner.Scans.{IsScan, MayAskIn}
+use Rattle.im_session.specs.inner.Scans.{IsScan}
+use Rattle.im_session.specs.Cursors.{MayAskIn}
+use Rattle.im_session.proofs.OtherLemmas.{cursor-after}
 use Rattle.im_session.proofs.RestLemmas.{Onward, attempt-done, rest-refused}
 use Rattle.im_session.proofs.TableLemmas.{asks-own, exists-longer, of_table-longer, per-longer, scn-longer}
 use Rattle.im_statements.specs.Outcomes.{Outcome, said}
@@ -126,12 +128,14 @@ module _ (who cursor table : ℕ) (old middle : Known) (at : History) (view : Vi
         ∙ (ap (find (is_cursor cursor)) (opened-opening at who cursor table)
         ∙ (find-last (is_cursor cursor) (opened at who) (opened_by at who cursor table) (open_shut at who cursor allowed) (itself cursor)
         ∙ ap (λ (v : View). Some (record { cursor = cursor; view = v })) (sym view_is)));
-    exists = on_log (λ h. Exists h view.table) (rw view_is (exists-longer at entry table there));
-    known = on_log (λ h. view.scn ≤ scn h) (rw view_is (scn-longer at entry (snapshot at who) (snapshot-known at who)));
-    per = on_log (λ h. view.per ≡ per_at h view.table) (rw view_is (per-longer at entry table (per_at at table) there refl));
-    some = some;
-    cut = rw view_is refl;
-    few = few;
+    sees = record {
+      exists = on_log (λ h. Exists h view.table) (rw view_is (exists-longer at entry table there));
+      known = on_log (λ h. view.scn ≤ scn h) (rw view_is (scn-longer at entry (snapshot at who) (snapshot-known at who)));
+      per = on_log (λ h. view.per ≡ per_at h view.table) (rw view_is (per-longer at entry table (per_at at table) there refl));
+      some = some;
+      cut = rw view_is refl;
+      few = few;
+    };
   }
     where
       entry : History
@@ -178,6 +182,10 @@ module _ (who cursor table : ℕ) (old middle : Known) (view : View)
   pub added-scan : Exists old.log table → view.rows ≤ MOST_ROWS → 1 ≤ view.per → IsScan who cursor view middle
   added-scan exists few some =
       opening-scan who cursor table old middle added.at view added.after added.now added.fact.1 exists added.fact.0 few some
+
+  -- no cursor of its number was open before
+  pub added-fresh : speaks old.side who ≡ true → is_cursor_open old.log who cursor ≡ false
+  added-fresh mine = sym (cursor-after old.side who cursor old.log added.at mine added.after) ∙ open_shut added.at who cursor added.fact.0
 
   pub added-asks : (bound : Bound) → IsLawful middle.limits middle.log → OfTable (tables old.log) table (QueryServes bound) → MayAskIn bound view middle
   added-asks bound lawful of = opening-asks who cursor table old middle added.at view added.after added.now added.fact.1 bound lawful of

@@ -20,7 +20,8 @@ use Rattle.im_reach.specs.Sides.{Added, AreOthers, Found, Known, StoreSide, spea
 use Rattle.im_replies.specs.declared.reply.Reply.{Reply}
 use Rattle.im_replies.specs.declared.served.Served.{Served}
 use Rattle.im_session.specs.inner.Rests.{IsRest}
-use Rattle.im_session.specs.inner.Scans.{Comes, IsScan, IsShut, MayAskIn, Stops, Went}
+use Rattle.im_session.specs.Cursors.{IsView, MayAskIn}
+use Rattle.im_session.specs.inner.Scans.{Comes, IsScan, IsShut, Longer, Stops, Went}
 use Rattle.im_session.proofs.OtherLemmas.{cursor-after, opened-after, others-of}
 use Rattle.im_session.proofs.RestLemmas.{ends-here, rest-adds, rest-end, rest-look, rest-went}
 use Rattle.im_session.proofs.TableLemmas.{exists-longer, of_table-longer, per-longer, scn-longer}
@@ -71,9 +72,23 @@ went-on old at new first second = record {
   now = second.now ∙ ap (λ (s : Known). record s { log = new.log }) first.now;
 }
 
--- what is found of a later history
-longer-went : (old new : Known) (P : History → Type 0) → Went old new → ((more : History) → P (old.log ++ more)) → P new.log
-longer-went old new P went each = subst P (sym went.after.log) (each went.after.between)
+pub longer-went : (old new : Known) → Went old new → Longer old new
+longer-went old new went = record { more = went.after.between; log = went.after.log }
+
+-- what is found of a longer history
+found-longer : (old new : Known) (P : History → Type 0) → Longer old new → ((more : History) → P (old.log ++ more)) → P new.log
+found-longer old new P longer each = subst P (sym longer.log) (each longer.more)
+
+-- a view stays one
+pub view-longer : (view : View) (old new : Known) → Longer old new → IsView view old → IsView view new
+view-longer view old new longer is = record {
+  exists = found-longer old new (λ h. Exists h view.table) longer (λ more. exists-longer old.log more view.table is.exists);
+  known = found-longer old new (λ h. view.scn ≤ scn h) longer (λ more. scn-longer old.log more view.scn is.known);
+  per = found-longer old new (λ h. view.per ≡ per_at h view.table) longer (λ more. per-longer old.log more view.table view.per is.exists is.per);
+  some = is.some;
+  cut = is.cut;
+  few = is.few;
+}
 
 -- an open cursor stays as it is
 pub scan-went : (who cursor : ℕ) (view : View) (old new : Known) → speaks old.side who ≡ true → Went old new → IsScan who cursor view old
@@ -81,20 +96,18 @@ pub scan-went : (who cursor : ℕ) (view : View) (old new : Known) → speaks ol
 scan-went who cursor view old new mine went scan = record {
   is_open = cursor-after old.side who cursor old.log new.log mine went.after ∙ scan.is_open;
   opened = ap (find (is_cursor cursor)) (opened-after old.side who old.log new.log mine went.after) ∙ scan.opened;
-  exists = longer-went old new (λ h. Exists h view.table) went (λ more. exists-longer old.log more view.table scan.exists);
-  known = longer-went old new (λ h. view.scn ≤ scn h) went (λ more. scn-longer old.log more view.scn scan.known);
-  per = longer-went old new (λ h. view.per ≡ per_at h view.table) went (λ more. per-longer old.log more view.table view.per scan.exists scan.per);
-  some = scan.some;
-  cut = scan.cut;
-  few = scan.few;
+  sees = view-longer view old new (longer-went old new went) scan.sees;
 }
 
-pub asks-went : (bound : Bound) (view : View) (old new : Known) → Went old new → MayAskIn bound view old → MayAskIn bound view new
-asks-went bound view old new went asks = record {
-  table = longer-went old new (λ h. OfTable (tables h) view.table (QueryServes bound)) went
+pub asks-longer : (bound : Bound) (view : View) (old new : Known) → Longer old new → MayAskIn bound view old → MayAskIn bound view new
+asks-longer bound view old new longer asks = record {
+  table = found-longer old new (λ h. OfTable (tables h) view.table (QueryServes bound)) longer
       (λ more. of_table-longer old.log more view.table (QueryServes bound) asks.table);
   own = asks.own;
 }
+
+pub asks-went : (bound : Bound) (view : View) (old new : Known) → Went old new → MayAskIn bound view old → MayAskIn bound view new
+asks-went bound view old new went asks = asks-longer bound view old new (longer-went old new went) asks
 
 pub view-scan : (who cursor : ℕ) (view : View) (now : Known) → IsScan who cursor view now → cursor_view now.log who cursor ≡ view
 view-scan who cursor view now scan = ap view_of scan.opened

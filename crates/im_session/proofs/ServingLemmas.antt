@@ -16,7 +16,8 @@ use Rattle.im_reach.specs.Sides.{Known, speaks}
 use Rattle.im_scan.specs.Parts.{MayAsk}
 use Rattle.im_scan.specs.Pinned.{IsPinned, seen_all, seen_in, seen_to}
 use Rattle.im_scan.proofs.ForCallers.{MayAskOf, can-merge-seen, fetched-may, merged-seen, pinned-serving, seen_in-later, seen_to-all, unit-may}
-use Rattle.im_session.specs.inner.Scans.{IsRead, IsScan, MayAskIn, Went}
+use Rattle.im_session.specs.inner.Scans.{IsRead, IsScan, Went}
+use Rattle.im_session.specs.Cursors.{MayAskIn}
 use Rattle.im_session.proofs.ScanLemmas.{asks-went, scan-went, view-scan}
 use Rattle.im_session.proofs.TableLemmas.{asks-of}
 use Rattle.im_syntax.specs.declared.bound.Bound.{Bound}
@@ -55,7 +56,7 @@ may-part who cursor extent place bound view unit fetched now scan asks lawful re
 }
   where
     pinned : IsPinned now.log view extent unit fetched
-    pinned = pinned-serving now.log view extent unit fetched scan.per read.unit_is read.fetched_is
+    pinned = pinned-serving now.log view extent unit fetched scan.sees.per read.unit_is read.fetched_is
 
     may : MayAskOf bound now.log view.table
     may = asks-of now.limits now.log view.table bound lawful.legal asks.table
@@ -91,4 +92,4 @@ module _ (bound : Bound) (view : View) (extent : ℕ) (first now : Known) (befor
 pub part-all : (who cursor extent : ℕ) (bound : Bound) (view : View) (now : Known) (part : Parts) → IsScan who cursor view now
     → view.extents ≡ extent → part ≡ partial bound (seen_to now.log view extent) → part ≡ partial bound (seen_all now.log view)
 part-all who cursor extent bound view now part scan all is =
-    is ∙ ap (partial bound) (seen_to-all now.log view extent scan.some (sym all ∙ scan.cut))
+    is ∙ ap (partial bound) (seen_to-all now.log view extent scan.sees.some (sym all ∙ scan.sees.cut))

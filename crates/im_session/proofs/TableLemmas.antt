@@ -1,9 +1,9 @@
 -- What later entries leave of a table that exists, and what may be asked of its rows.
-use Rattle.std.proofs.Common.{◌≡◌, ℕ, zero, suc, ◌+◌, ◌≤◌, Bool, true, false, if◌then◌else◌, IsTrue, List, [], ◌∷◌, ◌++◌, All, Option, Some, None, refl, sym, ap, ◌∙◌, subst, arith}
+use Rattle.std.proofs.Common.{rules, ◌≡◌, ℕ, zero, suc, ◌+◌, ◌≤◌, Bool, true, false, if◌then◌else◌, IsTrue, List, [], ◌∷◌, ◌++◌, All, Option, Some, None, refl, sym, ap, ◌∙◌, subst, arith}
 use Rattle.std.specs.List.{AllByRecursion}
 use Rattle.std.specs.Option.{option_map}
 use Rattle.std.specs.Prelude.{slice_get}
-use Rattle.std.proofs.lemmas.List.Elements.{All-head, All-tail}
+use Rattle.std.proofs.lemmas.List.Elements.{All-cons, All-head, All-nil, All-tail}
 use Rattle.im_values.specs.declared.priority.Priority.{Priority}
 use Rattle.im_values.specs.declared.schema.Column.{Column}
 use Rattle.im_values.specs.Fits.{fits}
@@ -14,7 +14,7 @@ use Rattle.im_history.specs.declared.limits.Limits.{Limits}
 use Rattle.im_history.specs.declared.look.TableInfo.{TableInfo}
 use Rattle.im_history.specs.Commits.{scn, moves_clock}
 use Rattle.im_history.specs.History.{History}
-use Rattle.im_history.specs.Legal.{Exists, IsLegal, row_fits}
+use Rattle.im_history.specs.Legal.{Exists, IsLegal, MayInsert, row_fits}
 use Rattle.im_history.specs.Rows.{Row, own_changes}
 use Rattle.im_history.specs.Tables.{created, table_at, tables, with_memory}
 use Rattle.im_history.specs.Views.{per_at}
@@ -22,7 +22,7 @@ use Rattle.im_history.proofs.FitLaws.{pending-fits, rows-fit}
 use Rattle.im_history.proofs.Laws.{scn-push, tables-push}
 use Rattle.im_history.proofs.RowLaws.{each_longer}
 use Rattle.im_history.proofs.TableLaws.{Exists-push, per_at-push}
-use Rattle.im_names.specs.Fitting.{OfTable, QueryServes, columns_at}
+use Rattle.im_names.specs.Fitting.{OfTable, QueryServes, RowsServe, columns_at}
 use Rattle.im_scan.specs.Parts.{MayAsk}
 use Rattle.im_scan.proofs.ForCallers.{MayAskOf}
 use Rattle.im_syntax.specs.declared.bound.Bound.{Bound}
@@ -160,3 +160,24 @@ asks-own limits h who table bound legal of = each (own_changes h who table) (pen
           (All-head (λ (c : Change). IsTrue (row_fits m.made.schema c.row)) change changes all)),
       each changes (All-tail (λ (c : Change). IsTrue (row_fits m.made.schema c.row)) change changes all),
     )
+
+-- ---- rows that are inserted
+
+pub may-insert : (h : History) (table : ℕ) (rows : List Row) → OfTable (tables h) table (RowsServe rows) → MayInsert h table rows
+may-insert h table rows of = record {
+  exists = record { made = m.made; is = m.is };
+  some = of.is.some;
+  fit = all rows of.is.each;
+}
+  where
+    m : MadeOf h table of.columns
+    m = made_of h table of.columns of.are_of
+
+    true_is : (b : Bool) → b ≡ true → IsTrue b
+    true_is true e = search rules
+    true_is false e = absurd cc
+
+    all : (rs : List Row) → AllByRecursion (λ row. fits row of.columns ≡ true) rs → All (λ row. IsTrue (fits row m.made.schema)) rs
+    all [] each = All-nil _
+    all (row ∷ rs) each = All-cons (λ (r : Row). IsTrue (fits r m.made.schema)) row rs
+        (true_is (fits row m.made.schema) (ap (fits row) m.schema ∙ each.0)) (all rs each.1)

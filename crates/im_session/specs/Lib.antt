@@ -1,1 +1,4 @@
+pub mod Cursors
+pub mod Reads
+pub mod Sessions
 pub mod inner

@@ -2,5 +2,6 @@ pub mod Cursors
 pub mod Definitions
 pub mod Names
 pub mod Rests
+pub mod Running
 pub mod Scans
 pub mod Writes

@@ -6,13 +6,16 @@ ghost use Rattle.im_history.specs.Tables.{tables};
 ghost use Rattle.im_history.specs.Views.{look_at};
 ghost use Rattle.im_names.specs.Fitting.{OfTable, QueryServes};
 ghost use Rattle.im_reach.specs.Sides.{speaks};
+ghost use Rattle.im_session.specs.Cursors.{query_of};
+ghost use Rattle.im_session.specs.Reads.{IsCounted};
 ghost use Rattle.im_session.specs.inner.Cursors as inner;
 ghost use Rattle.im_session.specs.inner.Rests.{IsRest};
 ghost use Rattle.im_statements.specs.Cursors as plan;
-ghost use Rattle.im_statements.specs.Outcomes.{Closes, Replied, State, query_at};
+ghost use Rattle.im_statements.specs.Outcomes.{Closes, Replied};
 
 use crate::refusals::{opening_refused, out_of_memory};
 use crate::serving::{ServedPart, answer_scan, served_part};
+use im_edge::Gate;
 use im_group::Partial;
 use im_history::{Look, View};
 use im_reach::Reach;
@@ -64,6 +67,7 @@ pub fn open_query<R: Wait, H: Reach<ColumnUnit>>(
     ensures rest { IsRest who 0 (H.known reach.old) (plan.open_query who cursor bound)
         (inner.opening_outcome result.reply result.cursor) (H.known reach.new) }
     ensures agrees { ForSome result.cursor (λ kept. inner.IsKept who kept (H.known reach.new)) }
+    ensures fresh { ForSome result.cursor (λ kept. is_cursor_open (H.known reach.old).log who kept.number ≡ false) }
 {
     let Ok(part) = Partial::of_lent(alloc, &bound, &[]) else {
         return OpenOutcome {
@@ -108,9 +112,7 @@ pub fn close<R: Wait, H: Reach<ColumnUnit>>(
     requires session { who < NUMBERS }
     requires speaks { speaks (H.known reach.old).side who ≡ true }
     requires agrees { inner.IsKept who kept.now (H.known reach.old) }
-    ensures { (state : State) → query_at state kept.now.number ≡ Some (inner.query_of kept.now) →
-        IsRest who 0 (H.known reach.old) (plan.close state who (H.known reach.old).log kept.now.number)
-        (Replied result (Closes kept.now.number)) (H.known reach.new) }
+    ensures { IsRest who 0 (H.known reach.old) (plan.close_query kept.now.number) (Replied result (Closes kept.now.number)) (H.known reach.new) }
 {
     let place = reach.shut(rt, who, kept.number);
     Reply::settled(
@@ -132,10 +134,11 @@ pub struct FetchOutcome {
 
 /// FETCH: answers the query of an open cursor over all rows that it sees, whatever steps served before, and closes it. The
 /// answer was settled at this look.
-pub fn fetch<R: Wait, H: Reach<ColumnUnit>, L: Ledger>(
+pub fn fetch<R: Wait, H: Reach<ColumnUnit>, G: Gate, L: Ledger>(
     alloc: Global,
     rt: &R,
     reach: &mut H,
+    gate: &G,
     who: u32,
     look: &Look,
     kept: &Cursor,
@@ -146,10 +149,10 @@ pub fn fetch<R: Wait, H: Reach<ColumnUnit>, L: Ledger>(
     requires shut { is_cursor_open (H.known reach.old).log who 0 ≡ false }
     requires look { look.now ≡ look_at (H.known reach.old).log who }
     requires agrees { inner.IsKept who kept.now (H.known reach.old) }
-    ensures rest { (state : State) → query_at state kept.now.number ≡ Some (inner.query_of kept.now) →
-        IsRest who 0 (H.known reach.old) (plan.fetch state who (H.known reach.old).log kept.now.number)
+    ensures rest { IsRest who 0 (H.known reach.old) (plan.fetch_query (H.known reach.old).log (query_of kept.now))
         (inner.fetch_outcome kept.now.number result.reply result.closed) (H.known reach.new) }
     ensures agrees { result.closed ≡ false → inner.IsKept who kept.now (H.known reach.new) }
+    ensures ticks { IsCounted who steps.old steps.new (H.known reach.old) (H.known reach.new) }
 {
     let Ok(before) = kept.part.copy(alloc) else {
         return FetchOutcome {
@@ -162,6 +165,7 @@ pub fn fetch<R: Wait, H: Reach<ColumnUnit>, L: Ledger>(
         alloc,
         rt,
         reach,
+        gate,
         who,
         kept.number,
         view,
@@ -200,10 +204,11 @@ pub struct StepOutcome {
 }
 
 /// STEP: serves an open cursor its next extent, unless none was left at this look.
-pub fn step<R: Wait, H: Reach<ColumnUnit>, L: Ledger>(
+pub fn step<R: Wait, H: Reach<ColumnUnit>, G: Gate, L: Ledger>(
     alloc: Global,
     rt: &R,
     reach: &mut H,
+    gate: &G,
     who: u32,
     look: &Look,
     kept: &mut Cursor,
@@ -214,11 +219,11 @@ pub fn step<R: Wait, H: Reach<ColumnUnit>, L: Ledger>(
     requires shut { is_cursor_open (H.known reach.old).log who 0 ≡ false }
     requires look { look.now ≡ look_at (H.known reach.old).log who }
     requires agrees { inner.IsKept who kept.old (H.known reach.old) }
-    ensures rest { (state : State) → query_at state kept.old.number ≡ Some (inner.query_of kept.old) →
-        IsRest who 0 (H.known reach.old) (plan.step state who (H.known reach.old).log kept.old.number)
+    ensures rest { IsRest who 0 (H.known reach.old) (plan.step_query (H.known reach.old).log (query_of kept.old))
         (inner.step_outcome kept.old.number result.reply result.served) (H.known reach.new) }
-    ensures kept { inner.query_of kept.new ≡ inner.query_after result.served (inner.query_of kept.old) }
+    ensures kept { query_of kept.new ≡ inner.query_after result.served (query_of kept.old) }
     ensures agrees { inner.IsKept who kept.new (H.known reach.new) }
+    ensures ticks { IsCounted who steps.old steps.new (H.known reach.old) (H.known reach.new) }
 {
     if kept.next >= kept.view.extents {
         return StepOutcome {
@@ -237,6 +242,7 @@ pub fn step<R: Wait, H: Reach<ColumnUnit>, L: Ledger>(
         alloc,
         rt,
         reach,
+        gate,
         who,
         number,
         &kept.view,

@@ -4,11 +4,14 @@
 //! calls, and the reply is what the plan says of the history at that turn. So one body serves a store that nobody else has
 //! and one that is shared: it is written over `Reach` of `im_reach`.
 //!
-//! The contract of each function says what is left of its line: it goes by the plan, or runs out of memory on the way and is
-//! amended (`specs/inner/Rests.antt`). A statement that scans opens cursor 0 and serves its extents each at a turn of its own
-//! (`specs/inner/Scans.antt`); a [`Cursor`] that a session keeps agrees with the history (`specs/inner/Cursors.antt`).
+//! [`Session::execute`] plays one statement: it goes by its plan, or runs out of memory on the way and is amended, and what the
+//! session keeps of its cursors agrees with the history before and after (`specs/Sessions.antt`, `specs/Cursors.antt`).
 //!
-//! Start with `transaction.rt`, whose statements make one call each, then `serving.rt`, `query.rt` and `cursor.rt`.
+//! The contract of each inner function says what is left of its line (`specs/inner/Rests.antt`). A statement that scans opens
+//! cursor 0 and serves its extents each at a turn of its own (`specs/inner/Scans.antt`).
+//!
+//! Start with `session.rt`, then `transaction.rt`, whose statements make one call each, then `serving.rt`, `query.rt` and
+//! `cursor.rt`.
 #![tactic(auto)]
 
 mod changes;
@@ -19,13 +22,9 @@ mod query;
 mod refusals;
 mod rewriting;
 mod serving;
+mod session;
 mod statement;
 mod transaction;
 
-pub use cursor::{Cursor, FetchOutcome, OpenOutcome, StepOutcome, close, fetch, open_query, step};
-pub use definition::{NewTable, alter, create};
-pub use inserts::insert;
-pub use query::{explain, select};
-pub use rewriting::rewrite;
-pub use statement::define;
-pub use transaction::{commit, roll_back, set_mode};
+pub use cursor::Cursor;
+pub use session::Session;

@@ -9,7 +9,9 @@ ghost use Rattle.im_replies.specs.declared.body.Body.TheVariants as body;
 ghost use Rattle.im_replies.specs.declared.served.Served.{Served as Mark};
 ghost use Rattle.im_scan.specs.Pinned.{seen_all};
 ghost use Rattle.im_session.specs.inner.Rests.{IsRest};
-ghost use Rattle.im_session.specs.inner.Scans.{Comes, IsScan, IsShut, MayAskIn, Stops, Went};
+ghost use Rattle.im_session.specs.inner.Scans.{Comes, IsScan, IsShut, Stops, Went};
+ghost use Rattle.im_session.specs.Cursors.{MayAskIn};
+ghost use Rattle.im_session.specs.Reads.{IsCounted};
 ghost use Rattle.im_statements.specs.Outcomes.{Outcome, said};
 ghost use Rattle.im_statements.specs.Scans as plan;
 ghost use Rattle.im_statements.specs.Turns.{served_reply};
@@ -17,6 +19,7 @@ ghost use Rattle.im_syntax.specs.BoundQuery.{IsQuery};
 
 use crate::refusals::{out_of_memory, refused_reply};
 use crate::serving::{answer_scan, served_mark};
+use im_edge::Gate;
 use im_group::Partial;
 use im_history::View;
 use im_reach::Reach;
@@ -33,10 +36,11 @@ use std::sync::ledger::Ledger;
 ///
 /// Each extent is served by itself: others may change the table meanwhile, and the answer is the one at the scan's opening. Each
 /// row that is read from the blocks is one step at most.
-pub fn select<R: Wait, H: Reach<ColumnUnit>, L: Ledger>(
+pub fn select<R: Wait, H: Reach<ColumnUnit>, G: Gate, L: Ledger>(
     alloc: Global,
     rt: &R,
     reach: &mut H,
+    gate: &G,
     who: u32,
     bound: Bound,
     steps: &mut Steps<L>,
@@ -45,11 +49,12 @@ pub fn select<R: Wait, H: Reach<ColumnUnit>, L: Ledger>(
     requires speaks { speaks (H.known reach.old).side who ≡ true }
     requires shut { is_cursor_open (H.known reach.old).log who 0 ≡ false }
     requires serves { OfTable (tables (H.known reach.old).log) bound.table (QueryServes bound) }
-    ensures { IsRest who 0 (H.known reach.old) (plan.select who bound) (said result) (H.known reach.new) }
+    ensures rest { IsRest who 0 (H.known reach.old) (plan.select who bound) (said result) (H.known reach.new) }
+    ensures ticks { IsCounted who steps.old steps.new (H.known reach.old) (H.known reach.new) }
 {
     match reach.open_cursor(rt, who, 0, bound.table) {
         Ok(view) => {
-            let reply = answer_seen(alloc, rt, reach, who, &view, &bound, steps);
+            let reply = answer_seen(alloc, rt, reach, gate, who, &view, &bound, steps);
             reach.shut(rt, who, 0);
             reply
         }
@@ -58,10 +63,11 @@ pub fn select<R: Wait, H: Reach<ColumnUnit>, L: Ledger>(
 }
 
 /// Answers a query over the rows that the open cursor 0 of a session sees. The cursor is still open then.
-fn answer_seen<R: Wait, H: Reach<ColumnUnit>, L: Ledger>(
+fn answer_seen<R: Wait, H: Reach<ColumnUnit>, G: Gate, L: Ledger>(
     alloc: Global,
     rt: &R,
     reach: &mut H,
+    gate: &G,
     who: u32,
     view: &View,
     bound: &Bound,
@@ -77,11 +83,12 @@ fn answer_seen<R: Wait, H: Reach<ColumnUnit>, L: Ledger>(
         IsRest who 1 (H.known reach.old) (plan.serve_from view.now bound.now.filter 0 (λ marks.
         plan.end_scan (served_reply view.now.place marks
         (body.Answer view.now.scn (answer bound.now (seen_all (H.known reach.old).log view.now)))))) (said result) late }
+    ensures ticks { IsCounted who steps.old steps.new (H.known reach.old) (H.known reach.new) }
 {
     let Ok(none) = Partial::of_lent(alloc, bound, &[]) else {
         return out_of_memory(alloc, 1);
     };
-    match answer_scan(alloc, rt, reach, who, 0, view, 0, none, bound, steps) {
+    match answer_scan(alloc, rt, reach, gate, who, 0, view, 0, none, bound, steps) {
         Ok(answered) => Reply {
             place: Some(view.place),
             marks: answered.marks,
@@ -95,10 +102,11 @@ fn answer_seen<R: Wait, H: Reach<ColumnUnit>, L: Ledger>(
 }
 
 /// EXPLAIN: answers how each extent of a query's table is served to a session.
-pub fn explain<R: Wait, H: Reach<ColumnUnit>, L: Ledger>(
+pub fn explain<R: Wait, H: Reach<ColumnUnit>, G: Gate, L: Ledger>(
     alloc: Global,
     rt: &R,
     reach: &mut H,
+    gate: &G,
     who: u32,
     bound: Bound,
     steps: &mut Steps<L>,
@@ -107,11 +115,12 @@ pub fn explain<R: Wait, H: Reach<ColumnUnit>, L: Ledger>(
     requires speaks { speaks (H.known reach.old).side who ≡ true }
     requires shut { is_cursor_open (H.known reach.old).log who 0 ≡ false }
     requires serves { OfTable (tables (H.known reach.old).log) bound.table (QueryServes bound) }
-    ensures { IsRest who 0 (H.known reach.old) (plan.explain who bound) (said result) (H.known reach.new) }
+    ensures rest { IsRest who 0 (H.known reach.old) (plan.explain who bound) (said result) (H.known reach.new) }
+    ensures ticks { IsCounted who steps.old steps.new (H.known reach.old) (H.known reach.new) }
 {
     match reach.open_cursor(rt, who, 0, bound.table) {
         Ok(view) => {
-            let reply = explain_seen(alloc, rt, reach, who, &view, &bound, steps);
+            let reply = explain_seen(alloc, rt, reach, gate, who, &view, &bound, steps);
             reach.shut(rt, who, 0);
             reply
         }
@@ -120,10 +129,11 @@ pub fn explain<R: Wait, H: Reach<ColumnUnit>, L: Ledger>(
 }
 
 /// Answers how each extent is served to the open cursor 0 of a session. The cursor is still open then.
-fn explain_seen<R: Wait, H: Reach<ColumnUnit>, L: Ledger>(
+fn explain_seen<R: Wait, H: Reach<ColumnUnit>, G: Gate, L: Ledger>(
     alloc: Global,
     rt: &R,
     reach: &mut H,
+    gate: &G,
     who: u32,
     view: &View,
     bound: &Bound,
@@ -137,8 +147,9 @@ fn explain_seen<R: Wait, H: Reach<ColumnUnit>, L: Ledger>(
         IsRest who 1 (H.known reach.old) (plan.serve_from view.now bound.now.filter 0 (λ marks.
         plan.end_scan (served_reply view.now.place marks (body.Plan view.now.scn (map plan.explained marks)))))
         (said result) late }
+    ensures ticks { IsCounted who steps.old steps.new (H.known reach.old) (H.known reach.new) }
 {
-    let Ok(marks) = gather_marks(alloc, rt, reach, who, view, bound, steps) else {
+    let Ok(marks) = gather_marks(alloc, rt, reach, gate, who, view, bound, steps) else {
         return out_of_memory(alloc, 1);
     };
     match explanation(alloc, marks.as_slice()) {
@@ -155,10 +166,11 @@ fn explain_seen<R: Wait, H: Reach<ColumnUnit>, L: Ledger>(
 }
 
 /// Serves a scan with the open cursor 0 all extents, and answers how.
-fn gather_marks<R: Wait, H: Reach<ColumnUnit>, L: Ledger>(
+fn gather_marks<R: Wait, H: Reach<ColumnUnit>, G: Gate, L: Ledger>(
     alloc: Global,
     rt: &R,
     reach: &mut H,
+    gate: &G,
     who: u32,
     view: &View,
     bound: &Bound,
@@ -172,10 +184,11 @@ fn gather_marks<R: Wait, H: Reach<ColumnUnit>, L: Ledger>(
         Comes who k (H.known reach.old) (plan.serve_from view.now bound.now.filter 0 on) (H.known reach.new) (on marks.items)) }
     ensures err { IfErr result (λ lacks. (k : ℕ) (on : List Mark → Plan Outcome) →
         Stops who k (H.known reach.old) (plan.serve_from view.now bound.now.filter 0 on) (H.known reach.new)) }
+    ensures ticks { IsCounted who steps.old steps.new (H.known reach.old) (H.known reach.new) }
 {
     let mut marks = Vec::new(alloc);
     for extent in 0..view.extents {
-        let mark = served_mark(rt, reach, who, 0, view, extent, bound, steps)?;
+        let mark = served_mark(rt, reach, gate, who, 0, view, extent, bound, steps)?;
         marks.push(mark)?;
     }
     Ok(marks)

@@ -7,7 +7,9 @@ ghost use Rattle.im_names.specs.Fitting.{OfTable};
 ghost use Rattle.im_reach.specs.Sides.{Known, speaks};
 ghost use Rattle.im_scan.specs.Pinned.{seen_all};
 ghost use Rattle.im_session.specs.inner.Rests.{IsRest};
-ghost use Rattle.im_session.specs.inner.Scans.{IsScan, IsShut, MayAskIn};
+ghost use Rattle.im_session.specs.inner.Scans.{IsScan, IsShut, Longer};
+ghost use Rattle.im_session.specs.Cursors.{MayAskIn};
+ghost use Rattle.im_session.specs.Reads.{IsCounted};
 ghost use Rattle.im_session.specs.inner.Writes as inner;
 ghost use Rattle.im_statements.specs.Outcomes.{said};
 ghost use Rattle.im_statements.specs.Scans.{serve_from};
@@ -16,6 +18,7 @@ ghost use Rattle.im_statements.specs.Writes as plan;
 use crate::changes::changes_to;
 use crate::refusals::{out_of_memory, refused_reply};
 use crate::serving::gather;
+use im_edge::Gate;
 use im_group::Partial;
 use im_history::{Change, Look, Mode, Refused, View, Why};
 use im_reach::Reach;
@@ -31,10 +34,11 @@ use std::sync::ledger::Ledger;
 
 /// UPDATE and DELETE: rewrites the rows of a table that a session sees and a condition keeps, unless its transaction was READ
 /// ONLY at this look.
-pub fn rewrite<R: Wait, H: Reach<ColumnUnit>, L: Ledger>(
+pub fn rewrite<R: Wait, H: Reach<ColumnUnit>, G: Gate, L: Ledger>(
     alloc: Global,
     rt: &R,
     reach: &mut H,
+    gate: &G,
     who: u32,
     look: &Look,
     table: u32,
@@ -47,14 +51,15 @@ pub fn rewrite<R: Wait, H: Reach<ColumnUnit>, L: Ledger>(
     requires shut { is_cursor_open (H.known reach.old).log who 0 ≡ false }
     requires look { look.now ≡ look_at (H.known reach.old).log who }
     requires serves { OfTable (tables (H.known reach.old).log) table (inner.RewriteServes filter rewriting) }
-    ensures { IsRest who 0 (H.known reach.old)
+    ensures rest { IsRest who 0 (H.known reach.old)
         (plan.unless_read_only who (H.known reach.old).log (plan.rewrite (H.known reach.old).limits who table filter rewriting))
         (said result) (H.known reach.new) }
+    ensures ticks { IsCounted who steps.old steps.new (H.known reach.old) (H.known reach.new) }
 {
     match look.mode {
         Mode::ReadOnly => Reply::settled(alloc, look.place, Body::Error(Fault::ReadOnly)),
         Mode::Committed | Mode::Serializable => {
-            rewrite_rows(alloc, rt, reach, who, table, filter, rewriting, steps)
+            rewrite_rows(alloc, rt, reach, gate, who, table, filter, rewriting, steps)
         }
     }
 }
@@ -74,10 +79,11 @@ fn condition_query(alloc: Global, table: u32, filter: Option<Filter>) -> Bound
 }
 
 /// Rewrites the rows of a table that a session sees and a condition keeps, by a scan and a write.
-fn rewrite_rows<R: Wait, H: Reach<ColumnUnit>, L: Ledger>(
+fn rewrite_rows<R: Wait, H: Reach<ColumnUnit>, G: Gate, L: Ledger>(
     alloc: Global,
     rt: &R,
     reach: &mut H,
+    gate: &G,
     who: u32,
     table: u32,
     filter: Option<Filter>,
@@ -88,13 +94,16 @@ fn rewrite_rows<R: Wait, H: Reach<ColumnUnit>, L: Ledger>(
     requires speaks { speaks (H.known reach.old).side who ≡ true }
     requires shut { is_cursor_open (H.known reach.old).log who 0 ≡ false }
     requires serves { OfTable (tables (H.known reach.old).log) table (inner.RewriteServes filter rewriting) }
-    ensures { IsRest who 0 (H.known reach.old) (plan.rewrite (H.known reach.old).limits who table filter rewriting) (said result)
+    ensures rest { IsRest who 0 (H.known reach.old) (plan.rewrite (H.known reach.old).limits who table filter rewriting) (said result)
         (H.known reach.new) }
+    ensures ticks { IsCounted who steps.old steps.new (H.known reach.old) (H.known reach.new) }
 {
     let bound = condition_query(alloc, table, filter);
     match reach.open_cursor(rt, who, 0, table) {
         Ok(view) => {
-            let reply = rewrite_seen(alloc, rt, reach, who, &view, &bound, &rewriting, steps);
+            let reply = rewrite_seen(
+                alloc, rt, reach, gate, who, &view, &bound, &rewriting, steps,
+            );
             reach.shut(rt, who, 0);
             reply
         }
@@ -103,10 +112,11 @@ fn rewrite_rows<R: Wait, H: Reach<ColumnUnit>, L: Ledger>(
 }
 
 /// Rewrites the rows that the open cursor 0 of a session sees and a condition keeps. The cursor is still open then.
-fn rewrite_seen<R: Wait, H: Reach<ColumnUnit>, L: Ledger>(
+fn rewrite_seen<R: Wait, H: Reach<ColumnUnit>, G: Gate, L: Ledger>(
     alloc: Global,
     rt: &R,
     reach: &mut H,
+    gate: &G,
     who: u32,
     view: &View,
     bound: &Bound,
@@ -126,11 +136,12 @@ fn rewrite_seen<R: Wait, H: Reach<ColumnUnit>, L: Ledger>(
         plan.write_or_end (H.known reach.old).limits who view.now.place view.now.scn marks
         (plan.changes_to view.now.table rewriting.now (plan.kept_rows bound.now.filter (seen_all (H.known reach.old).log view.now)))
         (plan.written rewriting.now))) (said result) late }
+    ensures ticks { IsCounted who steps.old steps.new (H.known reach.old) (H.known reach.new) }
 {
     let Ok(none) = Partial::of_lent(alloc, bound, &[]) else {
         return out_of_memory(alloc, 1);
     };
-    match gather(alloc, rt, reach, who, 0, view, 0, none, bound, steps) {
+    match gather(alloc, rt, reach, gate, who, 0, view, 0, none, bound, steps) {
         Ok(gathered) => rewrite_kept(
             alloc,
             rt,
@@ -166,6 +177,7 @@ fn rewrite_kept<R: Wait, H: Reach<ColumnUnit>>(
     ensures rest { (late : Known) → IsShut who (H.known reach.new) late →
         IsRest who 1 (H.known reach.old) (plan.write_or_end (H.known reach.old).limits who view.now.place view.now.scn marks
         (plan.changes_to view.now.table rewriting.now rows.items) (plan.written rewriting.now)) (said result) late }
+    ensures longer { Longer (H.known reach.old) (H.known reach.new) }
 {
     match changes_to(alloc, view.table, rewriting, rows) {
         Ok(changes) => write_changes(alloc, rt, reach, who, view, marks, changes, rewriting),
@@ -193,6 +205,7 @@ fn write_changes<R: Wait, H: Reach<ColumnUnit>>(
     ensures rest { (late : Known) → IsShut who (H.known reach.new) late →
         IsRest who 1 (H.known reach.old) (plan.write_or_end (H.known reach.old).limits who view.now.place view.now.scn marks
         changes.items (plan.written rewriting.now)) (said result) late }
+    ensures longer { Longer (H.known reach.old) (H.known reach.new) }
 {
     if changes.is_empty() {
         return Reply {

@@ -1,4 +1,4 @@
-ghost use Rattle.std.specs.Prelude.{◌≡◌, ◌<◌, ◌≤◌, ◌++◌, [], ◌∷◌, ℕ, List, true, IfOk, IfErr, OnOk};
+ghost use Rattle.std.specs.Prelude.{◌≡◌, ◌<◌, ◌≤◌, ◌+◌, ◌++◌, [], ◌∷◌, ℕ, List, true, IfOk, IfErr, OnOk};
 ghost use Rattle.std.specs.Arc.{arc_value};
 ghost use Rattle.std.specs.Option.{option_map};
 ghost use Rattle.im_group.specs.Answers.{answer};
@@ -9,12 +9,15 @@ ghost use Rattle.im_reach.specs.Sides.{speaks};
 ghost use Rattle.im_replies.specs.declared.served.Served.{Served as Mark};
 ghost use Rattle.im_scan.specs.Faces.{how_of};
 ghost use Rattle.im_scan.specs.Pinned.{seen_all, seen_in, seen_to};
-ghost use Rattle.im_session.specs.inner.Scans.{Comes, IsRead, IsScan, MayAskIn, Stops, Went};
+ghost use Rattle.im_session.specs.inner.Scans.{Comes, IsRead, IsScan, Stops, Went};
+ghost use Rattle.im_session.specs.Cursors.{MayAskIn};
+ghost use Rattle.im_session.specs.Reads.{AreRead, IsCounted};
 ghost use Rattle.im_statements.specs.Outcomes.{Outcome};
 ghost use Rattle.im_statements.specs.Scans as plan;
 ghost use Rattle.im_syntax.specs.BoundQuery.{IsQuery};
 
 use im_core::Pin;
+use im_edge::{At, Gate};
 use im_group::Partial;
 use im_history::View;
 use im_reach::Reach;
@@ -28,10 +31,11 @@ use std::alloc::Global;
 use std::sync::Wait;
 use std::sync::ledger::Ledger;
 
-/// Reads what a scan with an open cursor needs of an extent.
-fn read<R: Wait, H: Reach<ColumnUnit>, L: Ledger>(
+/// Reads what a scan with an open cursor needs of an extent. The gate is called before and after it, outside the store's turn.
+fn read<R: Wait, H: Reach<ColumnUnit>, G: Gate, L: Ledger>(
     rt: &R,
     reach: &mut H,
+    gate: &G,
     who: u32,
     cursor: u32,
     view: &View,
@@ -45,8 +49,13 @@ fn read<R: Wait, H: Reach<ColumnUnit>, L: Ledger>(
     ensures went { Went (H.known reach.old) (H.known reach.new) }
     ensures lawful { IsLawful (H.known reach.new).limits (H.known reach.new).log }
     ensures read { IfOk result (λ pin. IsRead (H.known reach.new).log view.now extent pin.place (option_map arc_value pin.unit) pin.fetched) }
+    ensures ticks { AreRead who cursor view.now extent (extent + 1) steps.old steps.new (H.known reach.old).log (H.known reach.new).log }
 {
-    match reach.pin(rt, who, cursor, extent, steps) {
+    let at = At::Step { cursor, extent };
+    gate.before(rt, who, at);
+    let pinned = reach.pin(rt, who, cursor, extent, steps);
+    gate.after(who, at);
+    match pinned {
         Ok(pin) => Ok(pin),
         Err(_) => Err(NoMemory),
     }
@@ -64,9 +73,10 @@ fn mark(pin: &Pin<ColumnUnit>, extent: u64, bound: &Bound) -> Served
 }
 
 /// Serves a scan with an open cursor an extent, and answers how.
-pub fn served_mark<R: Wait, H: Reach<ColumnUnit>, L: Ledger>(
+pub fn served_mark<R: Wait, H: Reach<ColumnUnit>, G: Gate, L: Ledger>(
     rt: &R,
     reach: &mut H,
+    gate: &G,
     who: u32,
     cursor: u32,
     view: &View,
@@ -80,8 +90,9 @@ pub fn served_mark<R: Wait, H: Reach<ColumnUnit>, L: Ledger>(
     requires within { extent < view.now.extents }
     ensures went { Went (H.known reach.old) (H.known reach.new) }
     ensures mark { IfOk result (λ mark. mark ≡ plan.mark_at (H.known reach.new).log view.now bound.now.filter extent) }
+    ensures ticks { AreRead who cursor view.now extent (extent + 1) steps.old steps.new (H.known reach.old).log (H.known reach.new).log }
 {
-    let pin = read(rt, reach, who, cursor, view, extent, steps)?;
+    let pin = read(rt, reach, gate, who, cursor, view, extent, steps)?;
     Ok(mark(&pin, extent, bound))
 }
 
@@ -95,10 +106,11 @@ pub struct ServedPart {
 }
 
 /// Serves a scan with an open cursor an extent.
-pub fn served_part<R: Wait, H: Reach<ColumnUnit>, L: Ledger>(
+pub fn served_part<R: Wait, H: Reach<ColumnUnit>, G: Gate, L: Ledger>(
     alloc: Global,
     rt: &R,
     reach: &mut H,
+    gate: &G,
     who: u32,
     cursor: u32,
     view: &View,
@@ -116,8 +128,9 @@ pub fn served_part<R: Wait, H: Reach<ColumnUnit>, L: Ledger>(
         served.mark ≡ plan.mark_at (H.known reach.new).log view.now bound.now.filter extent) }
     ensures part { IfOk result (λ served.
         served.part ≡ group.partial bound.now (seen_in (H.known reach.old).log view.now extent)) }
+    ensures ticks { AreRead who cursor view.now extent (extent + 1) steps.old steps.new (H.known reach.old).log (H.known reach.new).log }
 {
-    let pin = read(rt, reach, who, cursor, view, extent, steps)?;
+    let pin = read(rt, reach, gate, who, cursor, view, extent, steps)?;
     let part = part(
         alloc,
         face(&pin, bound),
@@ -153,10 +166,11 @@ impl Gathered {
 }
 
 /// Serves a scan with an open cursor all extents from one on, behind what those before it gave.
-pub fn gather<R: Wait, H: Reach<ColumnUnit>, L: Ledger>(
+pub fn gather<R: Wait, H: Reach<ColumnUnit>, G: Gate, L: Ledger>(
     alloc: Global,
     rt: &R,
     reach: &mut H,
+    gate: &G,
     who: u32,
     cursor: u32,
     view: &View,
@@ -179,13 +193,16 @@ pub fn gather<R: Wait, H: Reach<ColumnUnit>, L: Ledger>(
         (on gathered.marks.items)) }
     ensures err { IfErr result (λ lacks. (k : ℕ) (on : List Mark → Plan Outcome) →
         Stops who k (H.known reach.old) (plan.serve_from view.now bound.now.filter from on) (H.known reach.new)) }
+    ensures ticks { IsCounted who steps.old steps.new (H.known reach.old) (H.known reach.new) }
 {
     let mut gathered = Gathered {
         marks: Vec::new(alloc),
         part: before,
     };
     for extent in from..view.extents {
-        let served = served_part(alloc, rt, reach, who, cursor, view, extent, bound, steps)?;
+        let served = served_part(
+            alloc, rt, reach, gate, who, cursor, view, extent, bound, steps,
+        )?;
         gathered.take(served)?;
     }
     Ok(gathered)
@@ -201,10 +218,11 @@ pub struct Answered {
 
 /// Serves a scan with an open cursor all extents from one on, behind what those before it gave, and answers the query over all
 /// rows that the cursor sees.
-pub fn answer_scan<R: Wait, H: Reach<ColumnUnit>, L: Ledger>(
+pub fn answer_scan<R: Wait, H: Reach<ColumnUnit>, G: Gate, L: Ledger>(
     alloc: Global,
     rt: &R,
     reach: &mut H,
+    gate: &G,
     who: u32,
     cursor: u32,
     view: &View,
@@ -228,9 +246,10 @@ pub fn answer_scan<R: Wait, H: Reach<ColumnUnit>, L: Ledger>(
         (on answered.marks)) }
     ensures err { IfErr result (λ lacks. (k : ℕ) (on : List Mark → Plan Outcome) →
         Stops who k (H.known reach.old) (plan.serve_from view.now bound.now.filter from on) (H.known reach.new)) }
+    ensures ticks { IsCounted who steps.old steps.new (H.known reach.old) (H.known reach.new) }
 {
     let gathered = gather(
-        alloc, rt, reach, who, cursor, view, from, before, bound, steps,
+        alloc, rt, reach, gate, who, cursor, view, from, before, bound, steps,
     )?;
     let Gathered { marks, part } = gathered;
     let records = part.finish(alloc, bound)?;

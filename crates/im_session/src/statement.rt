@@ -163,3 +163,32 @@ fn define_resolved<R: Wait, H: Reach<ColumnUnit>>(
         | Resolved::Evict { .. } => unreachable!(),
     }
 }
+
+/// Whether a statement defines a table.
+pub fn is_definition(statement: &Stmt) -> bool
+    ensures { result ≡ plan.is_definition statement.now }
+{
+    match statement {
+        Stmt::Create { .. } | Stmt::AlterMemory { .. } | Stmt::AlterNoMemory { .. } => true,
+        Stmt::Insert { .. }
+        | Stmt::Update { .. }
+        | Stmt::Delete { .. }
+        | Stmt::Select(_)
+        | Stmt::SetReadOnly
+        | Stmt::SetSerializable
+        | Stmt::SetCommitted
+        | Stmt::Commit
+        | Stmt::Rollback
+        | Stmt::Explain(_)
+        | Stmt::OpenFor { .. }
+        | Stmt::Step(_)
+        | Stmt::Fetch(_)
+        | Stmt::Close(_)
+        | Stmt::Run
+        | Stmt::Begin
+        | Stmt::Switch
+        | Stmt::Cancel
+        | Stmt::Trickle(_)
+        | Stmt::Evict { .. } => false,
+    }
+}

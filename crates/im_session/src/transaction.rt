@@ -5,11 +5,14 @@ ghost use Rattle.im_reach.specs.Sides.{speaks};
 ghost use Rattle.im_session.specs.inner.Rests.{IsRest};
 ghost use Rattle.im_statements.specs.Definitions as plan;
 ghost use Rattle.im_statements.specs.Outcomes.{said};
+ghost use Rattle.im_statements.specs.Transaction as after;
 
 use crate::refusals::{out_of_memory, refused_reply};
+use crate::statement::is_definition;
 use im_history::{Look, Mode};
 use im_reach::Reach;
-use im_replies::{Body, Reply};
+use im_replies::{Body, Fault, Reply};
+use im_syntax::Stmt;
 use im_unit::ColumnUnit;
 use im_values::limits::NUMBERS;
 use std::alloc::Global;
@@ -69,4 +72,53 @@ pub fn roll_back<R: Wait, H: Reach<ColumnUnit>>(
         return Reply::settled(alloc, look.place, Body::RolledBack);
     }
     Reply::settled(alloc, reach.rollback(rt, who), Body::RolledBack)
+}
+
+/// Whether a transaction of the session is open after a line, by the reply to it and by whether one was open before it. The history
+/// is not read for it, so it takes no memory.
+pub fn is_open_after(statement: &Stmt, reply: &Reply, before: bool) -> bool
+    ensures { result ≡ after.open_after statement.now reply.now before }
+{
+    if is_definition(statement) {
+        open_by_definition(&reply.body, before)
+    } else {
+        open_by(&reply.body, before)
+    }
+}
+
+/// The same where the statement was to define a table.
+fn open_by_definition(body: &Body, before: bool) -> bool
+    ensures { result ≡ after.open_by_definition body.now before }
+{
+    match body {
+        Body::Error(Fault::Memory { k }) => *k == 0 && before,
+        _ => false,
+    }
+}
+
+/// The same where it was not.
+fn open_by(body: &Body, before: bool) -> bool
+    ensures { result ≡ after.open_by body.now before }
+{
+    match body {
+        Body::Begun { .. } | Body::Inserted { .. } => true,
+        Body::Committed { .. } | Body::RolledBack => false,
+        Body::Updated { rows } | Body::Deleted { rows } => *rows > 0 || before,
+        Body::Created { .. }
+        | Body::Altered { .. }
+        | Body::Answer { .. }
+        | Body::Opened { .. }
+        | Body::Step { .. }
+        | Body::End { .. }
+        | Body::Closed { .. }
+        | Body::Plan { .. }
+        | Body::Ran(_)
+        | Body::Build(_)
+        | Body::Idle
+        | Body::Ended(_)
+        | Body::Nothing
+        | Body::Trickle { .. }
+        | Body::Evicted { .. }
+        | Body::Error(_) => before,
+    }
 }

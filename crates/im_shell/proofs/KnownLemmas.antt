@@ -1,5 +1,5 @@
 -- What a line has is known: a statement of the language, of a session from 1 to 16.
-use Rattle.std.proofs.Common.{ℕ, List, Option, arith}
+use Rattle.std.proofs.Common.{ℕ, List, Option}
 use Rattle.im_syntax.specs.Rules.{IsStmt, IsStmtOf}
 use Rattle.im_syntax.specs.declared.statement.Side.{Side}
 use Rattle.im_syntax.specs.declared.statement.Stmt.{Stmt}
@@ -33,7 +33,7 @@ kind_known (form.Session n before) line k has = says_known _ before line (kind.S
 kind_known (form.Background before) line k has = says_known _ before line kind.Background k (λ s is. tt) has
 
 known_by : (who : Option ℕ) (k : LineKind) → SpeaksAs who k → OfLanguage k → HasStatement k
-known_by who (kind.Session n s) speaks is = (let most = speaks.2 in omega (arith, most), is)
+known_by who (kind.Session n s) speaks is = (speaks.2, is)
 known_by who _ speaks is = tt
 
 -- what the line of some bytes has is known

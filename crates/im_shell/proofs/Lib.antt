@@ -1,10 +1,3 @@
-pub mod AssignLemmas
-pub mod KeepLemmas
-pub mod KnownLemmas
-pub mod OpeningLemmas
-pub mod PlanLemmas
-pub mod PlayLemmas
-pub mod ScanLemmas
-pub mod ServeLemmas
-pub mod StatementLemmas
-pub mod WriteLemmas
+mod KnownLemmas
+mod PlayLemmas
+mod SessionsLemmas

@@ -3,9 +3,6 @@ use Rattle.std.proofs.Common.{◌≡◌, ◌≤◌, ℕ, ◌+◌, true, List, []
 use Rattle.std.proofs.lemmas.List.{take-append-drop}
 use Rattle.im_edge.specs.Writing.{Took, TookPart}
 use Rattle.im_edge.proofs.ForCallers.{Took-nil, Took-append}
-use Rattle.im_core.specs.Seen.{Seen}
-use Rattle.im_history.specs.Cursors.{opened}
-use Rattle.im_history.specs.History.{History, replay}
 use Rattle.im_plan.specs.Alone.{Played}
 use Rattle.im_plan.proofs.AloneLaws.{line_alone}
 use Rattle.im_replies.specs.declared.reply.Reply.{Reply}
@@ -16,9 +13,10 @@ use Rattle.im_script.specs.declared.line.LineKind.{LineKind}
 use Rattle.im_script.specs.declared.line.LineKind.TheVariants as kind
 use Rattle.im_script.specs.Forms.{lines_of, first_of, form_of, who_of}
 use Rattle.im_script.specs.Lines.{AreLines, IsLine, HasKind, no_memory}
-use Rattle.im_shell.specs.Requests.{Request, Demand, Nothing, Told, Asks, asked, demand_of, demands_of, script_limits}
-use Rattle.im_shell.specs.inner.Answers.{IsAnswer, IsAnswered, IsBetween}
-use Rattle.im_shell.specs.Play.{play_request, replies, may_lack_in, IsPlayed, IsPlayedInPart, Plays, PlaysInPart}
+use Rattle.im_shell.specs.Requests.{Request, Demand, Nothing, Told, Asks, asked, demand_of, demands_of}
+use Rattle.im_shell.specs.inner.Answers.{IsAnswer, IsAnswered}
+use Rattle.im_shell.specs.Play.{Machine, idle, machine_after, may_lack_in, play_request, replies, state_in, with_reply, IsPlayed, IsPlayedInPart, Plays, PlaysInPart}
+use Rattle.im_statements.specs.Outcomes.{Outcome, Replied, State}
 use Rattle.im_shell.specs.inner.Going.{text_put, Sends, SendsPart, IsSoFar, PlaysNext}
 use Rattle.im_text.specs.Replies.{reply_text}
 use Rattle.im_shell.specs.Texts.{text_of}
@@ -29,11 +27,11 @@ OnErr-always (Ok value) p = tt
 OnErr-always (Err error) p = p
 
 -- no line has to run out of memory
-may_lack_in-nil : (h : History) (demands : List Demand) → may_lack_in [] h demands ≡ true
+may_lack_in-nil : (h : Machine) (demands : List Demand) → may_lack_in [] h demands ≡ true
 may_lack_in-nil h [] = refl
 may_lack_in-nil h (Nothing ∷ demands) = may_lack_in-nil h demands
 may_lack_in-nil h (Told number reply ∷ demands) = may_lack_in-nil h demands
-may_lack_in-nil h (Asks request ∷ demands) = may_lack_in-nil (play_request None h request).history demands
+may_lack_in-nil h (Asks request ∷ demands) = may_lack_in-nil (machine_after h request (play_request None h request)) demands
 
 -- ---- any lines can be read: those with a statement at least so that their reading ran out of memory
 
@@ -65,7 +63,7 @@ are_lines n (line ∷ lines) =
 
 -- ---- what the lines so far come to
 
-pub IsSoFar-start : (script : List ℕ) → IsSoFar script [] 1 [] script
+pub IsSoFar-start : (script : List ℕ) → IsSoFar script [] 1 idle script
 IsSoFar-start script = record {
   on = λ lines read lacked lawful. record
       { lines = lines; read = read; played = record { lacked = lacked; lawful = lawful; text_is = refl } };
@@ -92,7 +90,7 @@ one_more : (written : List ℕ) (n number : ℕ) (reply : Reply) (rest : List �
 one_more written n number reply rest same =
     ap (λ (n : ℕ). written ++ (reply_text n reply.body ++ rest)) same ∙ sym (append_assoc written (reply_text number reply.body) rest)
 
-module _ (script written : List ℕ) (number : ℕ) (h new : History) (rest behind bytes : List ℕ) (line : Line) where
+module _ (script written : List ℕ) (number : ℕ) (h new : Machine) (rest behind bytes : List ℕ) (line : Line) where
   -- whatever the lines behind the next one come to, which asks for this
   abbrev Onward : Demand → Type 0
   Onward demand = (lines : List Line) → AreLines (number + 1) (lines_of behind) lines →
@@ -119,23 +117,31 @@ module _ (script written : List ℕ) (number : ℕ) (h new : History) (rest behi
         (going lines more lacked (rw new_is at lawful)));
   }
 
-  -- the next request, played to this reply and this history, and then the lines behind it
-  abbrev Goes_on : List Line → List (Option ℕ) → ℕ → Played Reply → Type 0
-  Goes_on lines lacked n played =
-      may_lack_in lacked played.history (demands_of lines) ≡ true →
-      IsPlayed script (written ++ (reply_text n played.result.body ++ text_of (replies lacked played.history (demands_of lines))))
+  -- the next request, played to this outcome and this history, and then the lines behind it
+  abbrev Goes_on : List Line → List (Option ℕ) → Request → Played Outcome → Type 0
+  Goes_on lines lacked request played =
+      may_lack_in lacked (machine_after h request played) (demands_of lines) ≡ true →
+      IsPlayed script
+      (written ++ text_of (with_reply request.number played.result (replies lacked (machine_after h request played) (demands_of lines))))
 
   -- it asks for a statement
   next_asks : (request : Request) (reply : Reply) → Onward (Asks request) → request.number ≡ number → IsAnswer request h reply new →
       IsSoFar script (written ++ reply_text number reply.body) (number + 1) new behind
   next_asks request reply going same answer =
-      let machine = line_alone request.who request.amends h request.plan reply new answer.line in
+      let machine =
+      line_alone request.who request.amends h.history (request.plan (state_in h request.who)) (Replied reply answer.effect) new.history answer.line in
+      let after : machine_after h request (record { result = Replied reply answer.effect; history = new.history }) ≡ new =
+      ap (λ (states : List State). record { history = new.history; states = states }) (sym answer.states) in
       record {
         on = λ lines more lacked lawful.
-            let whole : Goes_on lines lacked request.number (play_request machine.lacked h request) =
+            let whole : Goes_on lines lacked request (play_request machine.lacked h request) =
             λ may. going lines more (machine.lacked ∷ lacked) (rw machine.lawful may) in
+            let there : Goes_on lines lacked request (record { result = Replied reply answer.effect; history = new.history }) =
+            subst (Goes_on lines lacked request) machine.same whole in
             subst (IsPlayed script) (one_more written request.number number reply (text_of (replies lacked new (demands_of lines))) same)
-            (subst (Goes_on lines lacked request.number) machine.same whole lawful);
+            (subst (λ (m : Machine). may_lack_in lacked m (demands_of lines) ≡ true
+            → IsPlayed script (written ++ (reply_text request.number reply.body ++ text_of (replies lacked m (demands_of lines)))))
+            after there lawful);
       }
 
   next_by : (demand : Demand) (reply : Option Reply) → Onward demand → HasNumber number demand → IsAnswered demand h reply new →
@@ -159,14 +165,14 @@ lines_of-nil : lines_of [] ≡ []
 unfolding lines_of
 lines_of-nil = refl
 
-pub IsSoFar-end : (script written : List ℕ) (number : ℕ) (h : History) (rest : List ℕ) → IsSoFar script written number h rest → rest ≡ [] →
+pub IsSoFar-end : (script written : List ℕ) (number : ℕ) (h : Machine) (rest : List ℕ) → IsSoFar script written number h rest → rest ≡ [] →
     IsPlayed script written
 IsSoFar-end script written number h rest so_far none =
     let no_lines : lines_of rest ≡ [] = ap lines_of none ∙ lines_of-nil in
     subst (IsPlayed script) (append-nil written) (so_far.on [] (subst (λ (l : List (List ℕ)). AreLines number l []) (sym no_lines) tt) [] refl)
 
 -- a prefix of what was written is a prefix of what the script comes to
-pub IsSoFar-part : (script written : List ℕ) (number : ℕ) (h : History) (rest front more : List ℕ) → IsSoFar script written number h rest →
+pub IsSoFar-part : (script written : List ℕ) (number : ℕ) (h : Machine) (rest front more : List ℕ) → IsSoFar script written number h rest →
     written ≡ front ++ more → IsPlayedInPart script front
 IsSoFar-part script written number h rest front more so_far split =
     let lines = some_lines number (lines_of rest) in
@@ -209,13 +215,13 @@ Sends-after a b c text left new_left first second = record {
 -- ---- the loop
 
 -- the script is played up to the rest, and the sink took all of its text but what waits
-pub record IsGoing (script : List ℕ) (before now : Option (List ℕ)) (number : ℕ) (history : History) (rest waiting : List ℕ) : Type 0 where
+pub record IsGoing (script : List ℕ) (before now : Option (List ℕ)) (number : ℕ) (machine : Machine) (rest waiting : List ℕ) : Type 0 where
   pub written : List ℕ
-  pub so_far : IsSoFar script written number history rest
+  pub so_far : IsSoFar script written number machine rest
   pub sends : Sends before now written waiting
   pub numbered : number + length rest ≤ length script + 1
 
-IsGoing-start : (script : List ℕ) (taken : Option (List ℕ)) (waiting : List ℕ) → waiting ≡ [] → IsGoing script taken taken 1 [] script waiting
+IsGoing-start : (script : List ℕ) (taken : Option (List ℕ)) (waiting : List ℕ) → waiting ≡ [] → IsGoing script taken taken 1 idle script waiting
 IsGoing-start script taken waiting none = record {
   written = [];
   so_far = IsSoFar-start script;
@@ -224,15 +230,11 @@ IsGoing-start script taken waiting none = record {
 }
 
 -- the store in which nothing has happened
-pub IsGoing-start_at : (script : List ℕ) (taken : Option (List ℕ)) (waiting : List ℕ) (h : History) → h ≡ [] → waiting ≡ [] →
+pub IsGoing-start_at : (script : List ℕ) (taken : Option (List ℕ)) (waiting : List ℕ) (h : Machine) → h ≡ idle → waiting ≡ [] →
     IsGoing script taken taken 1 h script waiting
 IsGoing-start_at script taken waiting h empty none = rw empty (IsGoing-start script taken waiting none)
 
-pub between-start : (s : Seen) → s ≡ record { limits = script_limits; log = [] } → IsBetween s
-unfolding opened replay
-between-start s is = rw is (record { limits = refl; closed = record { each = λ who. refl } })
-
-pub IsGoing-next : (script : List ℕ) (before now between after : Option (List ℕ)) (number : ℕ) (h new : History)
+pub IsGoing-next : (script : List ℕ) (before now between after : Option (List ℕ)) (number : ℕ) (h new : Machine)
     (rest behind line waiting middle new_waiting : List ℕ) → IsGoing script before now number h rest waiting →
     lines_of rest ≡ line ∷ lines_of behind → length behind + 1 ≤ length rest → PlaysNext line number h new now between waiting middle →
     Sends between after middle new_waiting → IsGoing script before after (number + 1) new behind new_waiting
@@ -247,7 +249,7 @@ IsGoing-next script before now between after number h new rest behind line waiti
       numbered = omega (arith, going.numbered);
     }
 
-pub IsGoing-end : (script : List ℕ) (before now after : Option (List ℕ)) (number : ℕ) (h : History) (rest waiting new_waiting : List ℕ) →
+pub IsGoing-end : (script : List ℕ) (before now after : Option (List ℕ)) (number : ℕ) (h : Machine) (rest waiting new_waiting : List ℕ) →
     IsGoing script before now number h rest waiting → length rest ≤ 0 → Sends now after waiting new_waiting → new_waiting ≡ [] →
     Plays script before after
 IsGoing-end script before now after number h rest waiting new_waiting going over sends none =
@@ -263,7 +265,7 @@ IsGoing-end script before now after number h rest waiting new_waiting going over
     empty (x ∷ xs) e = absurd (omega arith)
 
 -- where it stops the sink took a prefix of the text
-pub IsGoing-part : (script : List ℕ) (before now after : Option (List ℕ)) (number : ℕ) (h : History) (rest waiting : List ℕ) →
+pub IsGoing-part : (script : List ℕ) (before now after : Option (List ℕ)) (number : ℕ) (h : Machine) (rest waiting : List ℕ) →
     IsGoing script before now number h rest waiting → SendsPart now after waiting → PlaysInPart script before after
 IsGoing-part script before now after number h rest waiting going part =
     let all = Sends-after before now after going.written waiting part.left going.sends part.sends in
@@ -274,7 +276,7 @@ IsGoing-part script before now after number h rest waiting going part =
     }
 
 -- a fault right after a line
-pub IsGoing-stuck : (script : List ℕ) (before now between after : Option (List ℕ)) (number : ℕ) (h new : History)
+pub IsGoing-stuck : (script : List ℕ) (before now between after : Option (List ℕ)) (number : ℕ) (h new : Machine)
     (rest behind line waiting middle : List ℕ) → IsGoing script before now number h rest waiting → lines_of rest ≡ line ∷ lines_of behind →
     length behind + 1 ≤ length rest → PlaysNext line number h new now between waiting middle → SendsPart between after middle →
     PlaysInPart script before after
@@ -288,7 +290,7 @@ IsGoing-stuck script before now between after number h new rest behind line wait
 pub PlaysInPart-nil : (script : List ℕ) (taken now : Option (List ℕ)) → now ≡ taken → PlaysInPart script taken now
 PlaysInPart-nil script taken now same =
     subst (λ (after : Option (List ℕ)). PlaysInPart script taken after) (sym same)
-    (record { text = []; played = IsSoFar-part script [] 1 [] script [] [] (IsSoFar-start script) refl; took = Took-nil taken })
+    (record { text = []; played = IsSoFar-part script [] 1 idle script [] [] (IsSoFar-start script) refl; took = Took-nil taken })
 
 -- what holds of every script holds of one that the source shows
 pub unwritten-part : (left taken : Option (List ℕ)) → IfSome left (λ script. PlaysInPart script taken taken)

@@ -1,9 +1,5 @@
-pub mod Assigned
-pub mod Built
 pub mod Exits
 pub mod Play
 pub mod Requests
-pub mod Statements
 pub mod Texts
-pub mod Turns
 pub mod inner

@@ -6,23 +6,24 @@ use Rattle.im_script.specs.declared.line.Line.{Line}
 use Rattle.im_script.specs.declared.line.LineKind.{LineKind}
 use Rattle.im_script.specs.declared.line.LineKind.TheVariants as line
 use Rattle.im_replies.specs.declared.fault.Fault.TheVariants as fault
-use Rattle.im_shell.specs.declared.play.TheConstants.{AREA}
 use Rattle.im_replies.specs.declared.reply.Reply.{Reply}
-use Rattle.im_shell.specs.Statements.{statement_plan}
-use Rattle.im_shell.specs.Turns.{fault_reply, memory_reply, amends}
+use Rattle.im_shell.specs.declared.play.TheConstants.{AREA}
+use Rattle.im_statements.specs.Outcomes.{Outcome, State}
+use Rattle.im_statements.specs.Statements.{statement_plan}
+use Rattle.im_statements.specs.Turns.{amends, fault_reply, memory_reply}
 use Rattle.im_values.specs.declared.limits.TheConstants.{MOST_CHANGES, MOST_WEIGHT}
 
 -- the limits of the store that a script is played over
 abbrev pub script_limits : Limits
 script_limits = record { area = AREA; store = MOST_WEIGHT; changes = MOST_CHANGES }
 
--- what a statement asks for: the number of its line, the number that its entries have, its plan, and how it is amended
--- where it runs out of memory after so many entries
+-- what a statement asks for: the number of its line, the session that plays it, its plan, which knows what that session keeps, and
+-- how it is amended where it runs out of memory after so many entries
 pub record Request : Type 0 where
   pub number : ℕ
   pub who : ℕ
-  pub plan : Plan Reply
-  pub amends : ℕ → Plan Reply
+  pub plan : State → Plan Outcome
+  pub amends : ℕ → Plan Outcome
 
 -- what a line asks for: nothing; one reply, for which no memory is needed; or that a statement is played
 pub data Demand : Type 0 where
@@ -37,8 +38,8 @@ asked number line.Skip = Nothing
 asked number line.Race = Nothing
 asked number (line.Long length) = Told number (fault_reply (fault.LineTooLong length))
 asked number (line.Bad byte) = Told number (fault_reply (fault.Syntax byte))
-asked number (line.Session who statement) =
-    Asks (record { number = number; who = who; plan = statement_plan script_limits who statement; amends = amends who })
+asked number (line.Session who statement) = Asks
+    (record { number = number; who = who; plan = λ state. statement_plan script_limits who state statement; amends = amends who })
 asked number (line.Background statement) = Told number (fault_reply fault.NotBuilt)
 asked number line.NoMemory = Told number (memory_reply 0)
 

@@ -1,4 +1,2 @@
 pub mod Answers
-pub mod Creations
 pub mod Going
-pub mod Scans

@@ -1,24 +1,30 @@
-ghost use Rattle.std.specs.Prelude.{◌≡◌, ◌≤◌, [], ◌++◌, IfOk, OnOk, OnErr, IsErrOf};
+ghost use Rattle.std.specs.Prelude.{◌≡◌, ◌≤◌, ◌+◌, ℕ, [], ◌++◌, IfOk, OnOk, OnErr, IsErrOf};
 ghost use Rattle.im_edge.specs.Faults.{Rose};
 ghost use Rattle.im_shell.specs.declared.play.Stop.TheVariants as stop;
 ghost use Rattle.im_shell.specs.inner.Going.{IsRead, text_put, Sends, SendsPart, PlaysBytes, PlaysNext};
 ghost use Rattle.im_shell.specs.Play.{Plays, PlaysInPart};
-ghost use Rattle.im_shell.specs.inner.Answers.{Answers, IsBetween, IsKnown};
+ghost use Rattle.im_reach.specs.Sides.{sole};
+ghost use Rattle.im_shell.specs.inner.Answers.{Answers, IsAnswer, IsBetween, IsKnown, machine_of, unused_from};
 ghost use Rattle.im_shell.specs.Requests.{script_limits};
+ghost use Rattle.im_statements.specs.Statements.{statement_plan};
+ghost use Rattle.im_statements.specs.Turns.{amends};
+ghost use Rattle.im_syntax.specs.Rules.{IsStmt};
 ghost use Rattle.im_text.specs.Replies.{reply_text};
 
-use crate::refusals::out_of_memory;
-use crate::statement::play_statement;
 use im_core::Core;
-use im_edge::{Sink, WriteFault, write_all};
+use im_edge::{Gate, Sink, WriteFault, write_all};
 use im_history::Limits;
+use im_reach::{Reach, Sole};
 use im_replies::{Body, Fault, Reply};
 use im_script::{Line, LineKind, first_line, line_of};
+use im_session::Session;
+use im_syntax::Stmt;
 use im_text::Waiting;
 use im_unit::ColumnUnit;
-use im_values::limits::{MOST_CHANGES, MOST_WEIGHT};
+use im_values::limits::{MOST_CHANGES, MOST_WEIGHT, SESSIONS};
 use im_values::{NoMemory, Steps};
 use std::alloc::Global;
+use std::sync::Wait;
 use std::sync::ledger::Ledger;
 use thiserror::Error;
 
@@ -70,17 +76,41 @@ fn read_line(alloc: Global, number: u64, bytes: &[u8]) -> Line
     line_of(alloc, number, bytes)
 }
 
+/// Plays a statement of a session.
+fn play_statement<R: Wait, H: Reach<ColumnUnit>, G: Gate, L: Ledger>(
+    rt: &R,
+    reach: &mut H,
+    gate: &G,
+    sessions: &mut [Session],
+    who: u32,
+    statement: &Stmt,
+    steps: &mut Steps<L>,
+) -> Reply
+    requires session { who ≤ SESSIONS }
+    requires statement { IsStmt statement.now }
+    requires between { IsBetween (H.known reach.old) sessions.old }
+    ensures between { IsBetween (H.known reach.new) sessions.new }
+    ensures answer { (number : ℕ) → IsAnswer
+        (record { number = number; who = who; plan = λ state. statement_plan script_limits who state statement.now; amends = amends who })
+        (machine_of (H.known reach.old) sessions.old) result (machine_of (H.known reach.new) sessions.new) }
+{
+    sessions[who as usize].execute(rt, reach, gate, statement, steps)
+}
+
 /// Plays one line. Blanks, comments and the end of a prelude have no reply.
-fn play_line<L: Ledger>(
+fn play_line<R: Wait, H: Reach<ColumnUnit>, G: Gate, L: Ledger>(
     alloc: Global,
-    store: &mut Core<ColumnUnit>,
+    rt: &R,
+    reach: &mut H,
+    gate: &G,
+    sessions: &mut [Session],
     line: &Line,
     steps: &mut Steps<L>,
 ) -> Option<Reply>
     requires known { IsKnown line.now.kind }
-    requires between { IsBetween store.old }
-    ensures between { IsBetween store.new }
-    ensures answers { Answers line.now store.old.log result store.new.log }
+    requires between { IsBetween (H.known reach.old) sessions.old }
+    ensures between { IsBetween (H.known reach.new) sessions.new }
+    ensures answers { Answers line.now (machine_of (H.known reach.old) sessions.old) result (machine_of (H.known reach.new) sessions.new) }
 {
     match &line.kind {
         LineKind::Skip | LineKind::Race => None,
@@ -90,27 +120,31 @@ fn play_line<L: Ledger>(
         )),
         LineKind::Bad(byte) => Some(Reply::refusal(alloc, Fault::Syntax { byte: *byte })),
         LineKind::Session(who, statement) => {
-            Some(play_statement(alloc, store, *who, statement, steps))
+            Some(play_statement(rt, reach, gate, sessions, *who, statement, steps))
         }
         LineKind::Background(_) => Some(Reply::refusal(alloc, Fault::NotBuilt)),
-        LineKind::NoMemory => Some(out_of_memory(alloc, 0)),
+        LineKind::NoMemory => Some(Reply::refusal(alloc, Fault::Memory { k: 0 })),
     }
 }
 
 /// Reads the next line, and plays it.
-fn play_bytes<L: Ledger>(
+fn play_bytes<R: Wait, H: Reach<ColumnUnit>, G: Gate, L: Ledger>(
     alloc: Global,
-    store: &mut Core<ColumnUnit>,
+    rt: &R,
+    reach: &mut H,
+    gate: &G,
+    sessions: &mut [Session],
     bytes: &[u8],
     number: u64,
     steps: &mut Steps<L>,
 ) -> Option<Reply>
-    requires between { IsBetween store.old }
-    ensures between { IsBetween store.new }
-    ensures plays { PlaysBytes bytes.now number store.old.log result store.new.log }
+    requires between { IsBetween (H.known reach.old) sessions.old }
+    ensures between { IsBetween (H.known reach.new) sessions.new }
+    ensures plays { PlaysBytes bytes.now number (machine_of (H.known reach.old) sessions.old) result
+        (machine_of (H.known reach.new) sessions.new) }
 {
     let line = read_line(alloc, number, bytes);
-    play_line(alloc, store, &line, steps)
+    play_line(alloc, rt, reach, gate, sessions, &line, steps)
 }
 
 /// Writes all that waits.
@@ -181,40 +215,92 @@ fn put_reply<K: Sink>(
 }
 
 /// Plays the next line, and puts the text of its reply behind what waits to be written.
-fn play_next<K: Sink, L: Ledger>(
+fn play_next<R: Wait, H: Reach<ColumnUnit>, G: Gate, K: Sink, L: Ledger>(
     alloc: Global,
-    store: &mut Core<ColumnUnit>,
+    rt: &R,
+    reach: &mut H,
+    gate: &G,
+    sessions: &mut [Session],
     bytes: &[u8],
     number: u64,
     sink: &mut K,
     waiting: &mut Waiting,
     steps: &mut Steps<L>,
 ) -> Result<(), Stop>
-    requires between { IsBetween store.old }
-    ensures between { IsBetween store.new }
-    ensures ok { OnOk result (PlaysNext bytes.now number store.old.log store.new.log
-        (K.taken sink.old) (K.taken sink.new) waiting.old waiting.new) }
+    requires between { IsBetween (H.known reach.old) sessions.old }
+    ensures between { IsBetween (H.known reach.new) sessions.new }
+    ensures ok { OnOk result (PlaysNext bytes.now number (machine_of (H.known reach.old) sessions.old)
+        (machine_of (H.known reach.new) sessions.new) (K.taken sink.old) (K.taken sink.new) waiting.old waiting.new) }
     ensures err { OnErr result (SendsPart (K.taken sink.old) (K.taken sink.new) waiting.old) }
     ensures cause { IsErrOf result Stop.WriteFault → Rose (K.faults sink.old) (K.faults sink.new) }
     ensures later { K.faults sink.old ≤ K.faults sink.new }
 {
-    let reply = play_bytes(alloc, store, bytes, number, steps);
+    let reply = play_bytes(alloc, rt, reach, gate, sessions, bytes, number, steps);
     put_reply(alloc, number, &reply, sink, waiting)
 }
 
-/// The store in which nothing has happened.
-fn empty_store(alloc: Global) -> Result<Core<ColumnUnit>, NoMemory>
-    ensures { IfOk result (λ store. store ≡ record { limits = script_limits; log = [] }) }
+/// The store in which nothing has happened, and which nobody else has.
+fn empty_store(alloc: Global) -> Result<Sole<ColumnUnit>, NoMemory>
+    ensures { IfOk result (λ store. ⟦<Sole<ColumnUnit> as Reach<ColumnUnit>>⟧.known store
+        ≡ record { side = sole; limits = script_limits; log = []; misses = 0 }) }
 {
     match Core::new(alloc, LIMITS) {
-        Ok(store) => Ok(store),
+        Ok(core) => Ok(Sole::new(core)),
         Err(_) => Err(NoMemory),
     }
 }
 
-/// Plays a script line by line, over a store of its own, and writes the text of its replies.
-pub fn play_script<K: Sink, L: Ledger>(
+/// The sessions of a script by their numbers, none of which keeps anything. Number 0 is the background's.
+fn unused_sessions(alloc: Global) -> Result<Vec<Session>, NoMemory>
+    ensures { IfOk result (λ sessions. sessions.items ≡ unused_from 0 (SESSIONS + 1)) }
+{
+    let mut sessions = Vec::with_capacity(alloc, SESSIONS as usize + 1)?;
+    for who in 0..SESSIONS + 1 {
+        sessions.push(Session::new(alloc, who))?;
+    }
+    Ok(sessions)
+}
+
+/// Plays a script line by line, over a store in which nothing has happened and sessions that keep nothing, and writes the text
+/// of its replies.
+fn play_lines<R: Wait, H: Reach<ColumnUnit>, G: Gate, K: Sink, L: Ledger>(
     alloc: Global,
+    rt: &R,
+    reach: &mut H,
+    gate: &G,
+    sessions: &mut [Session],
+    script: &[u8],
+    sink: &mut K,
+    waiting: &mut Waiting,
+    steps: &mut Steps<L>,
+) -> Result<(), Stop>
+    requires empty { H.known reach.old ≡ record { side = sole; limits = script_limits; log = []; misses = 0 } }
+    requires unused { sessions.old ≡ unused_from 0 (SESSIONS + 1) }
+    requires none_waits { waiting.old ≡ [] }
+    ensures ok { OnOk result (Plays script.now (K.taken sink.old) (K.taken sink.new)) }
+    ensures err { OnErr result (PlaysInPart script.now (K.taken sink.old) (K.taken sink.new)) }
+    ensures cause { IsErrOf result Stop.WriteFault → Rose (K.faults sink.old) (K.faults sink.new) }
+    ensures later { K.faults sink.old ≤ K.faults sink.new }
+{
+    let mut rest = script;
+    let mut number = 1;
+    while rest.len() > 0 {
+        let (line, behind) = first_line(rest);
+        play_next(
+            alloc, rt, reach, gate, sessions, line, number, sink, waiting, steps,
+        )?;
+        flush_piece(sink, waiting)?;
+        number += 1;
+        rest = behind;
+    }
+    Ok(flush(sink, waiting)?)
+}
+
+/// Plays a script, over a store and sessions of its own, and writes the text of its replies.
+pub fn play_script<R: Wait, G: Gate, K: Sink, L: Ledger>(
+    alloc: Global,
+    rt: &R,
+    gate: &G,
     script: &[u8],
     sink: &mut K,
     steps: &mut Steps<L>,
@@ -225,16 +311,18 @@ pub fn play_script<K: Sink, L: Ledger>(
     ensures later { K.faults sink.old ≤ K.faults sink.new }
 {
     let mut store = empty_store(alloc)?;
+    let mut sessions = unused_sessions(alloc)?;
     let mut waiting = Waiting::with_room(alloc, PIECE)?;
-    let mut rest = script;
-    let mut number = 1;
-    while rest.len() > 0 {
-        let (line, behind) = first_line(rest);
-        play_next(alloc, &mut store, line, number, sink, &mut waiting, steps)?;
-        flush_piece(sink, &mut waiting)?;
-        number += 1;
-        rest = behind;
-    }
-    flush(sink, &mut waiting)?;
-    Ok(())
+    let played = sessions.as_mut_slice();
+    play_lines(
+        alloc,
+        rt,
+        &mut store,
+        gate,
+        played,
+        script,
+        sink,
+        &mut waiting,
+        steps,
+    )
 }

@@ -25,12 +25,12 @@ use std::thread::Threads;
 /// so, and the script goes on; [`Status::NoMemory`] is for the reading of the script, and for a text that does not fit even
 /// once all before it is written.
 pub fn run<R: Threads + Wait + Sync, S: Source, K: Sink, G: Gate + Sync, L: Ledger>(
-    _rt: &R,
+    rt: &R,
     alloc: Global,
     words: &[Word],
     source: &mut S,
     sink: &mut K,
-    _gate: &G,
+    gate: &G,
     steps: &mut Steps<L>,
 ) -> Status
     // Where the source shows what it had left, that is the script.
@@ -65,7 +65,7 @@ pub fn run<R: Threads + Wait + Sync, S: Source, K: Sink, G: Gate + Sync, L: Ledg
         Err(ReadError::TooLong) => return Status::ScriptTooLong,
         Err(ReadError::NoMemory) => return Status::NoMemory,
     };
-    match play_script(alloc, script.as_slice(), sink, steps) {
+    match play_script(alloc, rt, gate, script.as_slice(), sink, steps) {
         Ok(()) => Status::Done,
         Err(Stop::WriteFault) => Status::WriteFault,
         Err(Stop::NoMemory) => Status::NoMemory,

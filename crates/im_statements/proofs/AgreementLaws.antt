@@ -14,7 +14,7 @@ use Rattle.im_history.specs.declared.limits.Limits.{Limits}
 use Rattle.im_history.specs.declared.look.TableInfo.{TableInfo}
 use Rattle.im_history.specs.declared.refused.Why.{Why}
 use Rattle.im_history.specs.declared.view.View.{View}
-use Rattle.im_history.specs.Cursors.{Opened, cursor_at, is_cursor, opened}
+use Rattle.im_history.specs.Cursors.{Opened, is_cursor, opened}
 use Rattle.im_history.specs.Grid.{Grid}
 use Rattle.im_history.specs.History.{History}
 use Rattle.im_history.specs.Refusals.{begin_refusal, create_refusal, forbids_writing, insert_refusal, open_refusal, write_refusal}
@@ -43,12 +43,12 @@ use Rattle.im_syntax.specs.declared.statement.Stmt.TheVariants as stmt
 use Rattle.im_syntax.specs.Condition.{CondOf}
 use Rattle.im_syntax.specs.Rules.{IsStmt}
 use Rattle.im_statements.specs.Agreement.{AreQueriesOf, IsQueryOf, KeepAgreement, kept_by}
-use Rattle.im_statements.specs.Cursors.{close, fetch, open_query, over, step}
+use Rattle.im_statements.specs.Cursors.{close, close_with, fetch, open_query, step, with_query}
 use Rattle.im_statements.specs.Definitions.{create_table, created, join_memory, roll_back, set_mode}
-use Rattle.im_statements.specs.Outcomes.{Closes, Opens, Outcome, Query, Replied, State, is_query, query_at, stepped}
+use Rattle.im_statements.specs.Outcomes.{Opens, Outcome, Query, Replied, State, is_query, query_at, stepped}
 use Rattle.im_statements.specs.Scans.{end_scan, explain, explained, mark_at, rows_seen, scan, select, serve, serve_from}
 use Rattle.im_statements.specs.Statements.{found_plan, is_definition, looked_up, named_plan, resolved_plan, statement_plan}
-use Rattle.im_statements.specs.Turns.{answer_at, decide_by, look, or_refused, served_reply, settled_reply, unless_refused}
+use Rattle.im_statements.specs.Turns.{answer_at, look, or_refused, served_reply, settled_reply, unless_refused}
 use Rattle.im_statements.specs.Writes.{changes_to, insert, inserts, kept_rows, or_fault, rewrite, write_or_end, written}
 use Rattle.im_statements.specs.declared.rewriting.Rewriting.{Rewriting}
 use Rattle.im_statements.specs.declared.rewriting.Rewriting.TheVariants.{Updating, Deleting}
@@ -164,7 +164,7 @@ stepped-is : (number : ℕ) (query : Query) (cursor : Opened) → IsQueryOf quer
 stepped-is number query cursor is = by (query.cursor == number)
   where
     by : (b : Bool) → IsQueryOf (if b then record query { next = query.next + 1 } else query) cursor
-    by true = record { same = is.same; table = is.table }
+    by true = record { same = is.same; view = is.view }
     by false = is
 
 queries-stepped : (number : ℕ) (queries : List Query) (cursors : List Opened) → AreQueriesOf queries cursors
@@ -245,35 +245,33 @@ module _ (who : ℕ) (state : State) (cursors : List Opened) (steady : Steady st
   good-serve view filter (suc left) extent marks on rest =
       good-look _ (λ at. good-serve view filter left (extent + 1) (marks ++ mark_at at view filter extent ∷ []) on rest)
 
-  good-over : (cursor : ℕ) (at : History) (query : Option Query) (found : Option Opened) (on : Query → View → Plan Outcome)
-      → ((query : Query) (view : View) → IsGood who state cursors (on query view)) → IsGood who state cursors (over cursor at query found on)
-  good-over cursor at (Some query) (Some found) on rest = rest query found.view
-  good-over cursor at (Some query) None on rest = plain-good who state cursors steady _ (refl, refl)
-  good-over cursor at None found on rest = plain-good who state cursors steady _ (refl, refl)
+  good-with : (cursor : ℕ) (at : History) (query : Option Query) (on : Query → Plan Outcome)
+      → ((query : Query) → IsGood who state cursors (on query)) → IsGood who state cursors (with_query cursor at query on)
+  good-with cursor at (Some query) on rest = rest query
+  good-with cursor at None on rest = plain-good who state cursors steady _ (refl, refl)
 
   -- a cursor is closed, which decides the line
-  good-closing : (cursor : ℕ) (reply : History → Reply)
-      → IsGood who state cursors (decide_by (λ here. what.Shut cursor) (λ here. End (Replied (reply here) (Closes cursor))))
+  good-closing : (cursor : ℕ) (reply : History → Reply) → IsGood who state cursors (close_with cursor reply)
   good-closing cursor reply = record {
     keeps = λ at. (any-filter (is_cursor 0) (λ other. not (is_cursor cursor other)) cursors steady.0, queries-filter cursor state.queries cursors steady.1);
     stops = (closes, λ at free. absurd cc);
   }
 
-  good-step : (at : History) (cursor : ℕ) → IsGood who state cursors (step state who at cursor)
+  good-step : (at : History) (cursor : ℕ) → IsGood who state cursors (step state at cursor)
   good-step at cursor =
-      good-over cursor at (query_at state cursor) (cursor_at at who cursor) _ (λ query view.
-      good-if (nat_lt query.next view.extents) _ _
-      (good-look _ (λ here. record { keeps = (steady.0, queries-stepped cursor state.queries cursors steady.1); stops = closes }))
+      good-with cursor at (query_at state cursor) _ (λ query.
+      good-if (nat_lt query.next query.view.extents) _ _
+      (good-look _ (λ here. record { keeps = (steady.0, queries-stepped query.cursor state.queries cursors steady.1); stops = closes }))
       (plain-good who state cursors steady _ (refl, refl)))
 
-  good-fetch : (at : History) (cursor : ℕ) → IsGood who state cursors (fetch state who at cursor)
+  good-fetch : (at : History) (cursor : ℕ) → IsGood who state cursors (fetch state at cursor)
   good-fetch at cursor =
-      good-over cursor at (query_at state cursor) (cursor_at at who cursor) _ (λ query view.
-      good-serve view query.bound.filter _ query.next [] _ (λ marks. good-closing cursor _))
+      good-with cursor at (query_at state cursor) _ (λ query.
+      good-serve query.view query.bound.filter _ query.next [] _ (λ marks. good-closing query.cursor _))
 
-  good-close : (at : History) (cursor : ℕ) → IsGood who state cursors (close state who at cursor)
+  good-close : (at : History) (cursor : ℕ) → IsGood who state cursors (close state at cursor)
   good-close at cursor =
-      good-over cursor at (query_at state cursor) (cursor_at at who cursor) _ (λ query view. good-closing cursor _)
+      good-with cursor at (query_at state cursor) _ (λ query. good-closing query.cursor _)
 
   good-open : (cursor : ℕ) (bound : Bound) → 1 ≤ cursor → IsGood who state cursors (open_query who cursor bound)
   good-open cursor bound some = record {
@@ -281,12 +279,13 @@ module _ (who : ℕ) (state : State) (cursors : List Opened) (steady : Steady st
     stops = (closes, λ at free. stops at (open_refusal at who cursor) free);
   }
     where
-      query : Query
-      query = record { cursor = cursor; bound = bound; next = 0 }
+      query : History → Query
+      query at = record { cursor = cursor; bound = bound; view = view_at at who bound.table; next = 0 }
 
       opening : History → Plan Outcome
       opening at =
-          End (Replied (settled_reply (length at) (body.Opened cursor (view_at at who bound.table).scn (view_at at who bound.table).extents)) (Opens query))
+          End (Replied (settled_reply (length at) (body.Opened cursor (view_at at who bound.table).scn (view_at at who bound.table).extents))
+          (Opens (query at)))
 
       other : (cursor == 0) ≡ false
       other = grind (arith, nat_tests, some)
@@ -295,7 +294,7 @@ module _ (who : ℕ) (state : State) (cursors : List Opened) (steady : Steady st
           → Keeps who state (moved who cursors at (unless_refused o (what.Open cursor bound.table))) (or_refused (opening_fault cursor) at o (opening at))
       keeps at None = (
         any-append (is_cursor 0) cursors _ steady.0 other,
-        queries-append state.queries cursors query _ steady.1 (record { same = refl; table = refl }),
+        queries-append state.queries cursors (query at) _ steady.1 (record { same = refl; view = refl }),
       )
       keeps at (Some cause) = steady
 

@@ -47,7 +47,7 @@ pub record IsGood (who : ℕ) (state : State) (cursors : List Opened) (plan : Pl
 
 -- ---- one turn
 
-itself : (who : ℕ) → (who == who) ≡ true
+pub itself : (who : ℕ) → (who == who) ≡ true
 itself who = grind (arith, nat_tests)
 
 opened-moved : (h : History) (who : ℕ) (added : Option What) → opened (h ++ made who added) who ≡ moved who (opened h who) h added

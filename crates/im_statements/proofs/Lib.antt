@@ -1,3 +1,4 @@
-mod AgreementLaws
+pub mod AgreementLaws
 mod KeptLaws
 pub mod OtherLaws
+pub mod TransactionLaws

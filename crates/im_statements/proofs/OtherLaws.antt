@@ -1,11 +1,12 @@
 -- What entries of others leave as it is.
-use Rattle.std.proofs.Common.{◌≡◌, ℕ, ◌==◌, Bool, true, false, if◌then◌else◌, [], ◌∷◌, ◌++◌, All, refl, sym, ap, ◌∙◌, arith, append-nil, append_assoc}
+use Rattle.std.proofs.Common.{◌≡◌, ℕ, ◌==◌, Bool, true, false, if◌then◌else◌, [], ◌∷◌, ◌++◌, length, is_some, All, refl, sym, ap, ◌∙◌, arith, append-nil, append_assoc}
 use Rattle.std.proofs.lemmas.Bool.Decides.{nat_tests}
 use Rattle.std.proofs.lemmas.List.Elements.{All-head, All-tail, All-weaker}
 use Rattle.im_history.specs.declared.entry.Entry.{Entry}
 use Rattle.im_history.specs.Cursors.{opened, opened_after}
 use Rattle.im_history.specs.History.{History}
-use Rattle.im_history.proofs.Laws.{opened-push}
+use Rattle.im_history.specs.Transactions.{begun, begun_after, is_open}
+use Rattle.im_history.proofs.Laws.{begun-push, opened-push}
 use Rattle.im_plan.specs.Goes.{After, Others}
 
 -- a number that is not mine is another
@@ -42,3 +43,12 @@ opened-after mine who =
     (λ h entry other.
     opened-push h entry who
     ∙ ap (λ (b : Bool). if b then opened_after h who (opened h who) entry.what else opened h who) other) mine
+
+-- whether its transaction is open
+pub is_open-after : (mine : ℕ → Bool) (who : ℕ) (old at : History) → mine who ≡ true → After (Others mine) old at → is_open at who ≡ is_open old who
+is_open-after mine who old at is_mine after =
+    ap is_some
+    (stays-after (λ h. begun h who) who
+    (λ h entry other.
+    begun-push h entry who
+    ∙ ap (λ (b : Bool). if b then begun_after (length h) (begun h who) entry.what else begun h who) other) mine old at is_mine after)

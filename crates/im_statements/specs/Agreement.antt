@@ -10,10 +10,10 @@ use Rattle.im_statements.specs.Outcomes.{Outcome, Query, Replied, State, Unfinis
 use Rattle.im_statements.specs.Statements.{statement_plan}
 use Rattle.im_statements.specs.Turns.{amends}
 
--- a query is that of an open cursor
+-- a query is that of an open cursor, with its view
 pub record IsQueryOf (query : Query) (cursor : Opened) : Type 0 where
   pub same : query.cursor ≡ cursor.cursor
-  pub table : query.bound.table ≡ cursor.view.table
+  pub view : query.view ≡ cursor.view
 
 -- queries are those of open cursors, in order
 abbrev pub AreQueriesOf : List Query → List Opened → Type 0

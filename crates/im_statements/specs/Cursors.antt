@@ -1,9 +1,7 @@
 -- Statements over a session's cursors, which stay open between lines.
-use Rattle.std.specs.Prelude.{ℕ, nat_lt, [], ◌∷◌, length, Option, Some, None, if◌then◌else◌}
+use Rattle.std.specs.Prelude.{ℕ, nat_lt, List, [], ◌∷◌, length, Option, Some, None, if◌then◌else◌}
 use Rattle.im_group.specs.Answers.{answer}
 use Rattle.im_history.specs.declared.entry.What.TheVariants.{Open, Shut}
-use Rattle.im_history.specs.declared.view.View.{View}
-use Rattle.im_history.specs.Cursors.{Opened as OpenCursor, cursor_at}
 use Rattle.im_history.specs.History.{History}
 use Rattle.im_history.specs.Refusals.{open_refusal}
 use Rattle.im_history.specs.Views.{view_at}
@@ -24,42 +22,55 @@ open_query who cursor bound =
     decide (opening_fault cursor) (λ at. open_refusal at who cursor) (λ at. Open cursor bound.table) (λ at.
     End (Replied
     (settled_reply (length at) (Opened cursor (view_at at who bound.table).scn (view_at at who bound.table).extents))
-    (Opens (record { cursor = cursor; bound = bound; next = 0 }))))
+    (Opens (record { cursor = cursor; bound = bound; view = view_at at who bound.table; next = 0 }))))
 
--- a line over a cursor that is not open
-abbrev pub unknown : ℕ → History → Plan Outcome
-unknown cursor at = answer_at at (Error (fault.CursorUnknown cursor))
-
--- what a line does over an open cursor: with its query and its view, or it is refused where the cursor is not open
-abbrev pub over : ℕ → History → Option Query → Option OpenCursor → (Query → View → Plan Outcome) → Plan Outcome
-over cursor at (Some query) (Some opened) on = on query opened.view
-over cursor at (Some query) None on = unknown cursor at
-over cursor at None opened on = unknown cursor at
-
--- a line over a cursor, which was looked for at this history
-abbrev pub over_cursor : State → ℕ → History → ℕ → (Query → View → Plan Outcome) → Plan Outcome
-over_cursor state who at cursor on = over cursor at (query_at state cursor) (cursor_at at who cursor) on
+-- ---- open cursors
 
 -- the reply of a STEP that was served an extent
 abbrev pub step_reply : Served → Reply
 step_reply mark = served_reply mark.place (mark ∷ []) (Step mark.extent mark.how)
 
 -- STEP: the next extent is served, unless none is left
-abbrev pub step : State → ℕ → History → ℕ → Plan Outcome
-step state who at cursor = over_cursor state who at cursor (λ query view.
-    if nat_lt query.next view.extents
-    then look (λ here. End (Replied (step_reply (mark_at here view query.bound.filter query.next)) (Steps cursor)))
-    else answer_at at (AtEnd cursor))
+abbrev pub step_query : History → Query → Plan Outcome
+step_query at query =
+    if nat_lt query.next query.view.extents
+    then look (λ here. End (Replied (step_reply (mark_at here query.view query.bound.filter query.next)) (Steps query.cursor)))
+    else answer_at at (AtEnd query.cursor)
+
+-- the cursor is closed, and the line ends with the reply that is settled there
+abbrev pub close_with : ℕ → (History → Reply) → Plan Outcome
+close_with cursor reply = decide_by (λ here. Shut cursor) (λ here. End (Replied (reply here) (Closes cursor)))
+
+-- the reply of a FETCH at this history, which was served so
+abbrev pub fetch_reply : History → Query → List Served → Reply
+fetch_reply at query marks = served_reply (length at) marks (Answer query.view.scn (answer query.bound (rows_seen at query.view)))
 
 -- FETCH: all extents that are left are served, and the cursor is closed. The answer is over the rows that the view sees in all
 -- its extents, and is settled at the look
-abbrev pub fetch : State → ℕ → History → ℕ → Plan Outcome
-fetch state who at cursor = over_cursor state who at cursor (λ query view.
-    serve_from view query.bound.filter query.next (λ marks.
-    decide_by (λ here. Shut cursor) (λ here.
-    End (Replied (served_reply (length at) marks (Answer view.scn (answer query.bound (rows_seen at view)))) (Closes cursor)))))
+abbrev pub fetch_query : History → Query → Plan Outcome
+fetch_query at query =
+    serve_from query.view query.bound.filter query.next (λ marks. close_with query.cursor (λ here. fetch_reply at query marks))
 
 -- CLOSE
-abbrev pub close : State → ℕ → History → ℕ → Plan Outcome
-close state who at cursor = over_cursor state who at cursor (λ query view.
-    decide_by (λ here. Shut cursor) (λ here. End (Replied (settled_reply (length here) (Closed cursor)) (Closes cursor))))
+abbrev pub close_query : ℕ → Plan Outcome
+close_query cursor = close_with cursor (λ here. settled_reply (length here) (Closed cursor))
+
+-- ---- cursors by their numbers
+
+-- what a line does with the query of a cursor, or it is refused where that is not open
+abbrev pub with_query : ℕ → History → Option Query → (Query → Plan Outcome) → Plan Outcome
+with_query cursor at (Some query) on = on query
+with_query cursor at None on = answer_at at (Error (fault.CursorUnknown cursor))
+
+-- a line over a cursor, which was looked for at this history
+abbrev pub with_cursor : State → History → ℕ → (Query → Plan Outcome) → Plan Outcome
+with_cursor state at cursor on = with_query cursor at (query_at state cursor) on
+
+abbrev pub step : State → History → ℕ → Plan Outcome
+step state at cursor = with_cursor state at cursor (step_query at)
+
+abbrev pub fetch : State → History → ℕ → Plan Outcome
+fetch state at cursor = with_cursor state at cursor (fetch_query at)
+
+abbrev pub close : State → History → ℕ → Plan Outcome
+close state at cursor = with_cursor state at cursor (λ query. close_query query.cursor)

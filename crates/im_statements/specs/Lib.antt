@@ -5,5 +5,6 @@ pub mod Definitions
 pub mod Outcomes
 pub mod Scans
 pub mod Statements
+pub mod Transaction
 pub mod Turns
 pub mod Writes

@@ -1,13 +1,15 @@
 -- What a session keeps between its lines, and what comes of a line.
 use Rattle.std.specs.Prelude.{ℕ, ◌+◌, ◌==◌, Bool, not, List, [], ◌∷◌, ◌++◌, map, filter, Option, if◌then◌else◌}
 use Rattle.std.specs.List.{find}
+use Rattle.im_history.specs.declared.view.View.{View}
 use Rattle.im_syntax.specs.declared.bound.Bound.{Bound}
 use Rattle.im_replies.specs.declared.reply.Reply.{Reply}
 
--- what a session keeps of a cursor, beside what the history says of it: its query, and the next extent that a step serves
+-- what a session keeps of an open cursor: its query, its view, and the next extent that a step serves
 pub record Query : Type 0 where
   pub cursor : ℕ
   pub bound : Bound
+  pub view : View
   pub next : ℕ
 
 -- what a session keeps between its lines

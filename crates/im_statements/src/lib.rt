@@ -5,8 +5,9 @@
 //! a turn of its own, and `specs/Writes.antt`, `Cursors.antt` and `Definitions.antt` the statements. `specs/Statements.antt` puts names
 //! before them.
 //!
-//! [`lines_keep_agreement`] is the law that what a session keeps agrees with its history (`specs/Agreement.antt`). Beside it the crate
-//! has definitions, and the one enum that they and the sessions share. Start with `specs/Turns.antt`, then `specs/Statements.antt`.
+//! [`lines_keep_agreement`] is the law that what a session keeps agrees with its history (`specs/Agreement.antt`), and that replies say
+//! whether a transaction is open (`specs/Transaction.antt`). Beside it the crate has definitions, and the one enum that they and the
+//! sessions share. Start with `specs/Turns.antt`, then `specs/Statements.antt`.
 #![tactic(auto)]
 
 mod agreement;

@@ -1,28 +1,20 @@
 -- The cursors that a session keeps, and what they agree with in the history.
-use Rattle.std.specs.Prelude.{◌≡◌, ℕ, ◌+◌, ◌≤◌, Bool, true, false, Option, Some, None}
-use Rattle.im_group.specs.Partials.{Parts, merged, partial}
+use Rattle.std.specs.Prelude.{ℕ, ◌+◌, Bool, true, false, Option, Some, None}
+use Rattle.im_group.specs.Partials.{Parts, merged}
 use Rattle.im_reach.specs.Sides.{Known}
 use Rattle.im_replies.specs.declared.reply.Reply.{Reply}
 use Rattle.im_replies.specs.declared.served.Served.{Served}
-use Rattle.im_scan.specs.Pinned.{seen_to}
 use Rattle.im_session.specs.declared.cursor.Cursor.{Cursor}
-use Rattle.im_session.specs.inner.Scans.{IsScan, MayAskIn}
+use Rattle.im_session.specs.Cursors.{IsSound, query_of}
+use Rattle.im_session.specs.inner.Scans.{IsScan}
 use Rattle.im_statements.specs.Cursors.{step_reply}
 use Rattle.im_statements.specs.Outcomes.{Closes, Opens, Outcome, Query, Replied, Steps, said}
 use Rattle.im_statements.specs.Turns.{memory_reply}
-use Rattle.im_syntax.specs.BoundQuery.{IsQuery}
 
--- what a session's plans know of a cursor that it keeps
-abbrev pub query_of : Cursor → Query
-query_of kept = record { cursor = kept.number; bound = kept.bound; next = kept.next }
-
--- a cursor that is kept is open, with its view, and the parts of the extents before the next one are merged
+-- a cursor that is kept is open, with its view
 pub record IsKept (who : ℕ) (kept : Cursor) (now : Known) : Type 0 where
   pub scan : IsScan who kept.number kept.view now
-  pub asks : MayAskIn kept.bound kept.view now
-  pub query : IsQuery kept.bound
-  pub next : kept.next ≤ kept.view.extents
-  pub part : kept.part ≡ partial kept.bound (seen_to now.log kept.view kept.next)
+  pub sound : IsSound kept now
 
 -- what comes of an OPEN
 abbrev pub opening_outcome : Reply → Option Cursor → Outcome

@@ -1,27 +1,23 @@
 -- A scan over a side of a store, between the opening of its cursor and its end.
-use Rattle.std.specs.Prelude.{◌≡◌, ℕ, ◌≤◌, true, [], ◌∷◌, ◌++◌, List, length, Option, Some}
-use Rattle.std.specs.List.{AllByRecursion}
-use Rattle.im_values.specs.declared.limits.TheConstants.{MOST_ROWS}
+use Rattle.std.specs.Prelude.{◌≡◌, ℕ, true, [], ◌∷◌, ◌++◌, List, length, Option, Some}
 use Rattle.im_history.specs.declared.entry.What.TheVariants.{Shut}
 use Rattle.im_history.specs.declared.view.View.{View}
-use Rattle.im_history.specs.Commits.{scn}
 use Rattle.im_history.specs.Cursors.{cursor_at, is_cursor_open}
-use Rattle.im_history.specs.Grid.{extents_for}
 use Rattle.im_history.specs.History.{History}
-use Rattle.im_history.specs.Legal.{Exists}
 use Rattle.im_history.specs.Rows.{Row}
 use Rattle.im_history.specs.Serving.{fetched_in, serving_content}
-use Rattle.im_history.specs.Tables.{tables}
 use Rattle.im_history.specs.Units.{Content}
-use Rattle.im_history.specs.Views.{per_at}
-use Rattle.im_names.specs.Fitting.{OfTable, QueryServes}
 use Rattle.im_plan.specs.Goes.{After}
 use Rattle.im_plan.specs.Plan.{Plan}
 use Rattle.im_reach.specs.Sides.{AreOthers, Known}
-use Rattle.im_scan.specs.Parts.{MayAsk}
+use Rattle.im_session.specs.Cursors.{IsView}
 use Rattle.im_session.specs.inner.Rests.{IsRest}
 use Rattle.im_statements.specs.Outcomes.{Outcome}
-use Rattle.im_syntax.specs.declared.bound.Bound.{Bound}
+
+-- the history went on, by whomever
+pub record Longer (old new : Known) : Type 0 where
+  pub more : History
+  pub log : new.log ≡ old.log ++ more
 
 -- others alone went on
 pub record Went (old new : Known) : Type 0 where
@@ -38,17 +34,7 @@ pub record IsShut (who : ℕ) (old new : Known) : Type 0 where
 pub record IsScan (who cursor : ℕ) (view : View) (now : Known) : Type 0 where
   pub is_open : is_cursor_open now.log who cursor ≡ true
   pub opened : cursor_at now.log who cursor ≡ Some (record { cursor = cursor; view = view })
-  pub exists : Exists now.log view.table
-  pub known : view.scn ≤ scn now.log
-  pub per : view.per ≡ per_at now.log view.table
-  pub some : 1 ≤ view.per
-  pub cut : view.extents ≡ extents_for view.rows view.per
-  pub few : view.rows ≤ MOST_ROWS
-
--- a query may be asked of what a view sees
-pub record MayAskIn (bound : Bound) (view : View) (now : Known) : Type 0 where
-  pub table : OfTable (tables now.log) view.table (QueryServes bound)
-  pub own : AllByRecursion (λ change. MayAsk bound change.row) view.own
+  pub sees : IsView view now
 
 -- a line came from one plan to another: as it goes by the second there, it goes by the first here
 pub record Comes (who k : ℕ) (old : Known) (plan : Plan Outcome) (new : Known) (later : Plan Outcome) : Type 0 where

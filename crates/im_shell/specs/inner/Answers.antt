@@ -1,30 +1,56 @@
--- How one line is played over a store, and what holds between two lines.
-use Rattle.std.specs.Prelude.{◌≡◌, ℕ, ◌<◌, [], Option, Some, None}
-use Rattle.im_core.specs.Seen.{Seen}
-use Rattle.im_history.specs.History.{History}
-use Rattle.im_history.specs.Cursors.{opened}
+-- How one line is played over a store and its sessions, and what holds between two lines.
+use Rattle.std.specs.Prelude.{◌≡◌, ℕ, zero, suc, ◌+◌, ◌≤◌, false, List, [], ◌∷◌, length, map, Option, Some, None, ⊤, slice_set}
 use Rattle.im_syntax.specs.Rules.{IsStmt}
-use Rattle.im_plan.specs.Goes.{Line as Whole, Nobody, Rest}
-use Rattle.im_plan.specs.Plan.{Plan}
+use Rattle.im_plan.specs.Goes.{Line as Whole, Nobody}
+use Rattle.im_reach.specs.Sides.{Known, sole}
 use Rattle.im_script.specs.declared.line.Line.{Line}
 use Rattle.im_script.specs.declared.line.LineKind.{LineKind}
 use Rattle.im_script.specs.declared.line.LineKind.TheVariants as line
+use Rattle.im_session.specs.Sessions.{Agrees, Kept, state_of}
 use Rattle.im_replies.specs.declared.reply.Reply.{Reply}
+use Rattle.im_shell.specs.Play.{Machine, state_in}
 use Rattle.im_shell.specs.Requests.{Request, Demand, Nothing, Told, Asks, demand_of, script_limits}
-use Rattle.im_shell.specs.Turns.{amends}
-use Rattle.im_values.specs.declared.limits.TheConstants.{NUMBERS}
+use Rattle.im_statements.specs.Outcomes.{Effect, Replied, kept_after}
+use Rattle.im_values.specs.declared.limits.TheConstants.{SESSIONS}
 
--- what is left of a line that a store plays alone, k of its entries having been made
-pub record IsRest (who k : ℕ) (old : Seen) (plan : Plan Reply) (reply : Reply) (new : Seen) : Type 0 where
-  pub limits : new.limits ≡ old.limits
-  pub rest : Rest Nobody who (amends who) k old.log plan reply new.log
+-- ---- between two lines
 
--- a whole line, played alone
-pub record IsAnswer (request : Request) (old : History) (reply : Reply) (new : History) : Type 0 where
-  pub line : Whole Nobody request.who request.amends old request.plan reply new
+-- sessions of rising numbers, from one on, each of which agrees with what is known
+abbrev pub AreSessions : ℕ → List Kept → Known → Type 0
+AreSessions who [] now = ⊤
+AreSessions who (session ∷ sessions) now = (session.who ≡ who) × Agrees session now × AreSessions (suc who) sessions now
 
--- where nothing is asked for there is no reply, and the history stays; it stays too where a line has its one reply
-abbrev pub IsAnswered : Demand → History → Option Reply → History → Type 0
+-- the store that a script is played over, and its sessions, between two lines
+pub record IsBetween (now : Known) (sessions : List Kept) : Type 0 where
+  pub side : now.side ≡ sole
+  pub limits : now.limits ≡ script_limits
+  pub count : length sessions ≡ SESSIONS + 1
+  pub agree : AreSessions 0 sessions now
+
+-- the machine that they are
+abbrev pub machine_of : Known → List Kept → Machine
+machine_of now sessions = record { history = now.log; states = map (λ session. state_of session.cursors) sessions }
+
+-- a session that keeps nothing
+abbrev pub unused_session : ℕ → Kept
+unused_session who = record { who = who; cursors = []; in_transaction = false }
+
+-- so many sessions of rising numbers, from one on, that keep nothing
+abbrev pub unused_from : ℕ → ℕ → List Kept
+unused_from who zero = []
+unused_from who (suc left) = unused_session who ∷ unused_from (suc who) left
+
+-- ---- a line
+
+-- a statement was played alone
+pub record IsAnswer (request : Request) (old : Machine) (reply : Reply) (new : Machine) : Type 0 where
+  pub effect : Effect
+  pub line :
+      Whole Nobody request.who request.amends old.history (request.plan (state_in old request.who)) (Replied reply effect) new.history
+  pub states : new.states ≡ slice_set old.states request.who (kept_after effect (state_in old request.who))
+
+-- where nothing is asked for there is no reply, and the machine stays; it stays too where a line has its one reply
+abbrev pub IsAnswered : Demand → Machine → Option Reply → Machine → Type 0
 IsAnswered Nothing old None new = new ≡ old
 IsAnswered Nothing old (Some reply) new = ⊥
 IsAnswered (Told number told) old None new = ⊥
@@ -33,27 +59,16 @@ IsAnswered (Asks request) old None new = ⊥
 IsAnswered (Asks request) old (Some reply) new = IsAnswer request old reply new
 
 -- a line was played to its reply, where it has one
-pub record Answers (line : Line) (old : History) (reply : Option Reply) (new : History) : Type 0 where
+pub record Answers (line : Line) (old : Machine) (reply : Option Reply) (new : Machine) : Type 0 where
   pub answered : IsAnswered (demand_of line) old reply new
 
--- ---- between two lines
-
--- no cursor is open
-pub record IsClosed (history : History) : Type 0 where
-  pub each : (who : ℕ) → opened history who ≡ []
-
--- the store that a script is played over, between two lines
-pub record IsBetween (seen : Seen) : Type 0 where
-  pub limits : seen.limits ≡ script_limits
-  pub closed : IsClosed seen.log
-
--- a line that has a statement has one of the language, of a session that is known
+-- a line that has a statement has one of the language, of a session
 abbrev pub HasStatement : LineKind → Type 0
 HasStatement line.Skip = Unit {0}
 HasStatement line.Race = Unit {0}
 HasStatement (line.Long length) = Unit {0}
 HasStatement (line.Bad byte) = Unit {0}
-HasStatement (line.Session who statement) = (who < NUMBERS) × IsStmt statement
+HasStatement (line.Session who statement) = (who ≤ SESSIONS) × IsStmt statement
 HasStatement (line.Background statement) = Unit {0}
 HasStatement line.NoMemory = Unit {0}
 

@@ -1,4 +1,5 @@
-use Rattle.std.proofs.Common.{◌≡◌, ◌∙◌, length, true, ap, refl, sym, subst}
+use Rattle.std.proofs.Common.{◌≡◌, ◌∙◌, false, length, true, ap, refl, sym, subst}
+use Rattle.im_history.specs.Cursors.{is_cursor_open}
 use Rattle.im_history.specs.declared.entry.What.TheVariants.{Open}
 use Rattle.im_history.specs.declared.view.View.{View}
 use Rattle.im_history.specs.Refusals.{open_refusal}
@@ -11,6 +12,7 @@ use Rattle.im_replies.specs.Causes.{opening_fault}
 use Rattle.im_session.specs.declared.cursor.Cursor.{Cursor}
 use Rattle.im_session.specs.inner.Cursors.{IsKept}
 use Rattle.im_session.proofs.CursorLemmas.{agrees-opened}
+use Rattle.im_session.proofs.OpeningLemmas.{added-fresh}
 use Rattle.im_session.proofs.RestLemmas.{decide-done, rest-lacks_here, rest-refused}
 use Rattle.im_session.proofs.TableLemmas.{exists-of}
 use Rattle.im_session.proofs.cursor.open_query.Goals as goal
@@ -35,11 +37,13 @@ returns-in-Ok-open_cursor-clause-rest g c =
     (λ at. End (Replied
     (settled_reply (length at)
     (Opened c.args.cursor (view_at at c.args.who c.args.bound.table).scn (view_at at c.args.who c.args.bound.table).extents))
-    (Opens (record { cursor = c.args.cursor; bound = c.args.bound; next = 0 })))) _ c.in-Ok-open_cursor.ensures.ok (λ at fact. fact.0)
+    (Opens (record { cursor = c.args.cursor; bound = c.args.bound; view = view_at at c.args.who c.args.bound.table; next = 0 })))) _
+    c.in-Ok-open_cursor.ensures.ok (λ at fact. fact.0)
     (λ at fact.
     ap (λ (v : View). End (Replied (settled_reply v.place (Opened c.args.cursor v.scn v.extents))
-    (Opens (record { cursor = c.args.cursor; bound = c.args.bound; next = 0 })))) (sym fact.1)
-    ∙ ap (λ (reply : Reply). End (Replied reply (Opens (record { cursor = c.args.cursor; bound = c.args.bound; next = 0 })))) (sym c.settled.ensures))
+    (Opens (record { cursor = c.args.cursor; bound = c.args.bound; view = v; next = 0 })))) (sym fact.1)
+    ∙ ap (λ (reply : Reply).
+    End (Replied reply (Opens (record { cursor = c.args.cursor; bound = c.args.bound; view = c.in-Ok-open_cursor.view; next = 0 })))) (sym c.settled.ensures))
 
 pub returns-in-Ok-open_cursor-clause-agrees : goal.returns-in-Ok-open_cursor-clause-agrees
 returns-in-Ok-open_cursor-clause-agrees g c = λ x is.
@@ -58,5 +62,15 @@ returns-in-Err-clause-rest g c =
     (λ at. End (Replied
     (settled_reply (length at)
     (Opened c.args.cursor (view_at at c.args.who c.args.bound.table).scn (view_at at c.args.who c.args.bound.table).extents))
-    (Opens (record { cursor = c.args.cursor; bound = c.args.bound; next = 0 })))) c.in-Err.refused c.requires.speaks c.requires.shut
+    (Opens (record { cursor = c.args.cursor; bound = c.args.bound; view = view_at at c.args.who c.args.bound.table; next = 0 })))) c.in-Err.refused
+    c.requires.speaks c.requires.shut
     c.in-Err.ensures.err)
+
+pub returns-in-Ok-open_cursor-clause-fresh : goal.returns-in-Ok-open_cursor-clause-fresh
+returns-in-Ok-open_cursor-clause-fresh g c = λ x is.
+    let kept : Cursor = record
+    { number = c.args.cursor; bound = c.args.bound; view = c.in-Ok-open_cursor.view; next = 0; part = c.in-Ok.part } in
+    let same : kept ≡ x = cc in
+    subst (λ (k : Cursor). is_cursor_open (g.H.Reach.known c.args.reach.now).log c.args.who k.number ≡ false) same
+    (added-fresh c.args.who c.args.cursor c.args.bound.table (g.H.Reach.known c.args.reach.now) (g.H.Reach.known c.open_cursor.new.self) _
+    c.in-Ok-open_cursor.ensures.ok c.requires.speaks)

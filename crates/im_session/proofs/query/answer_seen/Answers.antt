@@ -1,6 +1,8 @@
+use Rattle.std.proofs.Common.{arith}
 use Rattle.im_group.specs.Answers.{answer}
 use Rattle.im_replies.specs.declared.body.Body.TheVariants as body
 use Rattle.im_scan.specs.Pinned.{seen_all}
+use Rattle.im_session.proofs.ReadsLemmas.{none-counted}
 use Rattle.im_session.proofs.ScanLemmas.{open-went, scan-lacks, scan-replies, scan-stops, speaks-went}
 use Rattle.im_session.proofs.query.answer_seen.Goals as goal
 use Rattle.im_statements.specs.Scans.{end_scan}
@@ -28,3 +30,7 @@ returns-in-Err-clause-rest g c = λ late shut.
     shut
     (c.in-Err.ensures.err 1 (λ marks. end_scan (served_reply c.args.view.now.place marks
     (body.Answer c.args.view.now.scn (answer c.args.bound.now (seen_all (g.H.Reach.known c.args.reach.now).log c.args.view.now)))))))
+
+pub returns-in_default-clause-ticks : goal.returns-in_default-clause-ticks
+returns-in_default-clause-ticks g c =
+    none-counted c.args.who c.args.steps.now c.args.steps.now (g.H.Reach.known c.args.reach.now) (g.H.Reach.known c.args.reach.now) (omega arith)

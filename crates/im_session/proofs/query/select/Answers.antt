@@ -1,13 +1,14 @@
 use Rattle.im_group.specs.Answers.{answer}
 use Rattle.im_names.specs.Fitting.{QueryServes}
 use Rattle.im_replies.specs.declared.body.Body.TheVariants as body
+use Rattle.im_session.proofs.ReadsLemmas.{counted-within, longer-added, none-counted}
 use Rattle.im_session.proofs.OpeningLemmas.{added-asks, added-scan, added-speaks, scan-opened, scan-refused}
 use Rattle.im_session.proofs.ScanLemmas.{open-went, shut-added}
 use Rattle.im_session.proofs.TableLemmas.{exists-of}
 use Rattle.im_session.proofs.query.select.Goals as goal
 use Rattle.im_statements.specs.Scans.{end_scan, rows_seen}
 use Rattle.im_statements.specs.Turns.{served_reply}
-use Rattle.std.proofs.Common.{length}
+use Rattle.std.proofs.Common.{arith, length}
 
 pub answer_seen-reply-requires-clause-scan : goal.answer_seen-reply-requires-clause-scan
 answer_seen-reply-requires-clause-scan g c =
@@ -30,17 +31,29 @@ shut-requires-clause-cursor g c =
     c.in-Ok.ensures.ok c.requires.speaks)
     c.answer_seen-reply.ensures.went scan.is_open
 
-pub returns-in-Ok : goal.returns-in-Ok
-returns-in-Ok g c =
+pub returns-in-Ok-clause-rest : goal.returns-in-Ok-clause-rest
+returns-in-Ok-clause-rest g c =
     scan-opened c.args.who 0 c.args.bound.table (g.H.Reach.known c.args.reach.now) (g.H.Reach.known c.open_cursor.new.self)
     (g.H.Reach.known c.shut.new.self) c.in-Ok.view c.args.bound.filter
     (λ place view rows marks. end_scan (served_reply place marks (body.Answer view.scn (answer c.args.bound rows)))) _ c.in-Ok.ensures.ok
     (c.answer_seen-reply.ensures.rest (g.H.Reach.known c.shut.new.self)
     (shut-added c.args.who (g.H.Reach.known c.answer_seen-reply.new.reach) (g.H.Reach.known c.shut.new.self) _ c.shut.ensures.added))
 
-pub returns : goal.returns
-returns g c =
+pub returns-clause-rest : goal.returns-clause-rest
+returns-clause-rest g c =
     rw c.refused_reply.ensures
     (scan-refused c.args.who 0 c.args.bound.table (g.H.Reach.known c.args.reach.now) (g.H.Reach.known c.open_cursor.new.self) c.args.bound.filter
     (λ at view marks. end_scan (served_reply (length at) marks (body.Answer view.scn (answer c.args.bound (rows_seen at view))))) c.in-Err.refused
     c.requires.speaks c.requires.shut c.in-Err.ensures.err)
+
+pub returns-in-Ok-clause-ticks : goal.returns-in-Ok-clause-ticks
+returns-in-Ok-clause-ticks g c =
+    counted-within c.args.who c.args.steps.now c.answer_seen-reply.new.steps (g.H.Reach.known c.args.reach.now) (g.H.Reach.known c.open_cursor.new.self)
+    (g.H.Reach.known c.answer_seen-reply.new.reach) (g.H.Reach.known c.shut.new.self)
+    (longer-added c.args.who (g.H.Reach.known c.args.reach.now) (g.H.Reach.known c.open_cursor.new.self) _ _ c.in-Ok.ensures.ok)
+    (longer-added c.args.who (g.H.Reach.known c.answer_seen-reply.new.reach) (g.H.Reach.known c.shut.new.self) _ _ c.shut.ensures.added)
+    c.answer_seen-reply.ensures.ticks
+
+pub returns-clause-ticks : goal.returns-clause-ticks
+returns-clause-ticks g c =
+    none-counted c.args.who c.args.steps.now c.args.steps.now (g.H.Reach.known c.args.reach.now) (g.H.Reach.known c.open_cursor.new.self) (omega arith)

@@ -2,6 +2,7 @@ use Rattle.std.proofs.Common.{◌≤◌, List, length, sym, subst}
 use Rattle.im_history.specs.declared.change.Change.{Change}
 use Rattle.im_history.specs.Legal.{MayWrite}
 use Rattle.im_session.specs.inner.Rests.{IsRest}
+use Rattle.im_session.proofs.ReadsLemmas.{longer-same}
 use Rattle.im_session.proofs.ScanLemmas.{scan-lacks}
 use Rattle.im_session.proofs.WriteLemmas.{may-rewrite}
 use Rattle.im_session.proofs.rewriting.rewrite_kept.Goals as goal
@@ -26,3 +27,6 @@ pub returns-in-Err-clause-rest : goal.returns-in-Err-clause-rest
 returns-in-Err-clause-rest g c = λ late shut.
     rw c.out_of_memory.ensures
     (scan-lacks c.args.who 1 (g.H.Reach.known c.args.reach.now) late _ c.requires.speaks c.requires.scan.is_open shut)
+
+pub returns-in-Err-clause-longer : goal.returns-in-Err-clause-longer
+returns-in-Err-clause-longer g c = longer-same (g.H.Reach.known c.args.reach.now)

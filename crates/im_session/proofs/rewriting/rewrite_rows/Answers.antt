@@ -1,11 +1,12 @@
-use Rattle.std.proofs.Common.{◌≡◌, ◌∙◌, ℕ, length, ap, sym, subst}
+use Rattle.std.proofs.Common.{◌≡◌, ◌∙◌, ℕ, length, ap, sym, subst, arith}
 use Rattle.im_history.specs.declared.limits.Limits.{Limits}
 use Rattle.im_history.specs.declared.view.View.{View}
 use Rattle.im_reach.specs.Sides.{Known, speaks}
 use Rattle.im_scan.specs.Pinned.{seen_all}
 use Rattle.im_session.specs.inner.Rests.{IsRest}
-use Rattle.im_session.specs.inner.Scans.{MayAskIn}
+use Rattle.im_session.specs.Cursors.{MayAskIn}
 use Rattle.im_session.specs.inner.Writes.{RewriteServes, condition_query}
+use Rattle.im_session.proofs.ReadsLemmas.{counted-within, longer-added, none-counted}
 use Rattle.im_session.proofs.OpeningLemmas.{added-asks, added-scan, added-speaks, scan-opened, scan-refused}
 use Rattle.im_session.proofs.ScanLemmas.{shut-added}
 use Rattle.im_session.proofs.TableLemmas.{exists-of}
@@ -53,8 +54,8 @@ shut-requires-clause-speaks g c =
     ∙ added-speaks c.args.who 0 c.args.table (g.H.Reach.known c.args.reach.now) (g.H.Reach.known c.open_cursor.new.self) c.in-Ok.view
     c.in-Ok.ensures.ok c.requires.speaks
 
-pub returns-in-Ok : goal.returns-in-Ok
-returns-in-Ok g c =
+pub returns-in-Ok-clause-rest : goal.returns-in-Ok-clause-rest
+returns-in-Ok-clause-rest g c =
     let limits : (g.H.Reach.known c.open_cursor.new.self).limits ≡ (g.H.Reach.known c.args.reach.now).limits =
     ap (λ (s : Known). s.limits) c.in-Ok.ensures.ok.now in
     let table : c.in-Ok.view.table ≡ c.args.table = ap (λ (v : View). v.table) c.in-Ok.ensures.ok.fact.1 in
@@ -75,11 +76,23 @@ returns-in-Ok g c =
     (c.rewrite_seen-reply.ensures.rest (g.H.Reach.known c.shut.new.self)
     (shut-added c.args.who (g.H.Reach.known c.rewrite_seen-reply.new.reach) (g.H.Reach.known c.shut.new.self) _ c.shut.ensures.added)))))
 
-pub returns : goal.returns
-returns g c =
+pub returns-clause-rest : goal.returns-clause-rest
+returns-clause-rest g c =
     rw c.refused_reply.ensures
     (scan-refused c.args.who 0 c.args.table (g.H.Reach.known c.args.reach.now) (g.H.Reach.known c.open_cursor.new.self) c.args.filter
     (λ at view marks.
     write_or_end (g.H.Reach.known c.args.reach.now).limits c.args.who (length at) view.scn marks
     (changes_to c.args.table c.args.rewriting (kept_rows c.args.filter (rows_seen at view))) (written c.args.rewriting)) c.in-Err.refused
     c.requires.speaks c.requires.shut c.in-Err.ensures.err)
+
+pub returns-in-Ok-clause-ticks : goal.returns-in-Ok-clause-ticks
+returns-in-Ok-clause-ticks g c =
+    counted-within c.args.who c.args.steps.now c.rewrite_seen-reply.new.steps (g.H.Reach.known c.args.reach.now) (g.H.Reach.known c.open_cursor.new.self)
+    (g.H.Reach.known c.rewrite_seen-reply.new.reach) (g.H.Reach.known c.shut.new.self)
+    (longer-added c.args.who (g.H.Reach.known c.args.reach.now) (g.H.Reach.known c.open_cursor.new.self) _ _ c.in-Ok.ensures.ok)
+    (longer-added c.args.who (g.H.Reach.known c.rewrite_seen-reply.new.reach) (g.H.Reach.known c.shut.new.self) _ _ c.shut.ensures.added)
+    c.rewrite_seen-reply.ensures.ticks
+
+pub returns-clause-ticks : goal.returns-clause-ticks
+returns-clause-ticks g c =
+    none-counted c.args.who c.args.steps.now c.args.steps.now (g.H.Reach.known c.args.reach.now) (g.H.Reach.known c.open_cursor.new.self) (omega arith)

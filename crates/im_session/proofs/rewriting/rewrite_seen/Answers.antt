@@ -1,4 +1,4 @@
-use Rattle.std.proofs.Common.{◌≡◌, ◌∙◌, ℕ, List, ap, sym, subst}
+use Rattle.std.proofs.Common.{◌≡◌, ◌∙◌, ℕ, List, ap, sym, subst, arith}
 use Rattle.im_group.specs.Partials.{Parts}
 use Rattle.im_history.specs.declared.limits.Limits.{Limits}
 use Rattle.im_history.specs.Rows.{Row}
@@ -7,6 +7,7 @@ use Rattle.im_replies.specs.declared.served.Served.{Served}
 use Rattle.im_scan.specs.Pinned.{seen_all}
 use Rattle.im_session.specs.inner.Rests.{IsRest}
 use Rattle.im_session.specs.inner.Writes.{AreRows}
+use Rattle.im_session.proofs.ReadsLemmas.{counted-within, longer-same, none-counted}
 use Rattle.im_session.proofs.ScanLemmas.{open-went, scan-lacks, scan-stops, scan-went, side-went, speaks-went}
 use Rattle.im_session.proofs.WriteLemmas.{kept-rows, rewrites-went, rows-went}
 use Rattle.im_session.proofs.rewriting.rewrite_seen.Goals as goal
@@ -30,7 +31,7 @@ rewrite_kept-requires-clause-scan g c =
 pub rewrite_kept-requires-clause-may : goal.rewrite_kept-requires-clause-may
 rewrite_kept-requires-clause-may g c =
     rewrites-went c.args.who c.args.rewriting.now c.args.view.now (g.H.Reach.known c.args.reach.now) (g.H.Reach.known c.gather.new.reach)
-    c.requires.speaks c.requires.scan.known c.in-Ok-gather.ensures.went c.requires.may
+    c.requires.speaks c.requires.scan.sees.known c.in-Ok-gather.ensures.went c.requires.may
 
 pub rewrite_kept-requires-clause-rows : goal.rewrite_kept-requires-clause-rows
 rewrite_kept-requires-clause-rows g c =
@@ -40,7 +41,7 @@ rewrite_kept-requires-clause-rows g c =
     ∙ kept-rows c.args.bound.now (seen_all (g.H.Reach.known c.args.reach.now).log c.args.view.now) c.requires.plain) in
     subst (AreRows (g.H.Reach.known c.gather.new.reach).log c.args.view.now) (sym rows)
     (rows-went c.args.view.now (g.H.Reach.known c.args.reach.now) (g.H.Reach.known c.gather.new.reach) c.args.bound.now.filter
-    c.requires.scan.known c.in-Ok-gather.ensures.went)
+    c.requires.scan.sees.known c.in-Ok-gather.ensures.went)
 
 pub returns-in-Ok-gather-clause-side : goal.returns-in-Ok-gather-clause-side
 returns-in-Ok-gather-clause-side g c =
@@ -90,3 +91,13 @@ returns-in-Err-clause-rest g c = λ late shut.
     write_or_end (g.H.Reach.known c.args.reach.now).limits c.args.who c.args.view.now.place c.args.view.now.scn marks
     (changes_to c.args.view.now.table c.args.rewriting.now
     (kept_rows c.args.bound.now.filter (seen_all (g.H.Reach.known c.args.reach.now).log c.args.view.now))) (written c.args.rewriting.now))))
+
+pub returns-in_default-clause-ticks : goal.returns-in_default-clause-ticks
+returns-in_default-clause-ticks g c =
+    none-counted c.args.who c.args.steps.now c.args.steps.now (g.H.Reach.known c.args.reach.now) (g.H.Reach.known c.args.reach.now) (omega arith)
+
+pub returns-in-Ok-gather-clause-ticks : goal.returns-in-Ok-gather-clause-ticks
+returns-in-Ok-gather-clause-ticks g c =
+    counted-within c.args.who c.args.steps.now c.gather.new.steps (g.H.Reach.known c.args.reach.now) (g.H.Reach.known c.args.reach.now)
+    (g.H.Reach.known c.gather.new.reach) (g.H.Reach.known c.rewrite_kept.new.reach)
+    (longer-same (g.H.Reach.known c.args.reach.now)) c.rewrite_kept.ensures.longer c.in-Ok-gather.ensures.ticks

@@ -3,6 +3,7 @@ use Rattle.std.proofs.lemmas.Grind.{common_steps}
 use Rattle.im_plan.specs.Plan.{Plan}
 use Rattle.im_session.specs.inner.Rests.{IsRest}
 use Rattle.im_session.specs.inner.Writes.{write_reply}
+use Rattle.im_session.proofs.ReadsLemmas.{longer-added, longer-found, longer-same}
 use Rattle.im_session.proofs.ScanLemmas.{open-went, scan-ended, went-found}
 use Rattle.im_session.proofs.WritingLemmas.{open-wrote, some-write, write-done, write-told}
 use Rattle.im_session.proofs.rewriting.write_changes.Goals as goal
@@ -51,3 +52,12 @@ returns-in-Err-clause-rest g c = λ late shut.
     (write-told c.args.who 1 (g.H.Reach.known c.args.reach.now) (g.H.Reach.known c.write.new.self) late c.args.view.now c.args.marks
     c.args.changes.items (written c.args.rewriting.now (length c.args.changes.items)) c.requires.speaks c.requires.scan shut c.in-Err.refused
     c.in-Err.ensures.err))
+
+pub returns-then-is_empty-clause-longer : goal.returns-then-is_empty-clause-longer
+returns-then-is_empty-clause-longer g c = longer-same (g.H.Reach.known c.args.reach.now)
+
+pub returns-in-Ok-clause-longer : goal.returns-in-Ok-clause-longer
+returns-in-Ok-clause-longer g c = longer-added c.args.who (g.H.Reach.known c.args.reach.now) (g.H.Reach.known c.write.new.self) _ _ c.in-Ok.ensures.ok
+
+pub returns-in-Err-clause-longer : goal.returns-in-Err-clause-longer
+returns-in-Err-clause-longer g c = longer-found (g.H.Reach.known c.args.reach.now) (g.H.Reach.known c.write.new.self) _ c.in-Err.ensures.err

@@ -2,7 +2,8 @@ use Rattle.std.proofs.Common.{◌+◌, ◌-◌, ◌∙◌, [], ◌∷◌, ◌++�
 use Rattle.im_replies.specs.declared.served.Served.{Served}
 use Rattle.im_plan.specs.Plan.{Plan}
 use Rattle.im_session.specs.inner.Scans.{Comes, Stops}
-use Rattle.im_session.proofs.ScanLemmas.{asks-went, comes-last, comes-next, scan-went, stops-went, went-on}
+use Rattle.im_session.proofs.ReadsLemmas.{more-read, read-counted}
+use Rattle.im_session.proofs.ScanLemmas.{asks-went, comes-last, comes-next, longer-went, scan-went, stops-went, went-on}
 use Rattle.im_session.proofs.ServingLemmas.{err-always, part-all, part-merges, part-next}
 use Rattle.im_session.proofs.serving.gather.Goals as goal
 use Rattle.im_statements.specs.Outcomes.{Outcome}
@@ -40,8 +41,8 @@ pub take-requires : goal.take-requires
 take-requires g c = record {
   few =
       part-merges c.args.bound.now c.args.view.now c.loop-extent.extent (g.H.Reach.known c.args.reach.now) (g.H.Reach.known c.loop-extent.reach)
-      c.loop-extent.gathered.part c.in_ok-served.served.part c.requires.scan.known c.loop-extent.invariant.went c.loop-extent.invariant.part
-      c.in_ok-served.ensures.part (let few = c.requires.scan.few in omega (arith, few));
+      c.loop-extent.gathered.part c.in_ok-served.served.part c.requires.scan.sees.known c.loop-extent.invariant.went c.loop-extent.invariant.part
+      c.in_ok-served.ensures.part (let few = c.requires.scan.sees.few in omega (arith, few));
 }
 
 pub returns-in_err-take-clause-went : goal.returns-in_err-take-clause-went
@@ -69,7 +70,7 @@ loop-extent-preserved g c = record {
   part =
       c.in_ok-take.ensures.part
       ∙ part-next c.args.bound.now c.args.view.now c.loop-extent.extent (g.H.Reach.known c.args.reach.now) (g.H.Reach.known c.loop-extent.reach)
-      c.loop-extent.gathered.part c.in_ok-served.served.part c.requires.scan.known c.loop-extent.invariant.went c.loop-extent.invariant.part
+      c.loop-extent.gathered.part c.in_ok-served.served.part c.requires.scan.sees.known c.loop-extent.invariant.went c.loop-extent.invariant.part
       c.in_ok-served.ensures.part;
   comes = λ k on.
       subst (λ (marks : List Served).
@@ -80,6 +81,11 @@ loop-extent-preserved g c = record {
       (comes-next c.args.who k (g.H.Reach.known c.args.reach.now) (g.H.Reach.known c.loop-extent.reach) (g.H.Reach.known c.served_part.new.reach)
       (serve_from c.args.view.now c.args.bound.now.filter c.args.from on) c.args.view.now c.args.bound.now.filter c.loop-extent.extent
       c.loop-extent.gathered.marks.items on c.loop-extent-test.true c.in_ok-served.ensures.went (c.loop-extent.invariant.comes k on));
+  read = more-read c.args.who c.args.cursor c.args.view.now c.args.from c.loop-extent.extent (c.loop-extent.extent + 1) c.args.steps.now c.loop-extent.steps
+      c.served_part.new.steps (g.H.Reach.known c.args.reach.now) (g.H.Reach.known c.loop-extent.reach) (g.H.Reach.known c.served_part.new.reach)
+      (longer-went (g.H.Reach.known c.args.reach.now) (g.H.Reach.known c.loop-extent.reach) c.loop-extent.invariant.went)
+      (longer-went (g.H.Reach.known c.loop-extent.reach) (g.H.Reach.known c.served_part.new.reach) c.in_ok-served.ensures.went)
+      c.loop-extent.invariant.read c.in_ok-served.ensures.ticks;
 }
 
 pub returns-clause-part : goal.returns-clause-part
@@ -94,3 +100,32 @@ returns-clause-marks g c = λ k on.
     comes-last c.args.who k (g.H.Reach.known c.args.reach.now) (g.H.Reach.known c.loop-extent.reach)
     (serve_from c.args.view.now c.args.bound.now.filter c.args.from on) c.args.view.now c.args.bound.now.filter c.loop-extent.extent
     c.loop-extent.gathered.marks.items on c.loop-extent-test.false (c.loop-extent.invariant.comes k on)
+
+pub returns-in_err-served-clause-ticks : goal.returns-in_err-served-clause-ticks
+returns-in_err-served-clause-ticks g c =
+    read-counted c.args.who c.args.cursor c.args.view.now c.args.from (c.loop-extent.extent + 1) c.args.steps.now c.served_part.new.steps
+    (g.H.Reach.known c.args.reach.now) (g.H.Reach.known c.served_part.new.reach)
+    (let within = c.loop-extent-test.true in omega (arith, within))
+    (more-read c.args.who c.args.cursor c.args.view.now c.args.from c.loop-extent.extent (c.loop-extent.extent + 1) c.args.steps.now c.loop-extent.steps
+    c.served_part.new.steps (g.H.Reach.known c.args.reach.now) (g.H.Reach.known c.loop-extent.reach) (g.H.Reach.known c.served_part.new.reach)
+    (longer-went (g.H.Reach.known c.args.reach.now) (g.H.Reach.known c.loop-extent.reach) c.loop-extent.invariant.went)
+    (longer-went (g.H.Reach.known c.loop-extent.reach) (g.H.Reach.known c.served_part.new.reach) c.in_err-served.ensures.went)
+    c.loop-extent.invariant.read c.in_err-served.ensures.ticks)
+
+pub returns-in_err-take-clause-ticks : goal.returns-in_err-take-clause-ticks
+returns-in_err-take-clause-ticks g c =
+    read-counted c.args.who c.args.cursor c.args.view.now c.args.from (c.loop-extent.extent + 1) c.args.steps.now c.served_part.new.steps
+    (g.H.Reach.known c.args.reach.now) (g.H.Reach.known c.served_part.new.reach)
+    (let within = c.loop-extent-test.true in omega (arith, within))
+    (more-read c.args.who c.args.cursor c.args.view.now c.args.from c.loop-extent.extent (c.loop-extent.extent + 1) c.args.steps.now c.loop-extent.steps
+    c.served_part.new.steps (g.H.Reach.known c.args.reach.now) (g.H.Reach.known c.loop-extent.reach) (g.H.Reach.known c.served_part.new.reach)
+    (longer-went (g.H.Reach.known c.args.reach.now) (g.H.Reach.known c.loop-extent.reach) c.loop-extent.invariant.went)
+    (longer-went (g.H.Reach.known c.loop-extent.reach) (g.H.Reach.known c.served_part.new.reach) c.in_ok-served.ensures.went)
+    c.loop-extent.invariant.read c.in_ok-served.ensures.ticks)
+
+pub returns-clause-ticks : goal.returns-clause-ticks
+returns-clause-ticks g c =
+    let end = c.loop-extent.auto.extent-end c.requires.from in
+    read-counted c.args.who c.args.cursor c.args.view.now c.args.from c.loop-extent.extent c.args.steps.now c.loop-extent.steps
+    (g.H.Reach.known c.args.reach.now) (g.H.Reach.known c.loop-extent.reach)
+    (omega (arith, end)) c.loop-extent.invariant.read

@@ -29,5 +29,5 @@ returns-clause-part g c =
     c.in_ok-part.ensures.seen (g.H.Reach.known c.read.new.reach).log (option_map arc_value c.in_ok-pin.pin.unit) c.face.ensures
     (rw c.items.ensures may.pinned)
     ∙ ap (partial c.args.bound.now)
-    (seen_in-went (g.H.Reach.known c.args.reach.now) (g.H.Reach.known c.read.new.reach) c.args.view.now c.args.extent c.requires.scan.known
+    (seen_in-went (g.H.Reach.known c.args.reach.now) (g.H.Reach.known c.read.new.reach) c.args.view.now c.args.extent c.requires.scan.sees.known
     c.in_ok-pin.ensures.went)

@@ -1,0 +1,156 @@
+-- Laws for callers that have a store alone: a line is then played with nobody between its turns, and other sessions go on as they were.
+use Rattle.std.proofs.Common.{◌≡◌, ℕ, ◌==◌, Bool, true, false, All, List, [], ◌∷◌, ◌++◌, Option, Some, None, refl, sym, ap, ◌∙◌, subst, inl, inr, append_assoc, arith}
+use Rattle.std.specs.List.{list_any}
+use Rattle.std.proofs.lemmas.Bool.Decides.{nat_tests}
+use Rattle.std.proofs.lemmas.List.Elements.{All-append, All-cons, All-head, All-nil, All-weaker}
+use Rattle.im_history.specs.declared.entry.Entry.{Entry}
+use Rattle.im_history.specs.declared.entry.What.{What}
+use Rattle.im_history.specs.Cursors.{Opened, is_cursor, opened}
+use Rattle.im_history.specs.History.{History}
+use Rattle.im_plan.specs.Goes.{After, Goes, Lacks, Line, Nobody, Others}
+use Rattle.im_plan.specs.Plan.{End, Plan, Turn, counted, made}
+use Rattle.im_plan.proofs.AloneLaws.{same_after}
+use Rattle.im_reach.specs.Sides.{Known, StoreSide, sole, speaks}
+use Rattle.im_replies.specs.declared.reply.Reply.{Reply}
+use Rattle.im_session.specs.declared.cursor.Cursor.{Cursor}
+use Rattle.im_session.specs.Cursors.{IsSound}
+use Rattle.im_session.specs.Sessions.{Agrees, IsPlayed, Kept, state_of}
+use Rattle.im_session.proofs.CursorLemmas.{sound-longer}
+use Rattle.im_session.proofs.KeptLemmas.{all-map}
+use Rattle.im_statements.specs.Agreement.{AreQueriesOf}
+use Rattle.im_statements.specs.Outcomes.{Outcome, Replied}
+use Rattle.im_statements.specs.Statements.{statement_plan}
+use Rattle.im_statements.specs.Turns.{amends}
+use Rattle.im_statements.proofs.OtherLaws.{is_open-after, opened-after}
+use Rattle.im_syntax.specs.declared.statement.Stmt.{Stmt}
+
+-- ---- nobody comes between
+
+module _ (mine : ℕ → Bool) (all : (number : ℕ) → mine number ≡ true) where
+  nobody : (old at : History) → After (Others mine) old at → After Nobody old at
+  nobody old at after = record { between = after.between; lawful = record { none = none after.between after.lawful.apart }; log = after.log }
+    where
+      none : (between : History) → All (λ entry. mine entry.who ≡ false) between → between ≡ []
+      none [] apart = refl
+      none (entry ∷ rest) apart =
+          let both : true ≡ false = sym (all entry.who) ∙ All-head (λ (e : Entry). mine e.who ≡ false) entry rest apart in
+          absurd cc
+
+  goes-alone : (who : ℕ) (old : History) (plan : Plan Outcome) (outcome : Outcome) (new : History) → Goes (Others mine) who old plan outcome new
+      → Goes Nobody who old plan outcome new
+  goes-alone who old (End value) outcome new goes = record { value_is = goes.value_is; after = nobody old new goes.after }
+  goes-alone who old (Turn decides adds on) outcome new goes =
+      (goes.0, nobody old goes.0 goes.1, goes-alone who (goes.0 ++ made who (adds goes.0)) (on goes.0) outcome new goes.2)
+
+  lacks-alone : (who k : ℕ) (old : History) (plan : Plan Outcome) (outcome : Outcome) (new : History)
+      → Lacks (Others mine) who (amends who) k old plan outcome new → Lacks Nobody who (amends who) k old plan outcome new
+  lacks-alone who k old (End value) outcome new lacks = goes-alone who old (amends who k) outcome new lacks
+  lacks-alone who k old (Turn decides adds on) outcome new lacks = elim lacks [
+    | inl amended ↦ inl (goes-alone who old (amends who k) outcome new amended)
+    | inr later ↦ inr (
+      later.0,
+      nobody old later.0 later.1,
+      later.2,
+      lacks-alone who (counted (adds later.0) k) (later.0 ++ made who (adds later.0)) (on later.0) outcome new later.3,
+    )
+  ]
+
+  pub line-alone : (who : ℕ) (old : History) (plan : Plan Outcome) (outcome : Outcome) (new : History)
+      → Line (Others mine) who (amends who) old plan outcome new → Line Nobody who (amends who) old plan outcome new
+  line-alone who old plan outcome new line = record {
+    whole = record {
+      played = elim line.whole.played [
+        | inl goes ↦ inl (goes-alone who old plan outcome new goes)
+        | inr lacks ↦ inr (lacks-alone who 0 old plan outcome new lacks)
+      ];
+    };
+  }
+
+-- ---- what a line leaves to others
+
+-- the history went on by entries of this number alone
+record IsOwn (who : ℕ) (old new : History) : Type 0 where
+  pub more : History
+  pub own : All (λ entry. entry.who ≡ who) more
+  pub log : new ≡ old ++ more
+
+own-none : (who : ℕ) (old new : History) → After Nobody old new → IsOwn who old new
+own-none who old new after = record {
+  more = after.between;
+  own = subst (All (λ (entry : Entry). entry.who ≡ who)) (sym after.lawful.none) (All-nil (λ (entry : Entry). entry.who ≡ who));
+  log = after.log;
+}
+
+made-own : (who : ℕ) (added : Option What) → All (λ entry. entry.who ≡ who) (made who added)
+made-own who None = All-nil (λ (entry : Entry). entry.who ≡ who)
+made-own who (Some what) = All-cons (λ (entry : Entry). entry.who ≡ who) _ [] refl (All-nil (λ (entry : Entry). entry.who ≡ who))
+
+own-turn : (who : ℕ) (old at : History) (added : Option What) (new : History) → After Nobody old at → IsOwn who (at ++ made who added) new
+    → IsOwn who old new
+own-turn who old at added new after later = record {
+  more = made who added ++ later.more;
+  own = All-append (λ (entry : Entry). entry.who ≡ who) (made who added) later.more (made-own who added) later.own;
+  log =
+      later.log
+      ∙ (append_assoc at (made who added) later.more ∙ ap (λ (h : History). h ++ (made who added ++ later.more)) (same_after old at after));
+}
+
+goes-own : (who : ℕ) (old : History) (plan : Plan Outcome) (outcome : Outcome) (new : History) → Goes Nobody who old plan outcome new → IsOwn who old new
+goes-own who old (End value) outcome new goes = own-none who old new goes.after
+goes-own who old (Turn decides adds on) outcome new goes =
+    own-turn who old goes.0 (adds goes.0) new goes.1 (goes-own who (goes.0 ++ made who (adds goes.0)) (on goes.0) outcome new goes.2)
+
+lacks-own : (who k : ℕ) (old : History) (plan : Plan Outcome) (outcome : Outcome) (new : History)
+    → Lacks Nobody who (amends who) k old plan outcome new → IsOwn who old new
+lacks-own who k old (End value) outcome new lacks = goes-own who old (amends who k) outcome new lacks
+lacks-own who k old (Turn decides adds on) outcome new lacks = elim lacks [
+  | inl amended ↦ goes-own who old (amends who k) outcome new amended
+  | inr later ↦
+      own-turn who old later.0 (adds later.0) new later.1
+      (lacks-own who (counted (adds later.0) k) (later.0 ++ made who (adds later.0)) (on later.0) outcome new later.3)
+]
+
+line-own : (who : ℕ) (old : History) (plan : Plan Outcome) (outcome : Outcome) (new : History) → Line Nobody who (amends who) old plan outcome new
+    → IsOwn who old new
+line-own who old plan outcome new line = elim line.whole.played [
+  | inl goes ↦ goes-own who old plan outcome new goes
+  | inr lacks ↦ lacks-own who 0 old plan outcome new lacks
+]
+
+-- the line that a session played over a store that nobody else has
+pub played-alone : (s : Stmt) (before after : Kept) (old new : Known) (reply : Reply) → old.side ≡ sole
+    → (played : IsPlayed s before old reply after new)
+    → Line Nobody before.who (amends before.who) old.log (statement_plan old.limits before.who (state_of before.cursors) s)
+    (Replied reply played.effect) new.log
+played-alone s before after old new reply alone played =
+    line-alone (speaks old.side) (λ number. ap (λ (side : StoreSide). speaks side number) alone) before.who old.log _ _ new.log played.line
+
+-- another session agrees as it did
+pub agrees-other : (s : Stmt) (before after other : Kept) (old new : Known) (reply : Reply) → old.side ≡ sole
+    → IsPlayed s before old reply after new → (before.who == other.who) ≡ false → Agrees other old → Agrees other new
+agrees-other s before after other old new reply alone played apart agrees = record {
+  cursors = record {
+    closed = ap (list_any (is_cursor 0)) same ∙ agrees.cursors.closed;
+    queries = subst (λ (cursors : List Opened). AreQueriesOf (state_of other.cursors).queries cursors) (sym same) agrees.cursors.queries;
+  };
+  sound =
+      all-map (λ (kept : Cursor). IsSound kept old) (λ kept. IsSound kept new)
+      (λ kept is. sound-longer kept old new (record { more = own.more; log = own.log }) is) other.cursors agrees.sound;
+  apart = agrees.apart;
+  transaction =
+      agrees.transaction ∙ sym (is_open-after (λ number. number == other.who) other.who old.log new.log (grind (arith, nat_tests)) after_old);
+}
+  where
+    own : IsOwn before.who old.log new.log
+    own = line-own before.who old.log _ _ new.log (played-alone s before after old new reply alone played)
+
+    others : All (λ entry. (entry.who == other.who) ≡ false) own.more
+    others =
+        All-weaker (λ (entry : Entry). entry.who ≡ before.who) (λ (entry : Entry). (entry.who == other.who) ≡ false)
+        (λ entry is. ap (λ (n : ℕ). n == other.who) is ∙ apart) own.more own.own
+
+    after_old : After (Others (λ number. number == other.who)) old.log new.log
+    after_old = record { between = own.more; lawful = record { apart = others }; log = own.log }
+
+    same : opened new.log other.who ≡ opened old.log other.who
+    same = opened-after (λ number. number == other.who) other.who old.log new.log (grind (arith, nat_tests)) after_old

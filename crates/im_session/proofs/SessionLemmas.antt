@@ -1,0 +1,416 @@
+-- A line of a session: what it leaves of the cursors that are kept, and that it is played as a whole.
+use Rattle.std.proofs.Common.{◌≡◌, ℕ, Bool, true, false, not, List, [], ◌∷◌, ◌++◌, filter, map, Option, Some, None, Ok, Err, ◌⊎◌, refl, sym, ap, ◌∙◌, subst, inl, inr, append_assoc}
+use Rattle.std.specs.List.{AllByRecursion, list_any}
+use Rattle.std.specs.Prelude.{slice_index_or, slice_set}
+use Rattle.im_history.specs.declared.limits.Limits.{Limits}
+use Rattle.im_history.specs.declared.look.Look.{Look}
+use Rattle.im_history.specs.Cursors.{Opened, cursor_at, is_cursor, is_cursor_open, opened as opened_in}
+use Rattle.im_history.specs.History.{History}
+use Rattle.im_history.specs.Transactions.{is_open}
+use Rattle.im_history.specs.Views.{look_at}
+use Rattle.im_names.specs.declared.resolved.Resolved.{Resolved}
+use Rattle.im_names.specs.declared.fault.NameFault.{NameFault}
+use Rattle.im_names.specs.declared.fault.NameFault.TheVariants.{NoMemory}
+use Rattle.im_names.specs.Statements.{answer}
+use Rattle.im_plan.specs.Goes.{After, Goes, Lacks, Others}
+use Rattle.im_plan.specs.Plan.{End, Plan, Turn, made, counted}
+use Rattle.im_reach.specs.Sides.{Found, Known, speaks}
+use Rattle.im_replies.specs.declared.body.Body.TheVariants.{Error}
+use Rattle.im_replies.specs.declared.fault.Fault.TheVariants as fault
+use Rattle.im_replies.specs.declared.reply.Reply.{Reply}
+use Rattle.im_session.specs.declared.cursor.Cursor.{Cursor}
+use Rattle.im_session.specs.Cursors.{IsSound, query_of}
+use Rattle.im_session.specs.Sessions.{Agrees, AreApart, IsPlayed, Kept, state_of}
+use Rattle.im_session.specs.inner.Cursors.{IsKept, fetch_outcome, opening_outcome, query_after, step_outcome}
+use Rattle.im_session.specs.inner.Rests.{IsRest}
+use Rattle.im_session.specs.inner.Running.{IsRun, is_number}
+use Rattle.im_session.specs.inner.Scans.{Longer}
+use Rattle.im_session.proofs.CursorLemmas.{sound-longer}
+use Rattle.im_session.proofs.KeptLemmas.{IsFound, all-at, all-filter, all-last, all-map, all-set, apart-filter, apart-set, find-open, found-any, fresh-apart, kept-at, set-stays, set-steps, state-filter, state-last}
+use Rattle.im_session.proofs.NameLemmas.{named-fault, named-found}
+use Rattle.im_session.proofs.OtherLemmas.{idle-found, opened-after}
+use Rattle.im_session.proofs.RestLemmas.{rest-end, rest-lacks, rest-look}
+use Rattle.im_session.proofs.ScanLemmas.{longer-went, open-went, speaks-went, went-found, went-log}
+use Rattle.im_statements.specs.Agreement.{Agrees as AreOpen, AreQueriesOf}
+use Rattle.im_statements.specs.Cursors.{close, close_query, fetch, fetch_query, open_query, step, step_query, with_query}
+use Rattle.im_statements.specs.Outcomes.{Closes, Opens, Outcome, Query, Replied, State, Stays, Steps, query_at, said}
+use Rattle.im_statements.specs.Statements.{definition_plan, is_definition, name_reply, named_plan, resolved_plan, statement_plan}
+use Rattle.im_statements.specs.Transaction.{open_after}
+use Rattle.im_statements.specs.Turns.{amends, memory_reply, settled_reply}
+use Rattle.im_statements.proofs.AgreementLaws.{keep-agreement}
+use Rattle.im_statements.proofs.TransactionLaws.{keep-transaction}
+use Rattle.im_syntax.specs.declared.bound.Bound.{Bound}
+use Rattle.im_syntax.specs.declared.statement.Stmt.{Stmt}
+use Rattle.im_syntax.specs.Rules.{IsStmt}
+
+-- ---- a line makes the history longer
+
+record GoesOn (old new : History) : Type 0 where
+  pub more : History
+  pub log : new ≡ old ++ more
+
+through : (others : History → Type 0) (old at entries new : History) → After others old at → GoesOn (at ++ entries) new → GoesOn old new
+through others old at entries new after later = record {
+  more = after.between ++ (entries ++ later.more);
+  log =
+      later.log
+      ∙ (append_assoc at entries later.more
+      ∙ (ap (λ (h : History). h ++ (entries ++ later.more)) after.log ∙ append_assoc old after.between (entries ++ later.more)));
+}
+
+goes-on : (others : History → Type 0) (who : ℕ) (old : History) (plan : Plan Outcome) (outcome : Outcome) (new : History)
+    → Goes others who old plan outcome new → GoesOn old new
+goes-on others who old (End value) outcome new goes = record { more = goes.after.between; log = goes.after.log }
+goes-on others who old (Turn decides adds on) outcome new goes =
+    through others old goes.0 (made who (adds goes.0)) new goes.1
+    (goes-on others who (goes.0 ++ made who (adds goes.0)) (on goes.0) outcome new goes.2)
+
+lacks-on : (others : History → Type 0) (who k : ℕ) (old : History) (plan : Plan Outcome) (outcome : Outcome) (new : History)
+    → Lacks others who (amends who) k old plan outcome new → GoesOn old new
+lacks-on others who k old (End value) outcome new lacks = goes-on others who old (amends who k) outcome new lacks
+lacks-on others who k old (Turn decides adds on) outcome new lacks = elim lacks [
+  | inl amended ↦ goes-on others who old (amends who k) outcome new amended
+  | inr later ↦
+      through others old later.0 (made who (adds later.0)) new later.1
+      (lacks-on others who (counted (adds later.0) k) (later.0 ++ made who (adds later.0)) (on later.0) outcome new later.3)
+]
+
+rest-longer : (who k : ℕ) (old new : Known) (plan : Plan Outcome) (outcome : Outcome) → IsRest who k old plan outcome new → Longer old new
+rest-longer who k old new plan outcome rest =
+    let on : GoesOn old.log new.log = elim rest.rest.played [
+      | inl goes ↦ goes-on (Others (speaks old.side)) who old.log plan outcome new.log goes
+      | inr lacks ↦ lacks-on (Others (speaks old.side)) who k old.log plan outcome new.log lacks
+    ] in
+    record { more = on.more; log = on.log }
+
+-- what is kept holds after it
+sound-rest : (who k : ℕ) (old new : Known) (plan : Plan Outcome) (outcome : Outcome) (cursors : List Cursor) → IsRest who k old plan outcome new
+    → AllByRecursion (λ kept. IsSound kept old) cursors → AllByRecursion (λ kept. IsSound kept new) cursors
+sound-rest who k old new plan outcome cursors rest sound =
+    let longer = rest-longer who k old new plan outcome rest in
+    all-map (λ kept. IsSound kept old) (λ kept. IsSound kept new) (λ kept is. sound-longer kept old new longer is) cursors sound
+
+-- ---- statements over the cursors
+
+module _ (who : ℕ) (cursors : List Cursor) (old new : Known) (reply : Reply) (sound : AllByRecursion (λ kept. IsSound kept old) cursors)
+    (apart : AreApart cursors) where
+  -- the line leaves them as they are
+  pub run-stays : (plan : Plan Outcome) → IsRest who 0 old plan (said reply) new → IsRun who plan cursors old reply cursors new
+  run-stays plan rest = record {
+    effect = Stays;
+    rest = rest;
+    keeps = refl;
+    sound = sound-rest who 0 old new plan (said reply) cursors rest sound;
+    apart = apart;
+  }
+
+  -- a cursor was opened
+  pub run-opened : (plan : Plan Outcome) (kept : Cursor) → IsRest who 0 old plan (Replied reply (Opens (query_of kept))) new
+      → AreOpen (state_of cursors) old.log who → is_cursor_open old.log who kept.number ≡ false → IsSound kept new
+      → IsRun who plan cursors old reply (cursors ++ kept ∷ []) new
+  run-opened plan kept rest agree fresh is = record {
+    effect = Opens (query_of kept);
+    rest = rest;
+    keeps = ap (λ (qs : List Query). record { queries = qs }) (state-last cursors kept);
+    sound = all-last (λ kept. IsSound kept new) cursors kept (sound-rest who 0 old new plan _ cursors rest sound) is;
+    apart = fresh-apart cursors kept _ agree.queries fresh apart;
+  }
+
+  -- what a line over a cursor that is kept does
+  with-found : (number at : ℕ) (on : Query → Plan Outcome) (outcome : Outcome) → (found : IsFound number cursors at)
+      → IsRest who 0 old (on (query_of found.kept)) outcome new
+      → IsRest who 0 old (with_query number old.log (query_at (state_of cursors) number) on) outcome new
+  with-found number at on outcome found rest = rw found.query rest
+
+  -- its next extent was served, or was not
+  pub run-stepped : (number at : ℕ) (after : Cursor) (served : Bool) → (found : IsFound number cursors at)
+      → IsRest who 0 old (step_query old.log (query_of found.kept)) (step_outcome found.kept.number reply served) new
+      → query_of after ≡ query_after served (query_of found.kept) → IsSound after new
+      → IsRun who (step (state_of cursors) old.log number) cursors old reply (slice_set cursors at after) new
+  run-stepped number at after true found rest same is = record {
+    effect = Steps found.kept.number;
+    rest = with-found number at (step_query old.log) _ found rest;
+    keeps = ap (λ (qs : List Query). record { queries = qs }) (set-steps cursors at found.kept after apart found.is same);
+    sound = all-set (λ kept. IsSound kept new) cursors at after (sound-rest who 0 old new _ _ cursors rest sound) is;
+    apart = apart-set cursors at found.kept after found.is (ap (λ (q : Query). q.cursor) same) apart;
+  }
+  run-stepped number at after false found rest same is = record {
+    effect = Stays;
+    rest = with-found number at (step_query old.log) _ found rest;
+    keeps = ap (λ (qs : List Query). record { queries = qs }) (set-stays cursors at found.kept after found.is same);
+    sound = all-set (λ kept. IsSound kept new) cursors at after (sound-rest who 0 old new _ _ cursors rest sound) is;
+    apart = apart-set cursors at found.kept after found.is (ap (λ (q : Query). q.cursor) same) apart;
+  }
+
+  -- it was closed
+  closed-run : (number at : ℕ) (plan : Plan Outcome) → IsFound number cursors at → IsRest who 0 old plan (Replied reply (Closes number)) new
+      → IsRun who plan cursors old reply (filter (λ kept. not (is_number number kept)) cursors) new
+  closed-run number at plan found rest = record {
+    effect = Closes number;
+    rest = rest;
+    keeps = ap (λ (qs : List Query). record { queries = qs }) (state-filter number cursors);
+    sound = all-filter (λ kept. IsSound kept new) (λ kept. not (is_number number kept)) cursors (sound-rest who 0 old new _ _ cursors rest sound);
+    apart = apart-filter (λ kept. not (is_number number kept)) cursors apart;
+  }
+
+  pub run-fetched : (number at : ℕ) → (found : IsFound number cursors at)
+      → IsRest who 0 old (fetch_query old.log (query_of found.kept)) (fetch_outcome found.kept.number reply true) new
+      → IsRun who (fetch (state_of cursors) old.log number) cursors old reply (filter (λ kept. not (is_number number kept)) cursors) new
+  run-fetched number at found rest =
+      closed-run number at _ found
+      (subst (λ (n : ℕ). IsRest who 0 old (fetch (state_of cursors) old.log number) (Replied reply (Closes n)) new) found.same
+      (with-found number at (fetch_query old.log) _ found rest))
+
+  pub run-lacked : (number at : ℕ) → (found : IsFound number cursors at)
+      → IsRest who 0 old (fetch_query old.log (query_of found.kept)) (fetch_outcome found.kept.number reply false) new
+      → IsRun who (fetch (state_of cursors) old.log number) cursors old reply cursors new
+  run-lacked number at found rest = run-stays _ (with-found number at (fetch_query old.log) _ found rest)
+
+  pub run-closed : (number at : ℕ) → (found : IsFound number cursors at)
+      → IsRest who 0 old (close_query found.kept.number) (Replied reply (Closes found.kept.number)) new
+      → IsRun who (close (state_of cursors) old.log number) cursors old reply (filter (λ kept. not (is_number number kept)) cursors) new
+  run-closed number at found rest =
+      closed-run number at _ found
+      (subst (λ (n : ℕ). IsRest who 0 old (close (state_of cursors) old.log number) (Replied reply (Closes n)) new) found.same
+      (with-found number at (λ query. close_query query.cursor) _ found rest))
+
+-- no cursor of this number is kept
+pub run-unknown : (who number : ℕ) (cursors : List Cursor) (old : Known) (look : Look) (on : Query → Plan Outcome)
+    → AllByRecursion (λ kept. IsSound kept old) cursors → AreApart cursors → look ≡ look_at old.log who
+    → query_at (state_of cursors) number ≡ None
+    → IsRun who (with_query number old.log (query_at (state_of cursors) number) on) cursors old
+    (settled_reply look.place (Error (fault.CursorUnknown number))) cursors old
+run-unknown who number cursors old look on sound apart look_is none =
+    run-stays who cursors old old _ sound apart _
+    (rest-end who 0 old _ _
+    (ap (λ (q : Option Query). with_query number old.log q on) none
+    ∙ ap (λ (l : Look). End (said (settled_reply l.place (Error (fault.CursorUnknown number))))) (sym look_is)))
+
+-- ---- what a call of a session found and did
+
+pub is-open : (closed : Bool) → not closed ≡ true → closed ≡ false
+is-open false e = refl
+is-open true e = absurd cc
+
+pub is-closed : (closed : Bool) → not closed ≡ false → closed ≡ true
+is-closed true e = refl
+is-closed false e = absurd cc
+
+module _ (session : Kept) (who : ℕ) (cursors : List Cursor) {in_transaction : Bool}
+    (view_is : session ≡ record { who = who; cursors = cursors; in_transaction = in_transaction }) (old : Known) (agrees : Agrees session old) where
+  here : Agrees (record { who = who; cursors = cursors; in_transaction = in_transaction }) old
+  here = subst (λ (k : Kept). Agrees k old) view_is agrees
+
+  -- no scan of its own is open
+  pub session-closed : is_cursor_open old.log who 0 ≡ false
+  session-closed = here.cursors.closed
+
+  -- the side speaks for it
+  pub session-speaks : speaks old.side session.who ≡ true → speaks old.side who ≡ true
+  session-speaks mine = sym (ap (λ (k : Kept). speaks old.side k.who) view_is) ∙ mine
+
+  -- a cursor that is kept is open
+  pub is-kept : (number at : ℕ) (kept : Cursor) → IsFound number cursors at → kept ≡ slice_index_or cursors at kept → IsKept who kept old
+  is-kept number at kept found value = record {
+    scan = record { is_open = found-any kept.number _ _ opened; opened = opened; sees = sound.sees };
+    sound = sound;
+  }
+    where
+      same : kept ≡ found.kept
+      same = kept-at cursors at found.kept kept found.is value
+
+      sound : IsSound kept old
+      sound = subst (λ (k : Cursor). IsSound k old) (sym same) (all-at (λ k. IsSound k old) cursors at found.kept here.sound found.is)
+
+      opened : cursor_at old.log who kept.number ≡ Some (record { cursor = kept.number; view = kept.view })
+      opened =
+          subst (λ (k : Cursor). cursor_at old.log who k.number ≡ Some (record { cursor = k.number; view = k.view })) (sym same)
+          (subst (λ (n : ℕ). cursor_at old.log who n ≡ Some (record { cursor = found.kept.number; view = found.kept.view })) (sym found.same)
+          (find-open number (map query_of cursors) (opened_in old.log who) (query_of found.kept) here.cursors.queries found.query))
+
+  module _ (new : Known) (reply : Reply) where
+    -- the cursors after it, which are these
+    of-session : (plan : List Cursor → Plan Outcome) (after : List Cursor) → IsRun who (plan cursors) cursors old reply after new
+        → IsRun session.who (plan session.cursors) session.cursors old reply after new
+    of-session plan after run =
+        subst (λ (k : Kept). IsRun k.who (plan k.cursors) k.cursors old reply after new) (sym view_is) run
+
+    pub run-step : (number at : ℕ) (kept after : Cursor) (served : Bool) → IsFound number cursors at → kept ≡ slice_index_or cursors at kept
+        → IsRest who 0 old (step_query old.log (query_of kept)) (step_outcome kept.number reply served) new
+        → query_of after ≡ query_after served (query_of kept) → IsKept who after new
+        → IsRun session.who (step (state_of session.cursors) old.log number) session.cursors old reply (slice_set cursors at after) new
+    run-step number at kept after served found value rest same is =
+        let e = kept-at cursors at found.kept kept found.is value in
+        of-session (λ cs. step (state_of cs) old.log number) (slice_set cursors at after)
+        (run-stepped who cursors old new reply here.sound here.apart number at after served found
+        (subst (λ (k : Cursor). IsRest who 0 old (step_query old.log (query_of k)) (step_outcome k.number reply served) new) e rest)
+        (subst (λ (k : Cursor). query_of after ≡ query_after served (query_of k)) e same) is.sound)
+
+    pub run-fetch : (number at : ℕ) (kept : Cursor) → IsFound number cursors at → kept ≡ slice_index_or cursors at kept
+        → IsRest who 0 old (fetch_query old.log (query_of kept)) (fetch_outcome kept.number reply true) new
+        → IsRun session.who (fetch (state_of session.cursors) old.log number) session.cursors old reply
+        (filter (λ kept. not (is_number number kept)) cursors) new
+    run-fetch number at kept found value rest =
+        of-session (λ cs. fetch (state_of cs) old.log number) (filter (λ kept. not (is_number number kept)) cursors)
+        (run-fetched who cursors old new reply here.sound here.apart number at found
+        (subst (λ (k : Cursor). IsRest who 0 old (fetch_query old.log (query_of k)) (fetch_outcome k.number reply true) new)
+        (kept-at cursors at found.kept kept found.is value) rest))
+
+    pub run-no_fetch : (number at : ℕ) (kept : Cursor) → IsFound number cursors at → kept ≡ slice_index_or cursors at kept
+        → IsRest who 0 old (fetch_query old.log (query_of kept)) (fetch_outcome kept.number reply false) new
+        → IsRun session.who (fetch (state_of session.cursors) old.log number) session.cursors old reply session.cursors new
+    run-no_fetch number at kept found value rest =
+        subst (λ (k : Kept). IsRun k.who (fetch (state_of k.cursors) old.log number) k.cursors old reply k.cursors new) (sym view_is)
+        (run-lacked who cursors old new reply here.sound here.apart number at found
+        (subst (λ (k : Cursor). IsRest who 0 old (fetch_query old.log (query_of k)) (fetch_outcome k.number reply false) new)
+        (kept-at cursors at found.kept kept found.is value) rest))
+
+    pub run-close : (number at : ℕ) (kept : Cursor) → IsFound number cursors at → kept ≡ slice_index_or cursors at kept
+        → IsRest who 0 old (close_query kept.number) (Replied reply (Closes kept.number)) new
+        → IsRun session.who (close (state_of session.cursors) old.log number) session.cursors old reply
+        (filter (λ kept. not (is_number number kept)) cursors) new
+    run-close number at kept found value rest =
+        of-session (λ cs. close (state_of cs) old.log number) (filter (λ kept. not (is_number number kept)) cursors)
+        (run-closed who cursors old new reply here.sound here.apart number at found
+        (subst (λ (k : Cursor). IsRest who 0 old (close_query k.number) (Replied reply (Closes k.number)) new)
+        (kept-at cursors at found.kept kept found.is value) rest))
+
+    -- a cursor came to them
+    pub run-open : (number : ℕ) (bound : Bound) (kept : Cursor)
+        → IsRest who 0 old (open_query who number bound) (opening_outcome reply (Some kept)) new
+        → is_cursor_open old.log who kept.number ≡ false → IsKept who kept new
+        → IsRun session.who (open_query session.who number bound) session.cursors old reply (cursors ++ kept ∷ []) new
+    run-open number bound kept rest fresh is =
+        subst (λ (k : Kept). IsRun k.who (open_query k.who number bound) k.cursors old reply (cursors ++ kept ∷ []) new) (sym view_is)
+        (run-opened who cursors old new reply here.sound here.apart (open_query who number bound) kept rest here.cursors fresh is.sound)
+
+    -- they stay as they are
+    pub run-kept : (plan : ℕ → List Cursor → Plan Outcome) → IsRest who 0 old (plan who cursors) (said reply) new
+        → IsRun session.who (plan session.who session.cursors) session.cursors old reply cursors new
+    run-kept plan rest =
+        subst (λ (k : Kept). IsRun k.who (plan k.who k.cursors) k.cursors old reply cursors new) (sym view_is)
+        (run-stays who cursors old new reply here.sound here.apart (plan who cursors) rest)
+
+    -- a statement whose names were found at this history
+    pub run-resolved : (r found : Resolved) → r ≡ found → IsRest who 0 old (resolved_plan old.limits who (state_of cursors) old.log found) (said reply) new
+        → IsRun session.who (resolved_plan old.limits session.who (state_of session.cursors) old.log r) session.cursors old reply session.cursors new
+    run-resolved r found is rest =
+        subst (λ (k : Kept). IsRun k.who (resolved_plan old.limits k.who (state_of k.cursors) old.log r) k.cursors old reply k.cursors new) (sym view_is)
+        (subst (λ (x : Resolved). IsRun who (resolved_plan old.limits who (state_of cursors) old.log x) cursors old reply cursors new) (sym is)
+        (run-stays who cursors old new reply here.sound here.apart (resolved_plan old.limits who (state_of cursors) old.log found) rest))
+
+    -- a line that leaves the cursors as they are
+    pub run-line : (s : Stmt) → IsRest who 0 old (statement_plan old.limits who (state_of cursors) s) (said reply) new
+        → IsRun session.who (statement_plan old.limits session.who (state_of session.cursors) s) session.cursors old reply session.cursors new
+    run-line s rest =
+        subst (λ (k : Kept). IsRun k.who (statement_plan old.limits k.who (state_of k.cursors) s) k.cursors old reply k.cursors new) (sym view_is)
+        (run-stays who cursors old new reply here.sound here.apart (statement_plan old.limits who (state_of cursors) s) rest)
+
+    -- a definition
+    pub run-defined : (s : Stmt) → is_definition s ≡ true
+        → ((state : State) → IsRest who 0 old (definition_plan old.limits who state s) (said reply) new)
+        → IsRun session.who (statement_plan old.limits session.who (state_of session.cursors) s) session.cursors old reply session.cursors new
+    run-defined s is rest = run-line s (rw is (rest (state_of cursors)))
+
+  -- memory ran out at the look
+  pub run-lacking : (new : Known) (P : History → Type 0) (s : Stmt) → speaks old.side who ≡ true → Found old new P
+      → IsRun session.who (statement_plan old.limits session.who (state_of session.cursors) s) session.cursors old (memory_reply 0) session.cursors new
+  run-lacking new P s mine found =
+      run-line new (memory_reply 0) s
+      (rest-lacks who 0 old new P (statement_plan old.limits who (state_of cursors) s) mine session-closed found)
+
+  -- its names had a fault
+  pub run-misnamed : (middle : Known) (s : Stmt) (look : Look) (fault : NameFault) → speaks old.side who ≡ true → is_definition s ≡ false
+      → Found old middle (λ at. look ≡ look_at at who) → (fault ≡ NoMemory) ⊎ (answer look.tables s ≡ Err fault)
+      → IsRun session.who (statement_plan old.limits session.who (state_of session.cursors) s) session.cursors old (name_reply 0 look.place fault)
+      session.cursors middle
+  run-misnamed middle s look fault mine other found cause =
+      let went = went-found old middle (λ at. look ≡ look_at at who) found in
+      run-line middle (name_reply 0 look.place fault) s
+      (rw other
+      (rest-look who 0 old middle middle (λ at. look ≡ look_at at who) (named_plan old.limits who (state_of cursors) s) _ found
+      (subst (λ (l : Limits). IsRest who 0 middle (named_plan l who (state_of cursors) s middle.log) (said (name_reply 0 look.place fault)) middle)
+      (ap (λ (k : Known). k.limits) found.now)
+      (named-fault who 0 middle (state_of cursors) s look fault (speaks-went who old middle went mine)
+      (open-went who 0 old middle mine went session-closed) (went-log old middle (λ at. look ≡ look_at at who) found) cause))))
+
+-- the session agrees once others went on
+pub agrees-found : (session : Kept) (old new : Known) (P : History → Type 0) → speaks old.side session.who ≡ true → Agrees session old
+    → Found old new P → Agrees session new
+agrees-found session old new P mine agrees found = record {
+  cursors = record {
+    closed = ap (list_any (is_cursor 0)) same ∙ agrees.cursors.closed;
+    queries = subst (λ (cursors : List Opened). AreQueriesOf (state_of session.cursors).queries cursors) (sym same) agrees.cursors.queries;
+  };
+  sound =
+      all-map (λ kept. IsSound kept old) (λ kept. IsSound kept new)
+      (λ kept is. sound-longer kept old new (longer-went old new (went-found old new P found)) is) session.cursors agrees.sound;
+  apart = agrees.apart;
+  transaction = agrees.transaction ∙ sym (idle-found session.who old new P mine found refl);
+}
+  where
+    same : opened_in new.log session.who ≡ opened_in old.log session.who
+    same =
+        ap (λ (k : Known). opened_in k.log session.who) found.now
+        ∙ opened-after old.side session.who old.log found.at mine found.after
+
+-- ---- a whole line
+
+limits-found : (old middle : Known) (P : History → Type 0) → Found old middle P → middle.limits ≡ old.limits
+limits-found old middle P found = ap (λ (s : Known). s.limits) found.now
+
+module _ (who : ℕ) (cursors : List Cursor) (s : Stmt) (old : Known) where
+  abbrev whole : Plan Outcome
+  whole = statement_plan old.limits who (state_of cursors) s
+
+  -- its names were found
+  pub run-looked : (middle new : Known) (P : History → Type 0) (look : Look) (r : Resolved) (reply : Reply) (after : List Cursor)
+      → is_definition s ≡ false → Found old middle P → look ≡ look_at middle.log who → answer look.tables s ≡ Ok r
+      → IsRun who (resolved_plan middle.limits who (state_of cursors) middle.log r) cursors middle reply after new
+      → IsRun who whole cursors old reply after new
+  run-looked middle new P look r reply after other found look_is is run = record {
+    effect = run.effect;
+    rest =
+        rw other
+        (rest-look who 0 old middle new P (named_plan old.limits who (state_of cursors) s) _ found
+        (subst (λ (l : Limits). IsRest who 0 middle (named_plan l who (state_of cursors) s middle.log) (Replied reply run.effect) new)
+        (limits-found old middle P found)
+        (named-found who 0 middle new (state_of cursors) s look r _ look_is is run.rest)));
+    keeps = run.keeps;
+    sound = run.sound;
+    apart = run.apart;
+  }
+
+-- what a run over the cursors of a session makes of it, once it knows whether its transaction is open
+pub played : (s : Stmt) (before after : Kept) (now : Bool) (old new : Known) (reply : Reply) → after.who ≡ before.who
+    → now ≡ open_after s reply before.in_transaction
+    → IsRun before.who (statement_plan old.limits before.who (state_of before.cursors) s) before.cursors old reply after.cursors new
+    → IsPlayed s before old reply (record after { in_transaction = now }) new
+played s before after now old new reply same told run = record {
+  same = same;
+  known = run.rest.kept;
+  effect = run.effect;
+  line = record { whole = run.rest.rest };
+  keeps = run.keeps;
+  transaction = told;
+}
+
+pub agrees-played : (s : Stmt) (before after : Kept) (now : Bool) (old new : Known) (reply : Reply) → speaks old.side before.who ≡ true
+    → IsStmt s → Agrees before old → after.who ≡ before.who → now ≡ open_after s reply before.in_transaction
+    → IsRun before.who (statement_plan old.limits before.who (state_of before.cursors) s) before.cursors old reply after.cursors new
+    → Agrees (record after { in_transaction = now }) new
+agrees-played s before after now old new reply mine is agrees same told run = record {
+  cursors =
+      subst (λ (n : ℕ). AreOpen (state_of after.cursors) new.log n) (sym same)
+      (subst (λ (state : State). AreOpen state new.log before.who) (sym run.keeps)
+      (keep-agreement (speaks old.side) old.limits before.who (state_of before.cursors) s old.log (Replied reply run.effect) new.log mine is
+      agrees.cursors (record { whole = run.rest.rest })));
+  sound = run.sound;
+  apart = run.apart;
+  transaction =
+      told
+      ∙ (ap (λ (b : Bool). open_after s reply b) agrees.transaction
+      ∙ (sym
+      (keep-transaction (speaks old.side) old.limits before.who (state_of before.cursors) s old.log reply run.effect new.log mine
+      (record { whole = run.rest.rest })) ∙ ap (λ (n : ℕ). is_open new.log n) (sym same)));
+}

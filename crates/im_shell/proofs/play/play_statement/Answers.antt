@@ -1,0 +1,27 @@
+use Rattle.im_shell.proofs.SessionsLemmas.{answer-after, between-after, session-agrees, session-number, session-there}
+use Rattle.im_shell.proofs.play.play_statement.Goals as goal
+
+pub execute-requires-clause-session : goal.execute-requires-clause-session
+execute-requires-clause-session g c =
+    session-number c.args.sessions.now c.args.who _ (g.H.Reach.known c.args.reach.now) c.requires.between
+    (session-there c.args.sessions.now c.args.who c.index-sessions-who.result _ c.requires.between c.requires.session)
+    c.requires.session
+
+pub execute-requires-clause-agrees : goal.execute-requires-clause-agrees
+execute-requires-clause-agrees g c =
+    session-agrees c.args.sessions.now c.args.who _ (g.H.Reach.known c.args.reach.now) c.requires.between
+    (session-there c.args.sessions.now c.args.who c.index-sessions-who.result _ c.requires.between c.requires.session)
+
+pub returns-clause-between : goal.returns-clause-between
+returns-clause-between g c =
+    between-after c.args.sessions.now c.args.who _ (g.H.Reach.known c.args.reach.now) c.requires.between
+    (session-there c.args.sessions.now c.args.who c.index-sessions-who.result _ c.requires.between c.requires.session)
+    c.args.statement.now c.execute.new.self (g.H.Reach.known c.execute.new.reach) c.execute.result c.execute.ensures.played
+    c.execute.ensures.agrees
+
+pub returns-clause-answer : goal.returns-clause-answer
+returns-clause-answer g c =
+    answer-after c.args.sessions.now c.args.who _ (g.H.Reach.known c.args.reach.now) c.requires.between
+    (session-there c.args.sessions.now c.args.who c.index-sessions-who.result _ c.requires.between c.requires.session)
+    c.args.statement.now c.execute.new.self (g.H.Reach.known c.execute.new.reach) c.execute.result c.execute.ensures.played
+    c.execute.ensures.agrees
