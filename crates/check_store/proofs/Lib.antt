@@ -1,3 +1,4 @@
+mod CursorLemmas
 mod OpeningLemmas
 mod OwnLemmas
 mod TestLemmas

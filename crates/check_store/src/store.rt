@@ -1,5 +1,6 @@
-ghost use Rattle.std.specs.Prelude.{◌≡◌, ℕ, ◌+◌, ◌<◌, ◌≤◌, ◌^◌, [], ◌∷◌, slice_get, All, IfOk, IsTrue, IsSomeAnd, Some, None, is_some};
+ghost use Rattle.std.specs.Prelude.{◌≡◌, ℕ, ◌+◌, ◌==◌, ◌<◌, ◌≤◌, ◌^◌, false, [], ◌∷◌, slice_get, All, OnOk, IfOk, IsTrue, IsSomeAnd, Some, None, is_some};
 ghost use Rattle.std.specs.Bool.{OnTrue};
+ghost use Rattle.im_history.specs.Cursors.{opened};
 ghost use Rattle.im_history.specs.Last.{change_of};
 ghost use Rattle.im_history.specs.declared.task.Task.{Task};
 ghost use Rattle.im_history.specs.Legal.{MayInsert};
@@ -342,6 +343,7 @@ fn update<U: UnitLike, L: Ledger>(
 ) -> Answer
     requires { who < 25 }
     ensures owned { (holder : ℕ) (task : Task) → IsOwn store.old.log holder task → IsOwn store.new.log holder task }
+    ensures stays { OnOk result ((other : ℕ) → (who == other) ≡ false → opened store.new.log other ≡ opened store.old.log other) }
 {
     let Ok(row) = row(alloc, 7) else {
         return Err(OUT_OF_PLACE);
@@ -371,15 +373,21 @@ fn update<U: UnitLike, L: Ledger>(
     Ok((written?, view.scn))
 }
 
+/// The size of the number that a row has, and 0 where there is no row.
+fn size_of(row: &Option<Row>) -> u64 {
+    if let Some(row) = row
+        && let Some(Value::Int(number)) = row.values().first()
+    {
+        return number.unsigned_abs();
+    }
+    0
+}
+
 /// The sum of the numbers that stand in an extent.
 fn sum_of(fetched: &Fetched) -> u64 {
     let mut sum: u64 = 0;
     for (_, row) in fetched.items() {
-        if let Some(row) = row
-            && let Some(Value::Int(number)) = row.values().first()
-        {
-            sum = sum.wrapping_add(number.unsigned_abs());
-        }
+        sum = sum.wrapping_add(size_of(row));
     }
     sum
 }

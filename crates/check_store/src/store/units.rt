@@ -1,11 +1,14 @@
 //! Column units of an extent of two rows: built while a row is updated, made current, evicted, and built again.
-ghost use Rattle.std.specs.Prelude.{◌≡◌, ◌<◌, All, map, length, IfOk};
+ghost use Rattle.std.specs.Prelude.{◌≡◌, ◌<◌, All, map, length, OnOk, IfOk};
 ghost use Rattle.std.specs.Bool.{OnTrue};
 ghost use Rattle.std.specs.Option.{ForSome};
 ghost use Rattle.im_history.specs.declared.task.Task.{Task as TaskInfo};
+ghost use Rattle.im_history.specs.Cursors.{opened};
 ghost use Rattle.im_history.specs.Units.{IsOwn, task_content};
 ghost use Rattle.im_column.specs.Forms.{IsShort};
 ghost use Rattle.im_unit.specs.Holding.{AreShort, HaveWidth};
+
+mod cursors;
 
 use crate::store::{AMPLE, OUT_OF_PLACE, insert, row, set_memory, stocked, sum_of, takes, update};
 use im_core::{Core, Fetched, Offer, Switched};
@@ -25,6 +28,7 @@ type Met = (u64, Option<u64>, usize, u64);
 /// Begins a build of the extent.
 fn begin(alloc: Global, store: &mut Core<ColumnUnit>) -> Result<Task, Refused>
     ensures own { IfOk result (λ task. IsOwn store.new.log 0 task) }
+    ensures stays { OnOk result (opened store.new.log 3 ≡ opened store.old.log 3) }
 {
     let Ok(row) = row(alloc, 1) else {
         return Err(OUT_OF_PLACE);
@@ -126,6 +130,7 @@ fn switch<L: Ledger>(
     steps: &mut Steps<L>,
 ) -> Result<Ended, Refused>
     requires own { IsOwn store.old.log 0 task }
+    ensures stays { OnOk result (opened store.new.log 3 ≡ opened store.old.log 3) }
 {
     let unit = unit_of(alloc, store, &task, steps)?;
     match store.switch(0, task, unit) {
@@ -135,21 +140,37 @@ fn switch<L: Ledger>(
     }
 }
 
+/// Begins a build of the extent, and then updates the first row and commits.
+fn begin_late<L: Ledger>(
+    alloc: Global,
+    store: &mut Core<ColumnUnit>,
+    steps: &mut Steps<L>,
+) -> Result<Task, Refused>
+    ensures own { IfOk result (λ task. IsOwn store.new.log 0 task) }
+    ensures stays { OnOk result (opened store.new.log 3 ≡ opened store.old.log 3) }
+{
+    let task = begin(alloc, store)?;
+    let _updated = update(alloc, store, 1, 0, steps)?;
+    let _committed = store.commit(1)?;
+    Ok(task)
+}
+
 /// Builds the extent, updates its first row and commits, and only then makes the unit current.
 fn switch_late<L: Ledger>(
     alloc: Global,
     store: &mut Core<ColumnUnit>,
     steps: &mut Steps<L>,
-) -> Result<Ended, Refused> {
-    let task = begin(alloc, store)?;
-    let _updated = update(alloc, store, 1, 0, steps)?;
-    let _committed = store.commit(1)?;
+) -> Result<Ended, Refused>
+    ensures stays { OnOk result (opened store.new.log 3 ≡ opened store.old.log 3) }
+{
+    let task = begin_late(alloc, store, steps)?;
     switch(alloc, store, task, steps)
 }
 
 /// Evicts the unit of the extent, and answers its SCN.
 fn evict(alloc: Global, store: &mut Core<ColumnUnit>) -> Result<u64, Refused>
     ensures owned { (task : TaskInfo) → IsOwn store.old.log 0 task → IsOwn store.new.log 0 task }
+    ensures stays { OnOk result (opened store.new.log 3 ≡ opened store.old.log 3) }
 {
     let Ok(row) = row(alloc, 1) else {
         return Err(OUT_OF_PLACE);
@@ -165,7 +186,9 @@ fn switch_dead<L: Ledger>(
     alloc: Global,
     store: &mut Core<ColumnUnit>,
     steps: &mut Steps<L>,
-) -> Result<Ended, Refused> {
+) -> Result<Ended, Refused>
+    ensures stays { OnOk result (opened store.new.log 3 ≡ opened store.old.log 3) }
+{
     let task = begin(alloc, store)?;
     let _evicted = evict(alloc, store)?;
     switch(alloc, store, task, steps)

@@ -1,4 +1,5 @@
 use Rattle.std.proofs.Common.{refl}
+use Rattle.check_store.proofs.CursorLemmas.{opened-through}
 use Rattle.check_store.proofs.OpeningLemmas.{has-extent, may-update, still-open}
 use Rattle.check_store.proofs.UnitLemmas.{own-opened, own-through}
 use Rattle.check_store.proofs.store.update.Goals as goal
@@ -29,6 +30,7 @@ returns-then-view-eq0 g c = record {
   owned = λ holder task own.
       own-opened c.args.store.now c.takes.new.store c.open_cursor.new.self c.open_cursor.new.self c.args.who holder task
       c.in_ok-takes.ensures.same c.in_ok-view.ensures.ok refl own;
+  stays = tt;
 }
 
 pub returns-then-rid-view : goal.returns-then-rid-view
@@ -36,6 +38,7 @@ returns-then-rid-view g c = record {
   owned = λ holder task own.
       own-opened c.args.store.now c.takes.new.store c.open_cursor.new.self c.open_cursor.new.self c.args.who holder task
       c.in_ok-takes.ensures.same c.in_ok-view.ensures.ok refl own;
+  stays = tt;
 }
 
 pub returns-then-not-is_as_committed : goal.returns-then-not-is_as_committed
@@ -43,29 +46,29 @@ returns-then-not-is_as_committed g c = record {
   owned = λ holder task own.
       own-opened c.args.store.now c.takes.new.store c.open_cursor.new.self c.open_cursor.new.self c.args.who holder task
       c.in_ok-takes.ensures.same c.in_ok-view.ensures.ok refl own;
+  stays = tt;
 }
 
-pub returns-in_err-pin : goal.returns-in_err-pin
-returns-in_err-pin g c = record {
-  owned = λ holder task own.
-      own-opened c.args.store.now c.takes.new.store c.open_cursor.new.self c.pin.new.self c.args.who holder task
-      c.in_ok-takes.ensures.same c.in_ok-view.ensures.ok c.in_err-pin.ensures.same own;
-}
+pub returns-in_err-pin-clause-owned : goal.returns-in_err-pin-clause-owned
+returns-in_err-pin-clause-owned g c =
+    λ holder task own.
+    own-opened c.args.store.now c.takes.new.store c.open_cursor.new.self c.pin.new.self c.args.who holder task
+    c.in_ok-takes.ensures.same c.in_ok-view.ensures.ok c.in_err-pin.ensures.same own
 
 pub returns-then-not-stands : goal.returns-then-not-stands
 returns-then-not-stands g c = record {
   owned = λ holder task own.
       own-opened c.args.store.now c.takes.new.store c.open_cursor.new.self c.pin.new.self c.args.who holder task
       c.in_ok-takes.ensures.same c.in_ok-view.ensures.ok c.in_ok-pin.ensures.same own;
+  stays = tt;
 }
 
-pub returns-in_err-written : goal.returns-in_err-written
-returns-in_err-written g c = record {
-  owned = λ holder task own.
-      own-through c.args.store.now c.takes.new.store c.open_cursor.new.self c.pin.new.self c.write-written.new.self c.shut-place.new.self c.args.who holder
-      c.in-Ok-change.changes.items c.write-written.result task c.in_ok-takes.ensures.same c.in_ok-view.ensures.ok c.in_ok-pin.ensures.same
-      c.write-written.ensures.ok c.write-written.ensures.err c.shut-place.ensures.added own;
-}
+pub returns-in_err-written-clause-owned : goal.returns-in_err-written-clause-owned
+returns-in_err-written-clause-owned g c =
+    λ holder task own.
+    own-through c.args.store.now c.takes.new.store c.open_cursor.new.self c.pin.new.self c.write-written.new.self c.shut-place.new.self c.args.who holder
+    c.in-Ok-change.changes.items c.write-written.result task c.in_ok-takes.ensures.same c.in_ok-view.ensures.ok c.in_ok-pin.ensures.same
+    c.write-written.ensures.ok c.write-written.ensures.err c.shut-place.ensures.added own
 
 pub returns : goal.returns
 returns g c = record {
@@ -73,4 +76,8 @@ returns g c = record {
       own-through c.args.store.now c.takes.new.store c.open_cursor.new.self c.pin.new.self c.write-written.new.self c.shut-place.new.self c.args.who holder
       c.in-Ok-change.changes.items c.write-written.result task c.in_ok-takes.ensures.same c.in_ok-view.ensures.ok c.in_ok-pin.ensures.same
       c.write-written.ensures.ok c.write-written.ensures.err c.shut-place.ensures.added own;
+  stays = λ other apart.
+      opened-through c.args.store.now c.takes.new.store c.open_cursor.new.self c.pin.new.self c.write-written.new.self c.shut-place.new.self c.args.who other
+      c.in-Ok-change.changes.items c.write-written.result apart c.in_ok-takes.ensures.same c.in_ok-view.ensures.ok c.in_ok-pin.ensures.same
+      c.write-written.ensures.ok c.write-written.ensures.err c.shut-place.ensures.added;
 }
