@@ -1,7 +1,8 @@
 //! Plays each script of `data/`, and compares the text that it comes to with the text that stands beside it.
 //!
 //! `data/examples/` has the scripts that the manual shows, `data/scripts/` others. What `NAME.ime` is to come to is
-//! `NAME.out`. A folder is answered by one line: how many scripts came to their texts, or the name of one that did not.
+//! `NAME.out`; `OPTIONS` has the further words of those that need some. A folder is answered by one line: how many scripts came
+//! to their texts, or the name of one that did not.
 #![tactic(auto)]
 
 ghost use Rattle.std.specs.Prelude.{◌≡◌, ◌<◌};
@@ -24,18 +25,34 @@ const PIECE: usize = 1000;
 /// How many bytes a text may have.
 const ROOM: usize = 1_000_000;
 
-/// The words of the command that plays a script.
-fn words(alloc: Global) -> Result<Vec<Word>, NoMemory> {
+/// Scripts that are played by more words than `ime run`, and those words.
+const OPTIONS: [(&str, &[&str]); 1] = [("full_area", &["--area", "60"])];
+
+/// Puts words behind others.
+fn push_all(alloc: Global, words: &mut Vec<Word>, texts: &[&str]) -> Result<(), NoMemory> {
+    for text in texts {
+        words.push(Word::of(String::from_str(alloc, text)?))?;
+    }
+    Ok(())
+}
+
+/// The words of the command that plays the script of this name.
+fn words(alloc: Global, name: &str) -> Result<Vec<Word>, NoMemory> {
     let mut words = Vec::new(alloc);
-    words.push(Word::of(String::from_str(alloc, "ime")?))?;
-    words.push(Word::of(String::from_str(alloc, "run")?))?;
+    push_all(alloc, &mut words, &["ime", "run"])?;
+    for (script, options) in OPTIONS {
+        if script == name {
+            push_all(alloc, &mut words, options)?;
+        }
+    }
     Ok(words)
 }
 
-/// The text that a script comes to, where it is played to its end.
+/// The text that a script comes to by a command, where it is played to its end.
 fn text_of<R: Threads + Wait + Sync, L: Ledger>(
     rt: &R,
     alloc: Global,
+    words: &[Word],
     script: Vec<u8>,
     blank: Blank,
 ) -> Result<Option<Vec<u8>>, NoMemory>
@@ -43,7 +60,6 @@ fn text_of<R: Threads + Wait + Sync, L: Ledger>(
     requires parts { blank.parts ≡ L.parts }
     requires some { 0 < blank.parts }
 {
-    let words = words(alloc)?;
     let mut source = MemSource::new(script, PIECE, Vec::new(alloc));
     let mut sink = MemSink::new(alloc, PIECE, Vec::new(alloc));
     sink.push_room(ROOM)?;
@@ -51,7 +67,7 @@ fn text_of<R: Threads + Wait + Sync, L: Ledger>(
     let status = run(
         rt,
         alloc,
-        words.as_slice(),
+        words,
         &mut source,
         &mut sink,
         &OpenGate,
@@ -63,14 +79,15 @@ fn text_of<R: Threads + Wait + Sync, L: Ledger>(
     Ok(Some(Vec::from_slice(alloc, sink.taken())?))
 }
 
-/// Whether a script comes to a text.
+/// Whether a script comes to a text by a command.
 fn comes_to<R: Threads + Wait + Sync>(
     rt: &R,
     alloc: Global,
+    words: &[Word],
     script: Vec<u8>,
     text: &[u8],
 ) -> Result<bool, NoMemory> {
-    match text_of::<R, Brand>(rt, alloc, script, Blank::new(1))? {
+    match text_of::<R, Brand>(rt, alloc, words, script, Blank::new(1))? {
         Some(played) => Ok(played.as_slice() == text),
         None => Ok(false),
     }
@@ -85,7 +102,9 @@ fn is_as_written<R: Files + AllocGlobal + Threads + Wait + Sync>(
     let alloc = rt.alloc();
     let script = fs::read(rt, format!(in alloc; "{folder}/{name}.ime")?)?;
     let text = fs::read(rt, format!(in alloc; "{folder}/{name}.out")?)?;
-    Ok(comes_to(rt, alloc, script, text.as_slice())?)
+    let words = words(alloc, name)?;
+    let words = words.as_slice();
+    Ok(comes_to(rt, alloc, words, script, text.as_slice())?)
 }
 
 /// How many scripts of a folder come to their texts. One that does not is named.

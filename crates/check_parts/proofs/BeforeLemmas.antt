@@ -10,7 +10,7 @@ use Rattle.im_history.specs.declared.entry.What.{What}
 use Rattle.im_history.specs.declared.look.TableInfo.{TableInfo}
 use Rattle.im_history.specs.declared.task.Held.{Held}
 use Rattle.im_history.specs.Units.{drops, is_on}
-use Rattle.im_directory.specs.Effects.{IsBefore, IsBegun, IsCancelled, IsDropped, IsNew, IsNoted, IsSwitched, NoneBehind, SameTold, grown, is_in_extent, noted_in, notes_of, unless_of, with_notes}
+use Rattle.im_directory.specs.Effects.{IsBefore, IsBegun, IsCancelled, IsDropped, IsNew, IsNoted, IsSwitched, NoneBehind, SameTold, ended_in, grown, is_in_extent, noted_in, notes_of, unless_of, with_notes}
 use Rattle.im_directory.specs.Slots.{Growth, Kept, Stock, Told, told_at}
 
 some_same : {X : Type 0} (x y : X) → Some x ≡ Some y → x ≡ y
@@ -51,8 +51,8 @@ empty_behind : (scn : ℕ) → NoneBehind scn []
 empty_behind scn = ForSome-none (λ (last : ℕ). last ≤ scn)
 
 module _ {U : Type 0} where
-  abbrev with_parts : Option (Stock U) → Option Growth → Told U
-  with_parts current growing = record { current = current; growing = growing }
+  abbrev with_parts : Told U → Option (Stock U) → Option Growth → Told U
+  with_parts told current growing = record told { current = current; growing = growing }
 
   AreTold-by : (b : Bool) (here there : Told U) (scn : ℕ) → AreTold here scn → AreTold there scn → AreTold (if b then here else there) scn
   AreTold-by true here there scn first second = first
@@ -97,7 +97,7 @@ module _ {U : Type 0} where
 
   pub IsBefore-switched : (old new : Kept U) (held : Held) (unit : U) (scn : ℕ) → IsSwitched old new held unit → IsBefore old scn → IsBefore new scn
   IsBefore-switched old new held unit scn switched before =
-      IsBefore-from new scn (λ t e. if is_on t e held then with_parts (grown unit (told_at old t e).growing) None else told_at old t e) switched.slots
+      IsBefore-from new scn (λ t e. if is_on t e held then with_parts (told_at old t e) (grown unit (told_at old t e).growing) None else told_at old t e) switched.slots
       (λ t e.
       AreTold-by (is_on t e held) _ (told_at old t e) scn (record {
         current =
@@ -106,7 +106,10 @@ module _ {U : Type 0} where
         growing = ForSome-none (λ (g : Growth). NoneBehind scn g.notes);
       }) (AreTold-at old scn t e before))
 
-  pub IsBefore-cancelled : (old new : Kept U) (held : Held) (scn : ℕ) → IsCancelled old new held → IsBefore old scn → IsBefore new scn
-  IsBefore-cancelled old new held scn cancelled before =
-      IsBefore-from new scn (λ t e. with_parts (told_at old t e).current (unless_of held.task.id (told_at old t e).growing)) cancelled.slots
-      (λ t e. record { current = before.current t e; growing = unless_kept scn held.task.id (told_at old t e).growing (before.growing t e) })
+  pub IsBefore-cancelled : (old new : Kept U) (held : Held) (full : Bool) (scn : ℕ) → IsCancelled old new held full → IsBefore old scn → IsBefore new scn
+  IsBefore-cancelled old new held full scn cancelled before =
+      IsBefore-from new scn (λ t e. if is_on t e held then ended_in held.task.id full (told_at old t e) else told_at old t e) cancelled.slots
+      (λ t e.
+      AreTold-by (is_on t e held) _ (told_at old t e) scn
+      (record { current = before.current t e; growing = unless_kept scn held.task.id (told_at old t e).growing (before.growing t e) })
+      (AreTold-at old scn t e before))

@@ -1,1 +1,2 @@
 mod BeforeLemmas
+mod PlainLemmas

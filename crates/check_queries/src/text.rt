@@ -204,7 +204,6 @@ fn a_plan_lists_each_extent(rt: HostRuntime) -> Result<(), Fail> {
 fn refusals_with_numbers_have_a_code_and_a_word(rt: HostRuntime) -> Result<(), Fail> {
     let alloc = rt.alloc();
     let cases = [
-        (Fault::NotBuilt, "7,error,00,not-built\n"),
         (Fault::Syntax { byte: 26 }, "7,error,01,syntax,26\n"),
         (
             Fault::LineTooLong { length: 1048577 },

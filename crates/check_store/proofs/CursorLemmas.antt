@@ -1,19 +1,21 @@
 -- The open cursors of a session stay as they are while others go on.
-use Rattle.std.proofs.Common.{◌≡◌, ℕ, ◌+◌, ◌==◌, ◌<◌, Bool, false, List, if◌then◌else◌, ap, ◌∙◌}
+use Rattle.std.proofs.Common.{◌≡◌, ℕ, ◌==◌, ◌<◌, Bool, true, false, List, if◌then◌else◌, ap, ◌∙◌}
 use Rattle.std.specs.List.{find}
 use Rattle.std.specs.Prelude.{OnOk, OnErr}
 use Rattle.std.specs.declared.result.Result.{Result}
 use Rattle.std.specs.declared.result.Result.TheVariants.{Ok, Err}
 use Rattle.im_history.specs.declared.change.Change.{Change}
 use Rattle.im_history.specs.declared.entry.What.{What}
-use Rattle.im_history.specs.declared.entry.What.TheVariants.{Build, Cancel, Open, Shut, Switch, Write}
+use Rattle.im_history.specs.declared.entry.What.TheVariants.{Cancel, Open, Shut, Switch, Write}
 use Rattle.im_history.specs.declared.refused.Refused.{Refused}
 use Rattle.im_history.specs.declared.task.Task.{Task}
 use Rattle.im_history.specs.Cursors.{Opened, opened, opened_after, is_cursor}
 use Rattle.im_history.proofs.Laws.{opened-push}
-use Rattle.im_history.specs.Units.{Content, builds}
+use Rattle.im_history.specs.Queue.{build_of}
+use Rattle.im_history.specs.Units.{Content}
 use Rattle.im_core.specs.Answers.{IsOffer, IsSwitch, cursor_view, view_of}
 use Rattle.im_core.specs.Seen.{Seen, Adds}
+use Rattle.im_core.specs.declared.answers.Offer.{Offer}
 use Rattle.im_core.specs.declared.answers.Offer.TheVariants as offer
 use Rattle.im_core.specs.declared.answers.Switched.{Switched}
 use Rattle.im_core.specs.declared.answers.Switched.TheVariants.{AreaFull, Cancelled, Done}
@@ -42,19 +44,19 @@ opened-through start before h late after new who other changes written apart sam
     ∙ (ap (λ (s : Seen). opened s.log other) read
     ∙ (opened-adds before h who other (Open 0 1) apart begun ∙ ap (λ (s : Seen). opened s.log other) same)))
 
--- from before a look to behind the begin of another session's build
-pub opened-offer : (start taken looked new : Seen) (who other table extent : ℕ) (trickle : Bool) (task : Task) → (who == other) ≡ false → taken ≡ start
-    → looked ≡ taken → IsOffer looked who table extent trickle (offer.Task task) new → opened new.log other ≡ opened start.log other
-opened-offer start taken looked new who other table extent trickle task apart took look began =
-    opened-adds looked new who other (Build (builds looked.log + 1) table extent trickle) apart began.2
-    ∙ ap (λ (s : Seen). opened s.log other) (look ∙ took)
+-- to behind the begin of another session's build, or a look that finds none
+pub opened-offer : (old new : Seen) (who other : ℕ) (offered : Offer) → (who == other) ≡ false → IsOffer old who offered new
+    → opened new.log other ≡ opened old.log other
+opened-offer old new who other (offer.Task task) apart began = opened-adds old new who other (build_of old.log began.0) apart began.3
+opened-offer old new who other (offer.Idle place left) apart found = ap (λ (s : Seen). opened s.log other) found.3
 
 -- to behind the end of another session's build, whose rows were read before
 pub opened-switched : {U : Type 0} (content : U → Content) (start old new : Seen) (who other : ℕ) (task : Task) (switched : Switched U)
     → (who == other) ≡ false → old ≡ start → IsSwitch content old who task switched new → opened new.log other ≡ opened start.log other
-opened-switched content start old new who other task (Done place used before) apart read said =
-    opened-adds old new who other (Switch task.id) apart said.4 ∙ ap (λ (s : Seen). opened s.log other) read
-opened-switched content start old new who other task (AreaFull place need free) apart read said = absurd said
+opened-switched content start old new who other task (Done place sum before) apart read said =
+    opened-adds old new who other (Switch task.id) apart said.5 ∙ ap (λ (s : Seen). opened s.log other) read
+opened-switched content start old new who other task (AreaFull place need free) apart read said =
+    opened-adds old new who other (Cancel task.id true) apart said.5 ∙ ap (λ (s : Seen). opened s.log other) read
 opened-switched content start old new who other task (Cancelled place at) apart read said =
     opened-adds old new who other (Cancel task.id false) apart said.2 ∙ ap (λ (s : Seen). opened s.log other) read
 

@@ -1,4 +1,5 @@
 mod CursorLemmas
+mod LeaveLemmas
 mod OpeningLemmas
 mod OwnLemmas
 mod TestLemmas

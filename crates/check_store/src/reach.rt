@@ -22,6 +22,14 @@ impl UnitLike for NoUnit {
     fn scn(&self) -> u64 {
         0
     }
+
+    fn bytes(&self) -> u64 {
+        0
+    }
+
+    fn present(&self) -> u64 {
+        0
+    }
 }
 
 const AMPLE: Limits = Limits {

@@ -27,6 +27,14 @@ impl UnitLike for NoUnit {
     fn scn(&self) -> u64 {
         0
     }
+
+    fn bytes(&self) -> u64 {
+        0
+    }
+
+    fn present(&self) -> u64 {
+        0
+    }
 }
 
 /// What a session does.
@@ -84,7 +92,7 @@ const TIGHT_CASES: [(u32, Step, Answer); 4] = [
 ];
 
 const AMPLE: Limits = Limits {
-    area: 0,
+    area: 1_000,
     store: 100_000,
     changes: 100,
 };

@@ -9,7 +9,7 @@ use Rattle.im_history.specs.declared.entry.Entry.{Entry}
 use Rattle.im_history.specs.declared.entry.Mode.{Mode}
 use Rattle.im_values.specs.declared.priority.Priority.{Priority}
 use Rattle.im_history.specs.declared.entry.What.{What}
-use Rattle.im_history.specs.declared.entry.What.TheVariants.{Create, Memory, Begin, Open, Shut, Write, Commit, Rollback, Build, Switch, Cancel, Evict}
+use Rattle.im_history.specs.declared.entry.What.TheVariants.{Create, Memory, Begin, Open, Shut, Write, Commit, Rollback, Build, Switch, Cancel, Trickle, Evict, Leave}
 use Rattle.im_history.specs.declared.look.TableInfo.{TableInfo}
 use Rattle.im_history.specs.Grid.{Grid}
 use Rattle.im_history.specs.History.{History}
@@ -53,6 +53,12 @@ light-cancel id full = record { tables = λ ts. refl; given = λ t n. refl; weig
 
 pub light-evict : (table extent : ℕ) → IsLight (Evict table extent)
 light-evict table extent = record { tables = λ ts. refl; given = λ t n. refl; weight = λ n. refl }
+
+pub light-trickle : (count : ℕ) → IsLight (Trickle count)
+light-trickle count = record { tables = λ ts. refl; given = λ t n. refl; weight = λ n. refl }
+
+pub light-leave : IsLight Leave
+light-leave = record { tables = λ ts. refl; given = λ t n. refl; weight = λ n. refl }
 
 pub given-light : (h : History) (entry : Entry) (table : ℕ) → IsLight entry.what → given (h ++ entry ∷ []) table ≡ given h table
 given-light h entry table light = given-push h entry table ∙ light.given table (given h table)

@@ -1,12 +1,10 @@
 -- What a pin is lent of an extent, and what it reads beside that.
-use Rattle.std.proofs.Common.{◌≡◌, ℕ, ◌≤◌, Bool, true, false, List, length, map, nat_le, Option, Some, None, if◌then◌else◌, refl, sym, ap, ◌∙◌, subst}
-use Rattle.std.specs.List.{range_with_len}
+use Rattle.std.proofs.Common.{◌≡◌, ℕ, Bool, true, false, length, nat_le, Option, Some, None, if◌then◌else◌, refl, sym, ap, ◌∙◌, subst}
 use Rattle.std.specs.Option.{option_map}
 use Rattle.std.proofs.lemmas.List.{length-map}
 use Rattle.std.proofs.lemmas.List.FromFn.{length-range_with_len}
 use Rattle.im_history.specs.declared.view.View.{View}
 use Rattle.im_history.specs.History.{History}
-use Rattle.im_history.specs.Rows.{Row, rows}
 use Rattle.im_history.specs.Units.{Content, content_at, stale, unit}
 use Rattle.im_directory.specs.Agrees.{Agrees}
 use Rattle.im_directory.specs.Slots.{Kept, Stock, told_at, unit_in}

@@ -1,34 +1,40 @@
 -- What is kept agrees with the history, one entry of the column store on.
-use Rattle.std.proofs.Common.{◌≡◌, ℕ, ◌+◌, ◌-◌, ◌<◌, ◌≤◌, Bool, true, false, List, [], ◌∷◌, ◌++◌, length, set, Option, Some, None, count_by, is_none, is_some, ◌&&◌, refl, sym, ap, ◌∙◌, arith}
+use Rattle.std.proofs.Common.{◌≡◌, ℕ, ◌+◌, ◌-◌, ◌<◌, ◌≤◌, Bool, true, false, List, [], ◌∷◌, ◌++◌, length, set, Option, Some, None, count_by, is_some, refl, sym, ap, ◌∙◌, arith}
 use Rattle.std.specs.Option.{option_map}
 use Rattle.im_values.specs.declared.limits.TheConstants.{NUMBERS}
 use Rattle.im_history.specs.declared.entry.Entry.{Entry}
 use Rattle.im_values.specs.declared.priority.Priority.{Priority}
 use Rattle.im_history.specs.declared.entry.What.{What}
-use Rattle.im_history.specs.declared.entry.What.TheVariants.{Memory, Build, Switch, Cancel, Evict}
+use Rattle.im_history.specs.declared.entry.What.TheVariants.{Memory, Switch, Cancel, Trickle, Evict, Leave}
 use Rattle.im_history.specs.declared.limits.Limits.{Limits}
 use Rattle.im_history.specs.declared.look.TableInfo.{TableInfo}
+use Rattle.im_history.specs.declared.task.Choice.{Choice}
 use Rattle.im_history.specs.declared.task.Held.{Held}
+use Rattle.im_history.specs.Area.{used}
 use Rattle.im_history.specs.Commits.{moves_clock}
-use Rattle.im_history.specs.Legal.{Exists, IsAllowed, MaySetMemory}
+use Rattle.im_history.specs.Legal.{IsAllowed, MayCancel, MayLeave, MaySetMemory, used_with}
 use Rattle.im_history.specs.History.{History}
+use Rattle.im_history.specs.Queue.{build_of, next}
 use Rattle.im_history.specs.Stored.{Stored}
-use Rattle.im_history.specs.Tables.{remembered, table_at}
+use Rattle.im_history.specs.Tables.{remembered}
 use Rattle.im_history.specs.Transactions.{begun, begun_after}
-use Rattle.im_history.specs.Units.{Content, builds, content_at, held_at, is_member, living, may_populate, unit, unit_content}
+use Rattle.im_history.specs.Units.{Content, builds, content_at, held_at, unit, unit_content}
+use Rattle.im_history.proofs.ExtentLaws.{extents-of-units}
 use Rattle.im_history.proofs.Laws.{IsLegal-push, weight-push}
+use Rattle.im_history.proofs.NextLaws.{next-is}
 use Rattle.im_blocks.proofs.ForCallers.{IsKept-quiet}
 use Rattle.im_directory.specs.Agreement.{next_build}
 use Rattle.im_directory.specs.Agrees.{Agrees as IsOf, scn_of}
 use Rattle.im_directory.specs.Effects.{IsBegun, IsCancelled, IsDropped, IsSwitched}
+use Rattle.im_directory.specs.Lists.{used_in}
 use Rattle.im_directory.specs.Slots.{Kept, Stock, told_at, unit_in}
 use Rattle.im_directory.proofs.CountLaws.{count-begun, count-killed, count-one-ended}
-use Rattle.im_directory.proofs.ForCallers.{Agrees-apart as units-apart, Agrees-begin, Agrees-cancel, Agrees-drop, Agrees-switch}
+use Rattle.im_directory.proofs.ForCallers.{Agrees-apart as units-apart, Agrees-begin, Agrees-cancel, Agrees-drop, Agrees-switch, used-by}
 use Rattle.im_txn.specs.Agrees.{is_apart}
 use Rattle.im_txn.proofs.ForCallers.{Agrees-apart}
 use Rattle.im_core.specs.inner.Holds.{Caches, Holds, owed}
 use Rattle.im_core.proofs.BeginLemmas.{as_it_was, Began-kept}
-use Rattle.im_core.proofs.CountLemmas.{IsLight, Counts-light, Counts-memory, light-build, light-cancel, light-evict, light-switch, weight-light}
+use Rattle.im_core.proofs.CountLemmas.{IsLight, Counts-light, Counts-memory, light-build, light-cancel, light-evict, light-leave, light-switch, light-trickle, weight-light}
 use Rattle.im_core.proofs.HoldsLemmas.{Grew, grew-spare}
 use Rattle.im_core.proofs.ViewLemmas.{Views-push}
 
@@ -38,18 +44,6 @@ pub record IsOfStore (what : What) : Type 0 where
   pub quiet : moves_clock what ≡ false
   pub apart : is_apart what ≡ true
   pub begins : (place : ℕ) (began : Option ℕ) → begun_after place began what ≡ began
-
--- an extent that may be populated has no living build
-no_one : (o : Option ℕ) → is_none o ≡ true → o ≡ None
-no_one None is = refl
-no_one (Some n) is = cc
-
-both : (a b : Bool) → (a && b) ≡ true → (a ≡ true) × (b ≡ true)
-both true b is = (refl, is)
-both false b is = cc
-
-pub alone-by : (h : History) (table extent : ℕ) → may_populate h table extent ≡ true → living h table extent ≡ None
-alone-by h table extent may = no_one (living h table extent) (both _ _ (both (is_member (table_at h table)) _ may).1).1
 
 -- the unit that is kept of an extent is the history's
 scn_by : {U : Type 0} (content : U → Content) (current : Option (Stock U)) (of : U) → option_map (λ (stock : Stock U). stock.unit) current ≡ Some of
@@ -98,19 +92,26 @@ module _ {U : Type 0} (content : U → Content) (limits : Limits) (history : Sto
   }
 
   -- a build begins
-  pub Holds-build : (after : Stored) (who table extent : ℕ) (trickle : Bool) (held : Held) (new : Kept U) → Holds content limits history caches
-      → who < NUMBERS → Exists history.entries table → may_populate history.entries table extent ≡ true → living history.entries table extent ≡ None
-      → held ≡ next_build history.entries who table extent trickle
-      → Grew history after (record { who = who; what = Build (builds history.entries + 1) table extent trickle }) (owed caches.standing caches.kept + 2)
+  pub Holds-build : (after : Stored) (who : ℕ) (choice : Choice) (held : Held) (new : Kept U) → Holds content limits history caches
+      → who < NUMBERS → next history.entries ≡ Some choice
+      → held ≡ next_build history.entries who choice.table choice.extent choice.trickle
+      → Grew history after (record { who = who; what = build_of history.entries choice }) (owed caches.standing caches.kept + 2)
       → IsBegun caches.kept new held → Holds content limits after (record caches { kept = new })
-  Holds-build after who table extent trickle held new holds known exists may alone held_is grew begun_one =
+  Holds-build after who choice held new holds known comes held_is grew begun_one =
       let more : count_by is_some new.builds ≡ count_by is_some caches.kept.builds + 1 =
       ap (count_by is_some) begun_one.builds ∙ count-begun caches.kept.builds held in
-      store_step after (record { who = who; what = Build (builds history.entries + 1) table extent trickle }) (owed caches.standing caches.kept + 2) new holds
+      let found = next-is history.entries choice comes in
+      store_step after (record { who = who; what = build_of history.entries choice }) (owed caches.standing caches.kept + 2) new holds
       known grew
-      (record { light = light-build (builds history.entries + 1) table extent trickle; quiet = refl; apart = refl; begins = λ place began. refl })
-      (record { exists = exists; may = may; next = refl })
-      (Agrees-begin content history.entries who table extent trickle held caches.kept new holds.units exists alone held_is begun_one)
+      (record {
+        light = light-build (builds history.entries + 1) choice.table choice.extent choice.trickle;
+        quiet = refl;
+        apart = refl;
+        begins = λ place began. refl;
+      })
+      (record { comes = comes; numbered = refl })
+      (Agrees-begin content history.entries who choice.table choice.extent choice.trickle held caches.kept new holds.units found.exists found.alone
+      held_is begun_one)
       (omega (arith, more))
 
   -- a room is owed for the end of a held build
@@ -131,31 +132,32 @@ module _ {U : Type 0} (content : U → Content) (limits : Limits) (history : Sto
   pub Holds-switch : (after : Stored) (who id : ℕ) (held : Held) (of : U) (new : Kept U) → Holds content limits history caches → who < NUMBERS
       → held_at history.entries id ≡ Some held → held.who ≡ who → held.killed ≡ None → held.task.id ≡ id
       → content of ≡ content_at history.entries held.task.table held.task.extent held.task.scn
+      → used_with history.entries held ≤ limits.area
       → after ≡ record { entries = history.entries ++ record { who = who; what = Switch id } ∷ []; spare = history.spare - 1 }
       → IsSwitched caches.kept new held of → Holds content limits after (record caches { kept = new })
-  Holds-switch after who id held of new holds known is mine lives numbered holds_rows added switched =
+  Holds-switch after who id held of new holds known is mine lives numbered holds_rows fits added switched =
       let count : count_by is_some new.builds + 1 ≡ count_by is_some caches.kept.builds = ended id held new holds is numbered switched.builds in
       let room = holds.room in
       store_step after (record { who = who; what = Switch id }) history.spare new holds known
       (grew-spare history after (record { who = who; what = Switch id }) (owed-held id held holds is) added)
       (record { light = light-switch id; quiet = refl; apart = refl; begins = λ place began. refl })
-      (record { may = record { held = held; is = is; mine = mine }; lives = lives })
+      (record { may = record { held = held; is = is; mine = mine }; lives = lives; fits = fits })
       (Agrees-switch content history.entries who id held of caches.kept new holds.units is lives holds_rows switched)
       (omega (arith, count, room))
 
   -- a build is cancelled
-  pub Holds-cancel : (after : Stored) (who id : ℕ) (held : Held) (new : Kept U) → Holds content limits history caches → who < NUMBERS
-      → held_at history.entries id ≡ Some held → held.who ≡ who → held.task.id ≡ id
-      → after ≡ record { entries = history.entries ++ record { who = who; what = Cancel id false } ∷ []; spare = history.spare - 1 }
-      → IsCancelled caches.kept new held → Holds content limits after (record caches { kept = new })
-  Holds-cancel after who id held new holds known is mine numbered added cancelled =
+  pub Holds-cancel : (after : Stored) (who id : ℕ) (full : Bool) (held : Held) (new : Kept U) → Holds content limits history caches → who < NUMBERS
+      → held_at history.entries id ≡ Some held → held.task.id ≡ id → MayCancel limits history.entries who id full
+      → after ≡ record { entries = history.entries ++ record { who = who; what = Cancel id full } ∷ []; spare = history.spare - 1 }
+      → IsCancelled caches.kept new held full → Holds content limits after (record caches { kept = new })
+  Holds-cancel after who id full held new holds known is numbered may added cancelled =
       let count : count_by is_some new.builds + 1 ≡ count_by is_some caches.kept.builds = ended id held new holds is numbered cancelled.builds in
       let room = holds.room in
-      store_step after (record { who = who; what = Cancel id false }) history.spare new holds known
-      (grew-spare history after (record { who = who; what = Cancel id false }) (owed-held id held holds is) added)
-      (record { light = light-cancel id false; quiet = refl; apart = refl; begins = λ place began. refl })
-      (record { held = held; is = is; mine = mine }, refl)
-      (Agrees-cancel content history.entries who id false held caches.kept new holds.units is cancelled)
+      store_step after (record { who = who; what = Cancel id full }) history.spare new holds known
+      (grew-spare history after (record { who = who; what = Cancel id full }) (owed-held id held holds is) added)
+      (record { light = light-cancel id full; quiet = refl; apart = refl; begins = λ place began. refl })
+      may
+      (Agrees-cancel content history.entries who id full held caches.kept new holds.units is cancelled)
       (omega (arith, count, room))
 
   -- a unit is evicted
@@ -171,6 +173,26 @@ module _ {U : Type 0} (content : U → Content) (limits : Limits) (history : Sto
       there
       (Agrees-drop content history.entries who (Evict table extent) caches.kept new refl holds.units (rw place_is at dropped))
       (omega (arith, count))
+
+  -- credits are given
+  pub Holds-trickle : (after : Stored) (who count : ℕ) → Holds content limits history caches → who < NUMBERS
+      → Grew history after (record { who = who; what = Trickle count }) (owed caches.standing caches.kept + 1) → Holds content limits after caches
+  Holds-trickle after who count holds known grew =
+      store_step after (record { who = who; what = Trickle count }) (owed caches.standing caches.kept + 1) caches.kept holds known grew
+      (record { light = light-trickle count; quiet = refl; apart = refl; begins = λ place began. refl })
+      tt (units-apart content history.entries who (Trickle count) caches.kept refl holds.units) (omega arith)
+
+  -- a session leaves
+  pub Holds-leave : (after : Stored) (who : ℕ) → Holds content limits history caches → who < NUMBERS → MayLeave history.entries who
+      → Grew history after (record { who = who; what = Leave }) (owed caches.standing caches.kept + 1) → Holds content limits after caches
+  Holds-leave after who holds known may grew =
+      store_step after (record { who = who; what = Leave }) (owed caches.standing caches.kept + 1) caches.kept holds known grew
+      (record { light = light-leave; quiet = refl; apart = refl; begins = λ place began. refl })
+      may (units-apart content history.entries who Leave caches.kept refl holds.units) (omega arith)
+
+  -- what the units take is the history's
+  pub used-is : Holds content limits history caches → used_in content caches.kept.slots ≡ used history.entries
+  used-is holds = used-by content history.entries caches.kept holds.units (extents-of-units limits history.entries holds.legal)
 
   -- a table joins the column store or leaves it
   pub Holds-memory : (after : Stored) (who table : ℕ) (priority : Option Priority) (new_catalog : List TableInfo) (new : Kept U)

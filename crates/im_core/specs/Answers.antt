@@ -1,5 +1,5 @@
 -- What calls of the store answer, read from its history.
-use Rattle.std.specs.Prelude.{◌≡◌, ℕ, ◌⊎◌, ◌+◌, ◌-◌, ◌*◌, Bool, true, false, min, List, [], length, map, Option, Some, None, is_none}
+use Rattle.std.specs.Prelude.{◌≡◌, ℕ, ◌⊎◌, ◌+◌, ◌-◌, ◌*◌, ◌<◌, ◌≤◌, true, false, min, List, [], length, map, Option, Some, None}
 use Rattle.std.specs.Option.{option_map}
 use Rattle.std.specs.List.{range_with_len}
 use Rattle.std.specs.declared.sync.Arc.{Arc}
@@ -8,18 +8,23 @@ use Rattle.im_core.specs.declared.answers.Offer.{Offer}
 use Rattle.im_core.specs.declared.answers.Offer.TheVariants.{Task, Idle}
 use Rattle.im_core.specs.declared.answers.Switched.{Switched}
 use Rattle.im_core.specs.declared.answers.Switched.TheVariants.{Done, AreaFull, Cancelled}
-use Rattle.im_history.specs.declared.entry.What.TheVariants.{Build, Switch, Cancel}
+use Rattle.im_history.specs.declared.entry.What.TheVariants.{Switch, Cancel}
 use Rattle.im_history.specs.declared.refused.Refused.{Refused}
 use Rattle.im_history.specs.declared.refused.Why.{Why}
-use Rattle.im_history.specs.declared.refused.Why.TheVariants.{NoMemory, NoUnit}
+use Rattle.im_history.specs.declared.refused.Why.TheVariants.{NoMemory}
+use Rattle.im_history.specs.declared.task.Choice.{Choice}
 use Rattle.im_history.specs.declared.task.Held.{Held}
 use Rattle.im_history.specs.declared.task.Task.{Task as TaskInfo}
 use Rattle.im_history.specs.declared.view.View.{View}
+pub use Rattle.im_history.specs.Area.{task_bytes, used}
 use Rattle.im_history.specs.Cursors.{Opened, cursor_at}
 use Rattle.im_history.specs.History.{History}
-use Rattle.im_history.specs.Refusals.{when}
+use Rattle.im_history.specs.Leaves.{leaves}
+use Rattle.im_history.specs.Queue.{build_of, next, task_of}
+pub use Rattle.im_history.specs.Refusals.{evict_refusal}
 use Rattle.im_history.specs.Rows.{Row, rows}
-use Rattle.im_history.specs.Units.{Content, builds, held_at, may_populate, task_at, unit, unit_content}
+pub use Rattle.im_history.specs.Units.{killed_of}
+use Rattle.im_history.specs.Units.{Content, held_at, unit_content}
 use Rattle.im_core.specs.Seen.{Seen, Adds}
 
 -- a call was refused at this history: for the cause that applies, or for being out of memory
@@ -53,11 +58,6 @@ abbrev pub given_of : Option Held → ℕ
 given_of None = 0
 given_of (Some held) = held.given
 
--- the place of the entry that killed a held build
-abbrev pub killed_of : Option Held → Option ℕ
-killed_of None = None
-killed_of (Some held) = held.killed
-
 -- how many row numbers of a build's extent were given when it began
 abbrev pub task_rows : History → TaskInfo → ℕ
 task_rows history task = min task.per (given_of (held_at history task.id) - task.extent * task.per)
@@ -67,32 +67,33 @@ abbrev pub task_fetched : History → TaskInfo → List (ℕ × Option Row)
 task_fetched history task =
     map (λ rid. (rid, rows history task.table task.scn rid)) (range_with_len (task.extent * task.per) (task_rows history task))
 
--- a build began, or could not
-abbrev pub IsOffer : Seen → ℕ → ℕ → ℕ → Bool → Offer → Seen → Type 0
-IsOffer old who table extent trickle (Task task) new =
-    (may_populate old.log table extent ≡ true)
-    × (task ≡ task_at old.log (builds old.log + 1) table extent trickle)
-    × Adds old who (Build (builds old.log + 1) table extent trickle) new
-IsOffer old who table extent trickle (Idle place left) new =
-    (may_populate old.log table extent ≡ false) × (place ≡ length old.log) × (left ≡ 0) × (new ≡ old)
-
--- a session may not evict what is not there
-abbrev pub evict_refusal : History → ℕ → ℕ → Option Why
-evict_refusal history table extent = when (is_none (unit history table extent)) NoUnit
+-- the build that comes next began, or there was none
+abbrev pub IsOffer : Seen → ℕ → Offer → Seen → Type 0
+IsOffer old who (Task task) new =
+    (choice : Choice) × (next old.log ≡ Some choice) × (task ≡ task_of old.log choice) × Adds old who (build_of old.log choice) new
+IsOffer old who (Idle place left) new = (next old.log ≡ None) × (place ≡ length old.log) × (left ≡ leaves old.log) × (new ≡ old)
 
 module _ {U : Type 0} (content : U → Content) where
   -- what a unit that is lent or handed back holds
   abbrev pub content_in : Option (Arc U Global) → Option Content
   content_in unit = option_map (λ (unit : Arc U Global). content unit.value) unit
 
-  -- a finished build became current, and the unit that was current is handed back; or the build was found dead
+  -- a finished build became current, and the unit that was current is handed back; or its unit did not fit into the area; or the
+  -- build was found dead
   abbrev pub IsSwitch : Seen → ℕ → TaskInfo → Switched U → Seen → Type 0
-  IsSwitch old who task (Done place used before) new =
+  IsSwitch old who task (Done place sum before) new =
       (killed_of (held_at old.log task.id) ≡ None)
+      × (used old.log + task_bytes old.log task ≤ old.limits.area)
       × (place ≡ length old.log)
-      × (used ≡ 0)
+      × (sum ≡ used new.log)
       × (content_in before ≡ unit_content old.log task.table task.extent)
       × Adds old who (Switch task.id) new
-  IsSwitch old who task (AreaFull place need free) new = ⊥
+  IsSwitch old who task (AreaFull place need free) new =
+      (killed_of (held_at old.log task.id) ≡ None)
+      × (old.limits.area < used old.log + task_bytes old.log task)
+      × (place ≡ length old.log)
+      × (need ≡ task_bytes old.log task)
+      × (free ≡ old.limits.area - used old.log)
+      × Adds old who (Cancel task.id true) new
   IsSwitch old who task (Cancelled place at) new =
       (killed_of (held_at old.log task.id) ≡ Some at) × (place ≡ length old.log) × Adds old who (Cancel task.id false) new

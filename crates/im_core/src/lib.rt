@@ -13,6 +13,7 @@
 #![tactic(auto)]
 
 mod answers;
+mod chronicle;
 mod cursors;
 mod fetched;
 mod refusals;

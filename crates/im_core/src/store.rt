@@ -4,6 +4,7 @@ ghost use Rattle.im_history.specs.Views.{look_at};
 ghost use Rattle.im_core.specs.Answers.{IsRefusal};
 ghost use Rattle.im_core.specs.inner.Holds.{owed as owed_by};
 
+use crate::chronicle::Chronicle;
 use im_blocks::Blocks;
 use im_directory::Directory;
 use im_history::{Catalog, History, Limits, Look, Refused, UnitLike, Who, Why};
@@ -20,7 +21,7 @@ use std::marker::Model;
 pub struct Core<U: UnitLike> {
     pub(crate) alloc: Global,
     pub(crate) limits: Limits,
-    pub(crate) history: History,
+    pub(crate) history: Chronicle,
     pub(crate) catalog: Catalog,
     /// How many row numbers of each table were given.
     pub(crate) given: Vec<u64>,
@@ -78,7 +79,7 @@ impl<U: UnitLike> Core<U> {
         Ok(Core {
             alloc,
             limits,
-            history: History::new(alloc),
+            history: Chronicle::new(alloc),
             catalog: Catalog::new(alloc)?,
             given: Vec::new(alloc),
             weight: 0,
@@ -109,7 +110,7 @@ impl<U: UnitLike> Core<U> {
         ensures { result.entries ≡ self.log }
     {
         let Core { history, .. } = self;
-        history
+        history.into_history()
     }
 
     /// What a session finds: the place, the SCN, its transaction, and the tables. It adds no entry.
@@ -149,7 +150,7 @@ impl<U: UnitLike> Core<U> {
 
 /// How many entries will be needed without fail: a Rollback for each open transaction, a Shut for each open cursor, and a
 /// Switch or a Cancel for each held build.
-pub(crate) fn owed<U: Drop>(sessions: &Sessions, directory: &Directory<U>) -> u64
+pub(crate) fn owed<U: UnitLike>(sessions: &Sessions, directory: &Directory<U>) -> u64
     ensures owed { result ≡ owed_by sessions.now directory.now }
     ensures few { result + 2 < 2 ^ 64 }
 {

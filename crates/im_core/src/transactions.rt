@@ -1,6 +1,7 @@
 ghost use Rattle.std.specs.Prelude.{◌≡◌, ◌+◌, ◌<◌, length, true, None, IfOk, IfErr, OnOk, OnErr};
 ghost use Rattle.im_history.specs.declared.entry.What.TheVariants as what;
 ghost use Rattle.im_history.specs.Commits.{scn};
+ghost use Rattle.im_history.specs.Legal.{MayLeave};
 ghost use Rattle.im_history.specs.Refusals.{begin_refusal};
 ghost use Rattle.im_history.specs.Transactions.{is_open};
 ghost use Rattle.im_core.specs.Answers.{IsRefusal};
@@ -108,5 +109,37 @@ impl<U: UnitLike> Core<U> {
             what: What::Rollback,
         });
         place
+    }
+
+    /// Ends a session or worker, and answers the place of the entry.
+    pub fn leave(&mut self, who: u32) -> Result<u64, Refused>
+        requires session { who < NUMBERS }
+        requires may { MayLeave self.old.log who }
+        ensures ok { OnOk result (Adds self.old who what.Leave self.new) }
+        ensures place { IfOk result (λ place. place ≡ length self.old.log) }
+        ensures err { OnErr result (self.new ≡ self.old) }
+        ensures refused { IfErr result (λ why. IsRefusal self.old.log None why) }
+    {
+        let caller = Who::of(who);
+        match self.record_leave(caller) {
+            Ok(place) => Ok(place),
+            Err(NoMemory) => Err(self.refused(Why::NoMemory)),
+        }
+    }
+
+    fn record_leave(&mut self, who: Who) -> Result<u64, NoMemory>
+        requires may { MayLeave self.old.log who }
+        ensures ok { OnOk result (Adds self.old who what.Leave self.new) }
+        ensures place { IfOk result (λ place. place ≡ length self.old.log) }
+        ensures err { OnErr result (self.new ≡ self.old) }
+    {
+        self.history
+            .reserve(owed(&self.sessions, &self.directory) + 1)?;
+        let place = self.history.len();
+        self.history.append(Entry {
+            who: who.number(),
+            what: What::Leave,
+        });
+        Ok(place)
     }
 }

@@ -1,14 +1,19 @@
-ghost use Rattle.std.specs.Prelude.{◌≡◌, ◌+◌, ◌≤◌, ◌<◌, length, true, false, Some, None, IfOk, IfErr, OnOk, OnErr};
+ghost use Rattle.std.specs.Bool.{OnTrue};
+ghost use Rattle.std.specs.Prelude.{◌≡◌, ◌+◌, ◌^◌, ◌≤◌, ◌<◌, length, nat_le, false, Some, None, IfOk, IfErr, OnOk, OnErr};
 ghost use Rattle.im_history.specs.declared.entry.What.TheVariants as what;
-ghost use Rattle.im_history.specs.Legal.{Exists, MaySetMemory};
-ghost use Rattle.im_history.specs.Units.{IsOwn, builds, held_at, may_populate, task_at, task_content, unit_content};
+ghost use Rattle.im_history.specs.Area.{task_bytes, used};
+ghost use Rattle.im_history.specs.Leaves.{leaves};
+ghost use Rattle.im_history.specs.Legal.{Exists, MayCancel, MaySetMemory};
+ghost use Rattle.im_history.specs.Queue.{build_of, credits, next, task_of};
+ghost use Rattle.im_history.specs.Units.{IsOwn, held_at, task_content, unit_content};
 ghost use Rattle.im_core.specs.Answers.{IsOffer, IsRefusal, IsHeld, IsSwitch, content_in, evict_refusal, killed_of, task_fetched, task_rows};
 ghost use Rattle.im_core.specs.Seen.{Adds};
 
 use crate::answers::{Evicted, Offer, Pin, Switched};
 use crate::fetched::Fetched;
 use crate::store::{Core, owed};
-use im_history::{Entry, Held, Priority, Refused, Task, UnitLike, What, Who, Why};
+use im_history::{Choice, Entry, Held, Priority, Refused, Task, UnitLike, What, Who, Why};
+use im_queue::next_task;
 use im_values::limits::NUMBERS;
 use im_values::{NoMemory, Steps};
 use std::sync::Arc;
@@ -80,76 +85,76 @@ impl<U: UnitLike> Core<U> {
         Ok(place)
     }
 
-    /// Begins a build of an extent: of a table in the column store, which has a row number and no living build. Where it
-    /// is none of these there is nothing to build.
-    pub fn build_of(
-        &mut self,
-        who: u32,
-        table: u32,
-        extent: u64,
-        trickle: bool,
-    ) -> Result<Offer, Refused>
+    /// Begins the build that comes next, where there is one, and makes room for its end.
+    pub fn build(&mut self, who: u32) -> Result<Offer, Refused>
         requires session { who < NUMBERS }
-        requires exists { Exists self.old.log table }
-        ensures ok { IfOk result (λ offer. IsOffer self.old who table extent trickle offer self.new) }
+        ensures ok { IfOk result (λ offer. IsOffer self.old who offer self.new) }
         ensures err { OnErr result (self.new ≡ self.old) }
         ensures refused { IfErr result (λ why. IsRefusal self.old.log None why) }
     {
         let caller = Who::of(who);
-        if !self.may_populate(table, extent) {
+        let Some(choice) = self.choose() else {
             return Ok(Offer::Idle {
                 place: self.len(),
-                left: 0,
+                left: self.left(),
             });
-        }
-        match self.record_build(caller, table, extent, trickle) {
-            Ok(offer) => Ok(offer),
+        };
+        match self.record_build(caller, choice) {
+            Ok(task) => Ok(Offer::Task(task)),
             Err(NoMemory) => Err(self.refused(Why::NoMemory)),
         }
     }
 
-    fn may_populate(&self, table: u32, extent: u64) -> bool
-        requires exists { Exists self.now.log table }
-        ensures { result ≡ may_populate self.now.log table extent }
+    /// The build that comes next.
+    fn choose(&self) -> Option<Choice>
+        ensures { result ≡ next self.now.log }
     {
-        let made = &self.catalog.tables()[table as usize - 1];
-        let per = made.shape.per_extent();
-        let extents = (self.given_of(table) + per - 1) / per;
-        made.memory.is_some() && extent < extents && self.directory.living(table, extent).is_none()
+        next_task(
+            &self.catalog,
+            self.given.as_slice(),
+            &self.directory,
+            self.history.demand(),
+        )
     }
 
-    /// The build of an extent that would begin now.
-    fn next_task(&self, table: u32, extent: u64, trickle: bool) -> Task
-        requires exists { Exists self.now.log table }
-        ensures { result ≡ task_at self.now.log (builds self.now.log + 1) table extent trickle }
+    /// How many sessions left.
+    fn left(&self) -> u32
+        ensures { result ≡ leaves self.now.log }
     {
-        let made = &self.catalog.tables()[table as usize - 1];
+        self.history.demand().left() as u32
+    }
+
+    /// The build of a choice, which would begin now.
+    fn task_of(&self, choice: Choice) -> Task
+        requires exists { Exists self.now.log choice.table }
+        ensures { result ≡ task_of self.now.log choice }
+    {
+        let made = &self.catalog.tables()[choice.table as usize - 1];
         Task {
             id: self.directory.begun() + 1,
-            table,
-            extent,
+            table: choice.table,
+            extent: choice.extent,
             scn: self.history.scn(),
             per: made.shape.per_extent(),
             columns: made.schema.columns().len() as u32,
-            trickle,
+            trickle: choice.trickle,
         }
     }
 
-    fn record_build(
-        &mut self,
-        who: Who,
-        table: u32,
-        extent: u64,
-        trickle: bool,
-    ) -> Result<Offer, NoMemory>
-        requires exists { Exists self.old.log table }
-        requires may { may_populate self.old.log table extent ≡ true }
-        ensures ok { IfOk result (λ offer. IsOffer self.old who table extent trickle offer self.new) }
+    fn record_build(&mut self, who: Who, choice: Choice) -> Result<Task, NoMemory>
+        requires comes { next self.old.log ≡ Some choice }
+        ensures ok { OnOk result (Adds self.old who (build_of self.old.log choice) self.new) }
+        ensures task { IfOk result (λ task. task ≡ task_of self.old.log choice) }
         ensures err { OnErr result (self.new ≡ self.old) }
     {
+        let Choice {
+            table,
+            extent,
+            trickle,
+        } = choice;
         let given = self.given_of(table);
-        let task = self.next_task(table, extent, trickle);
-        let held = self.next_task(table, extent, trickle);
+        let task = self.task_of(choice);
+        let held = self.task_of(choice);
         self.history
             .reserve(owed(&self.sessions, &self.directory) + 2)?;
         self.directory.begin(Held {
@@ -167,7 +172,49 @@ impl<U: UnitLike> Core<U> {
                 trickle,
             },
         });
-        Ok(Offer::Task(task))
+        Ok(task)
+    }
+
+    /// How many bytes all current units count for.
+    fn used(&self) -> u64
+        ensures { result ≡ used self.now.log }
+    {
+        self.directory.used()
+    }
+
+    /// Gives credits for trickle repopulations, and answers those that are left then.
+    pub fn trickle(&mut self, who: u32, n: u32) -> Result<u128, Refused>
+        requires session { who < NUMBERS }
+        ensures ok { OnOk result (Adds self.old who (what.Trickle n) self.new) }
+        ensures left { IfOk result (λ left. left ≡ credits self.new.log) }
+        ensures err { OnErr result (self.new ≡ self.old) }
+        ensures refused { IfErr result (λ why. IsRefusal self.old.log None why) }
+    {
+        let caller = Who::of(who);
+        match self.record_trickle(caller, n) {
+            Ok(()) => Ok(self.credits()),
+            Err(NoMemory) => Err(self.refused(Why::NoMemory)),
+        }
+    }
+
+    fn record_trickle(&mut self, who: Who, n: u32) -> Result<(), NoMemory>
+        ensures ok { OnOk result (Adds self.old who (what.Trickle n) self.new) }
+        ensures err { OnErr result (self.new ≡ self.old) }
+    {
+        self.history
+            .reserve(owed(&self.sessions, &self.directory) + 1)?;
+        self.history.append(Entry {
+            who: who.number(),
+            what: What::Trickle { n },
+        });
+        Ok(())
+    }
+
+    /// The credits that are left.
+    fn credits(&self) -> u128
+        ensures { result ≡ credits self.now.log }
+    {
+        self.history.demand().credits()
     }
 
     /// Evicts an extent's current unit, which it hands back, and kills its living build. It is refused where there is no
@@ -176,7 +223,7 @@ impl<U: UnitLike> Core<U> {
         requires session { who < NUMBERS }
         requires exists { Exists self.old.log table }
         ensures ok { OnOk result (Adds self.old who (what.Evict table extent) self.new) }
-        ensures answer { IfOk result (λ evicted. (evicted.place ≡ length self.old.log) × (evicted.used ≡ 0)) }
+        ensures answer { IfOk result (λ evicted. (evicted.place ≡ length self.old.log) × (evicted.used ≡ used self.new.log)) }
         ensures was { IfOk result (λ evicted. unit_content self.old.log table extent ≡ Some (U.content evicted.old.value)) }
         ensures err { OnErr result (self.new ≡ self.old) }
         ensures refused { IfErr result (λ why. IsRefusal self.old.log (evict_refusal self.old.log table extent) why) }
@@ -194,7 +241,7 @@ impl<U: UnitLike> Core<U> {
     fn record_evict(&mut self, who: Who, table: u32, extent: u64) -> Result<Evicted<U>, NoMemory>
         requires allowed { evict_refusal self.old.log table extent ≡ None }
         ensures ok { OnOk result (Adds self.old who (what.Evict table extent) self.new) }
-        ensures answer { IfOk result (λ evicted. (evicted.place ≡ length self.old.log) × (evicted.used ≡ 0)) }
+        ensures answer { IfOk result (λ evicted. (evicted.place ≡ length self.old.log) × (evicted.used ≡ used self.new.log)) }
         ensures was { IfOk result (λ evicted. unit_content self.old.log table extent ≡ Some (U.content evicted.old.value)) }
         ensures err { OnErr result (self.new ≡ self.old) }
     {
@@ -208,7 +255,7 @@ impl<U: UnitLike> Core<U> {
         });
         Ok(Evicted {
             place,
-            used: 0,
+            used: self.used(),
             old,
         })
     }
@@ -256,7 +303,8 @@ impl<U: UnitLike> Core<U> {
     }
 
     /// Makes the unit of a finished build current, with the journal of what was touched since the build began, and hands
-    /// back the unit that was. A build that was killed is cancelled. It takes no memory.
+    /// back the unit that was. A build that was killed is cancelled, and so is one whose unit does not fit into the area
+    /// beside all that is there, the one that it would replace among them: its extent then waits. It takes no memory.
     pub fn switch(&mut self, who: u32, task: Task, unit: Arc<U>) -> Switched<U>
         requires session { who < NUMBERS }
         requires own { IsOwn self.old.log who task }
@@ -265,15 +313,7 @@ impl<U: UnitLike> Core<U> {
     {
         let caller = Who::of(who);
         match self.directory.build(task.id).unwrap().killed {
-            None => {
-                let place = self.len();
-                let old = self.record_switch(caller, task, unit);
-                Switched::Done {
-                    place,
-                    used: 0,
-                    old,
-                }
-            }
+            None => self.switch_living(caller, task, unit),
             Some(at) => {
                 let place = self.cancel(who, task);
                 Switched::Cancelled { place, at }
@@ -281,11 +321,33 @@ impl<U: UnitLike> Core<U> {
         }
     }
 
+    /// Makes the unit of a living build current, if it fits into the area.
+    fn switch_living(&mut self, who: Who, task: Task, unit: Arc<U>) -> Switched<U>
+        requires own { IsOwn self.old.log who task }
+        requires lives { killed_of (held_at self.old.log task.id) ≡ None }
+        requires holds { U.content unit.value ≡ task_content self.old.log task }
+        ensures { IsSwitch U.content self.old who task result self.new }
+    {
+        let place = self.len();
+        let need = unit.bytes();
+        let used = self.used();
+        if fits(self.limits.area, used, need) {
+            let old = self.record_switch(who, task, unit);
+            let used = self.used();
+            return Switched::Done { place, used, old };
+        }
+        let free = self.limits.area.saturating_sub(used);
+        self.record_cancel(who, task, true);
+        Switched::AreaFull { place, need, free }
+    }
+
     /// Records that a unit became current, and hands back the one that was.
     fn record_switch(&mut self, who: Who, task: Task, unit: Arc<U>) -> Option<Arc<U>>
         requires own { IsOwn self.old.log who task }
         requires lives { killed_of (held_at self.old.log task.id) ≡ None }
         requires holds { U.content unit.value ≡ task_content self.old.log task }
+        requires fits { used self.old.log + task_bytes self.old.log task ≤ self.old.limits.area }
+        requires room { used self.old.log + task_bytes self.old.log task < 2 ^ 64 }
         ensures adds { Adds self.old who (what.Switch task.id) self.new }
         ensures was { content_in U.content result ≡ unit_content self.old.log task.table task.extent }
     {
@@ -304,15 +366,30 @@ impl<U: UnitLike> Core<U> {
         ensures added { Adds self.old who (what.Cancel task.id false) self.new }
         ensures place { result ≡ length self.old.log }
     {
-        let place = self.history.len();
-        self.directory.cancel(task.id);
-        self.history.append(Entry {
-            who,
-            what: What::Cancel {
-                id: task.id,
-                full: false,
-            },
-        });
+        let caller = Who::of(who);
+        let place = self.len();
+        self.record_cancel(caller, task, false);
         place
     }
+
+    /// Records that a build was cancelled, because its unit does not fit into the area or for another cause.
+    fn record_cancel(&mut self, who: Who, task: Task, full: bool)
+        requires own { IsOwn self.old.log who task }
+        requires cause { MayCancel self.old.limits self.old.log who task.id full }
+        ensures { Adds self.old who (what.Cancel task.id full) self.new }
+    {
+        self.directory.cancel(task.id, full);
+        self.history.append(Entry {
+            who: who.number(),
+            what: What::Cancel { id: task.id, full },
+        });
+    }
+}
+
+/// Whether so many bytes more fit into the area, of which so many are used.
+fn fits(area: u64, used: u64, need: u64) -> bool
+    ensures fits { result ≡ nat_le (used + need) area }
+    ensures few { OnTrue result (used + need < 2 ^ 64) }
+{
+    need <= area && used <= area - need
 }

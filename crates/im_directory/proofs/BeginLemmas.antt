@@ -18,6 +18,7 @@ use Rattle.im_directory.specs.Slots.{Growth, Kept, Told, build_in, told_at}
 use Rattle.im_directory.proofs.AgreesLemmas.{IsGrowth-quiet, IsStock-quiet, or_first, or_none_after, or_second}
 use Rattle.im_directory.proofs.JournalLemmas.{IsJournal-begun}
 use Rattle.im_directory.proofs.SoundLemmas.{IsBeginning, IsBeginning-begun, IsSound-begun, ap_if, build_past, on_parts, same_either, some_same}
+use Rattle.im_directory.proofs.WaitLemmas.{waits-push}
 
 module _ {U : Type 0} (content : U → Content) where
   -- a build of the next number begins after this history
@@ -64,6 +65,12 @@ module _ {U : Type 0} (content : U → Content) where
         ∙ (ap_if (λ (told : Told U). told.current) (is_on t e (next_build h who table extent trickle)) _ (told_at old t e)
         ∙ sym (same_either (is_on t e (next_build h who table extent trickle)) (told_at old t e).current))
 
+    waits_same : (t e : ℕ) → (told_at new t e).waits ≡ (told_at old t e).waits
+    waits_same t e =
+        ap (λ (told : Told U). told.waits) (begins.begun.slots t e)
+        ∙ (ap_if (λ (told : Told U). told.waits) (is_on t e (next_build h who table extent trickle)) _ (told_at old t e)
+        ∙ sym (same_either (is_on t e (next_build h who table extent trickle)) (told_at old t e).waits))
+
     growth_by : (b : Bool) (t e : ℕ) (growth : Growth) → is_on t e (next_build h who table extent trickle) ≡ b →
         (if b then Some (record { id = builds h + 1; notes = [] }) else (told_at old t e).growing) ≡ Some growth →
         IsGrowth content (after_begin h who table extent trickle) t e growth
@@ -102,6 +109,7 @@ module _ {U : Type 0} (content : U → Content) where
               started.living t e
               ∙ (ap (λ (n : Option ℕ). if is_on t e (next_build h who table extent trickle) then Some (builds h + 1) else n) (begins.agrees.living t e)
               ∙ sym (living-push h entry t e));
+          waits = λ t e. waits_same t e ∙ (begins.agrees.waits t e ∙ sym (waits-push h entry t e));
           stock = λ t e stock is. IsStock-quiet content h entry t e stock refl (begins.agrees.stock t e stock (sym (current_same t e) ∙ is));
           growth = λ t e growth is.
               growth_by (is_on t e (next_build h who table extent trickle)) t e growth refl

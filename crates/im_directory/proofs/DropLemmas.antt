@@ -8,13 +8,15 @@ use Rattle.im_history.specs.declared.entry.What.TheVariants.{Evict, Memory}
 use Rattle.im_history.specs.declared.task.Held.{Held}
 use Rattle.im_history.specs.declared.task.Task.{Task}
 use Rattle.im_history.specs.Transactions.{or_here}
-use Rattle.im_history.specs.Units.{killed_by}
+use Rattle.im_history.specs.Units.{drops, killed_by}
 use Rattle.im_tables.proofs.ForCallers.{cell_at-past}
-use Rattle.im_directory.specs.Effects.{IsDropped}
-use Rattle.im_directory.specs.Slots.{Growth, Kept, Told, build_in, nothing, told, told_at}
+use Rattle.im_directory.specs.Effects.{IsDropped, rested_in}
+use Rattle.im_directory.specs.Slots.{Growth, Kept, Slot, Told, build_in, nothing, told, told_at}
 use Rattle.im_directory.specs.Sound.{IsSound}
-use Rattle.im_directory.specs.Steps.{killed_at}
-use Rattle.im_directory.proofs.EffectLemmas.{killed_again}
+use Rattle.im_directory.specs.Steps.{AreRested, killed_at}
+use Rattle.im_directory.specs.inner.Placed.{IsOut}
+use Rattle.im_directory.proofs.EffectLemmas.{kept_of, killed_again}
+use Rattle.im_directory.proofs.SoundLemmas.{ap_if}
 
 -- a held build, killed where it is of one of the table's extents before this one
 abbrev killed_upto : ℕ → ℕ → ℕ → Held → Held
@@ -92,7 +94,7 @@ killed_more place table k (b ∷ builds) =
 
 module _ {U : Type 0} where
   abbrev gone : Told U
-  gone = record { current = None; growing = None }
+  gone = record { current = None; growing = None; waits = false }
 
   -- the table's extents before this one are out
   pub record Dropping (old now : Kept U) (place table upto : ℕ) : Type 0 where
@@ -105,7 +107,7 @@ module _ {U : Type 0} where
     builds = killed_nothing place table old.builds;
   }
 
-  pub Dropping-next : (old now next : Kept U) (place table k : ℕ) → Dropping old now place table k → IsDropped now next place (Evict table k) →
+  pub Dropping-next : (old now next : Kept U) (place table k : ℕ) → Dropping old now place table k → IsOut now next place table k →
       Dropping old next place table (k + 1)
   Dropping-next old now next place table k dropping dropped = record {
     slots = λ t e.
@@ -148,15 +150,32 @@ module _ {U : Type 0} where
   killed_at_all old place table n id (Some held) long sound is =
       ap Some (killed_all (table == held.task.table) (nat_lt held.task.extent n) old place table n id held long sound is refl refl)
 
-  pub Dropping-all : (old now : Kept U) (place table n : ℕ) → n ≡ length (slice_index_or old.slots table []) → IsSound old →
-      Dropping old now place table n → IsDropped old now place (Memory table None)
-  Dropping-all old now place table n long sound dropping =
+  -- an extent that is out does not wait
+  rested_by : (b : Bool) (x : Told U) → rested_in (if b then gone else x) ≡ (if b then gone else rested_in x)
+  rested_by b x = ap_if rested_in b gone x
+
+  -- one extent is out, and then none waits any more
+  pub IsDropped-out : (old now : Kept U) (slots : List (List (Slot U))) (place table extent : ℕ) → IsOut old now place table extent →
+      AreRested now.slots slots → IsDropped old (kept_of slots now.builds) place (Evict table extent)
+  IsDropped-out old now slots place table extent out rested = record {
+    slots = λ t e.
+        ap told (rested.each t e) ∙ (ap rested_in (out.slots t e) ∙ rested_by (drops t e (Evict table extent)) (told_at old t e));
+    builds = out.builds;
+  }
+
+  -- all extents of a table are out, and then none waits any more
+  pub Dropping-all : (old now : Kept U) (slots : List (List (Slot U))) (place table n : ℕ) → n ≡ length (slice_index_or old.slots table []) → IsSound old →
+      Dropping old now place table n → AreRested now.slots slots → IsDropped old (kept_of slots now.builds) place (Memory table None)
+  Dropping-all old now slots place table n long sound dropping rested =
       let upto = option_map (killed_upto place table n) in
       let whole = option_map (killed_by place (Memory table None)) in
       let first : length (map upto old.builds) ≡ length old.builds = length-map old.builds upto in
       let second : length (map whole old.builds) ≡ length old.builds = length-map old.builds whole in
       record {
-        slots = λ t e. dropping.slots t e ∙ told_all (table == t) (nat_lt e n) old table t e n long refl refl;
+        slots = λ t e.
+            ap told (rested.each t e)
+            ∙ (ap rested_in (dropping.slots t e ∙ told_all (table == t) (nat_lt e n) old table t e n long refl refl)
+            ∙ rested_by (table == t) (told_at old t e));
         builds = dropping.builds
             ∙ ext_get_or None (map upto old.builds) (map whole old.builds) (omega (arith, first, second))
             (λ k inside.

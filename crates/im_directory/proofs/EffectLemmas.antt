@@ -1,5 +1,5 @@
 -- What each call leaves, from what it does to the slots and the builds.
-use Rattle.std.proofs.Common.{◌≡◌, ℕ, zero, suc, ◌-◌, ◌≤◌, ◌<◌, inl, inr, Bool, true, false, ◌==◌, ◌&&◌, List, [], ◌∷◌, ◌++◌, length, map, set, Option, Some, None, is_some, IsSome, if◌then◌else◌, refl, sym, ap, ap₂, subst, ◌∙◌, ⊎_elim, arith, length-set}
+use Rattle.std.proofs.Common.{◌≡◌, ℕ, zero, suc, ◌-◌, ◌≤◌, ◌<◌, inl, inr, ◌⊎◌, Bool, true, false, ◌==◌, ◌&&◌, ◌||◌, List, [], ◌∷◌, ◌++◌, length, map, set, Option, Some, None, is_some, IsSome, if◌then◌else◌, refl, sym, ap, ap₂, subst, ◌∙◌, ⊎_elim, arith, length-set}
 use Rattle.std.specs.Prelude.{slice_index_or}
 use Rattle.std.specs.Option.{option_map, ForSome}
 use Rattle.std.specs.declared.alloc.Global.{Global}
@@ -13,13 +13,13 @@ use Rattle.im_history.specs.declared.task.Held.{Held}
 use Rattle.im_history.specs.Transactions.{or_here}
 use Rattle.im_history.specs.Units.{drops, is_on, killed_by}
 use Rattle.im_tables.specs.Table.{HasCell, IsGrown}
-use Rattle.im_directory.specs.declared.slot.Current.{Current}
-use Rattle.im_directory.specs.declared.slot.Growing.{Growing}
-use Rattle.im_directory.specs.declared.slot.Slot.{Slot}
-use Rattle.im_directory.specs.Effects.{HasRoom, IsBefore, IsBegun, IsCancelled, IsDropped, IsNoted, IsSwitched, NoneBehind, SameTold, grown, unless_of}
-use Rattle.im_directory.specs.Slots.{Growth, Kept, Stock, Told, build_among, build_in, growth, living_in, nothing, slot_at, stock, told, told_at}
+use Rattle.im_directory.specs.declared.journals.Current.{Current}
+use Rattle.im_directory.specs.declared.journals.Growing.{Growing}
+use Rattle.im_directory.specs.Effects.{HasRoom, IsBefore, IsBegun, IsCancelled, IsNoted, IsSwitched, NoneBehind, SameTold, grown, unless_of}
+use Rattle.im_directory.specs.Slots.{Growth, Kept, Slot, Stock, Told, build_among, build_in, growth, living_in, nothing, slot_at, stock, told}
 use Rattle.im_directory.specs.Sound.{IsSound}
 use Rattle.im_directory.specs.Steps.{AreBefore, AreNoted, HasNotesRoom, TellsAlike, builds_killed, current_grown, growing_unless, killed_at, slot_begun, slot_cancelled, slot_dropped, slot_switched, slots_with}
+use Rattle.im_directory.specs.inner.Placed.{IsOut}
 use Rattle.im_directory.proofs.SlotLemmas.{slot_at-changed, get_or-changed}
 use Rattle.im_directory.proofs.SoundLemmas.{ap_if, on_parts, living_on, living_own, build_some}
 
@@ -97,8 +97,8 @@ module _ {U : Type 0} where
   abbrev pub kept_of : List (List (Slot U)) → List (Option Held) → Kept U
   kept_of slots builds = record { slots = slots; builds = builds }
 
-  abbrev told_of : Option (Stock U) → Option Growth → Told U
-  told_of current growing = record { current = current; growing = growing }
+  abbrev told_of : Option (Stock U) → Option Growth → Bool → Told U
+  told_of current growing waits = record { current = current; growing = growing; waits = waits }
 
   pub SameTold-kept : (old new : List (List (Slot U))) (builds : List (Option Held)) → IsGrown nothing old new →
       SameTold (kept_of old builds) (kept_of new builds)
@@ -134,11 +134,12 @@ module _ {U : Type 0} where
   }
 
   -- what is read of each extent once one of them changed
-  told_changed : (f : Slot U → Slot U) (slots : List (List (Slot U))) (held : Held) (table extent : ℕ) → f nothing ≡ nothing →
+  told_changed : (f : Slot U → Slot U) (slots : List (List (Slot U))) (held : Held) (table extent : ℕ) →
+      HasCell slots held.task.table held.task.extent ⊎ (f nothing ≡ nothing) →
       told (slot_at (slots_with f held.task.table held.task.extent slots) table extent) ≡
       (if is_on table extent held then told (f (slot_at slots table extent)) else told (slot_at slots table extent))
   told_changed f slots held table extent keeps =
-      ap told (slot_at-changed f slots held.task.table held.task.extent table extent (inr keeps))
+      ap told (slot_at-changed f slots held.task.table held.task.extent table extent keeps)
       ∙ ap_if told (is_on table extent held) (f (slot_at slots table extent)) (slot_at slots table extent)
 
   begun_made : (old mid : List (List (Slot U))) (builds : List (Option Held)) (held : Held) → IsGrown nothing old mid →
@@ -171,34 +172,28 @@ module _ {U : Type 0} where
   IsSwitched-made old after builds new id held unit number made ended = record {
     slots = λ table extent.
         ap (λ (s : List (List (Slot U))). told (slot_at s table extent)) made
-        ∙ (told_changed (slot_switched unit) old held table extent refl
-        ∙ ap (λ (c : Option (Stock U)). if is_on table extent held then told_of c None else told (slot_at old table extent))
+        ∙ (told_changed (slot_switched unit) old held table extent (inr refl)
+        ∙ ap (λ (c : Option (Stock U)). if is_on table extent held then told_of c None (slot_at old table extent).waits else told (slot_at old table extent))
         (grown_current unit (slot_at old table extent).growing));
     builds = ended ∙ ap (λ (k : ℕ). set builds (k - 1) None) (sym number);
   }
 
-  cancelled_by : (b : Bool) (kept : Kept U) (held : Held) (table extent : ℕ) → IsSound kept → build_in kept held.task.id ≡ Some held →
-      is_on table extent held ≡ b → (if b then told (slot_cancelled held.task.id (slot_at kept.slots table extent)) else told_at kept table extent) ≡ record
-      (told_at kept table extent) { growing = unless_of held.task.id (told_at kept table extent).growing }
-  cancelled_by true kept held table extent sound is on =
-      ap (told_of (told_at kept table extent).current) (growth_unless held.task.id (slot_at kept.slots table extent).growing)
-  cancelled_by false kept held table extent sound is off =
-      ap (told_of (told_at kept table extent).current)
-      (sym (unless_of-other held.task.id (told_at kept table extent).growing
-      (λ living. false≢true (sym off ∙ living_on kept table extent held.task.id held sound is living))))
-
-  pub IsCancelled-made : (old after : List (List (Slot U))) (builds new : List (Option Held)) (id : ℕ) (held : Held) → IsSound (kept_of old builds) →
-      build_among builds id ≡ Some held → after ≡ slots_with (slot_cancelled id) held.task.table held.task.extent old → new ≡ set builds (id - 1) None →
-      IsCancelled (kept_of old builds) (kept_of after new) held
-  IsCancelled-made old after builds new id held sound is made ended =
+  pub IsCancelled-made : (old after : List (List (Slot U))) (builds new : List (Option Held)) (id : ℕ) (full : Bool) (held : Held) →
+      IsSound (kept_of old builds) → HasCell old held.task.table held.task.extent → build_among builds id ≡ Some held →
+      after ≡ slots_with (slot_cancelled id full) held.task.table held.task.extent old → new ≡ set builds (id - 1) None →
+      IsCancelled (kept_of old builds) (kept_of after new) held full
+  IsCancelled-made old after builds new id full held sound place is made ended =
       let number : held.task.id ≡ id = sound.numbered id held is in
-      let own : build_among builds held.task.id ≡ Some held = ap (build_among builds) number ∙ is in
       record {
         slots = λ table extent.
             ap (λ (s : List (List (Slot U))). told (slot_at s table extent)) made
-            ∙ (ap (λ (k : ℕ). told (slot_at (slots_with (slot_cancelled k) held.task.table held.task.extent old) table extent)) (sym number)
-            ∙ (told_changed (slot_cancelled held.task.id) old held table extent refl
-            ∙ cancelled_by (is_on table extent held) (kept_of old builds) held table extent sound own refl));
+            ∙ (ap (λ (k : ℕ). told (slot_at (slots_with (slot_cancelled k full) held.task.table held.task.extent old) table extent)) (sym number)
+            ∙ (told_changed (slot_cancelled held.task.id full) old held table extent (inl place)
+            ∙ ap
+            (λ (g : Option Growth). if is_on table extent held
+            then told_of (told (slot_at old table extent)).current g ((slot_at old table extent).waits || full)
+            else told (slot_at old table extent))
+            (growth_unless held.task.id (slot_at old table extent).growing)));
         builds = ended ∙ ap (λ (k : ℕ). set builds (k - 1) None) (sym number);
       }
 
@@ -254,11 +249,11 @@ module _ {U : Type 0} where
       killed_read place living kept.builds k (f (build_in kept (suc k))) (λ id is. build_some_of kept table extent id sound (lives ∙ is)) both.0 both.1
       ∙ sym (get_or-map f kept.builds k None None within))
 
-  pub IsDropped-evicted : (slots after : List (List (Slot U))) (builds new : List (Option Held)) (place table extent : ℕ) (living : Option ℕ) →
+  pub IsOut-evicted : (slots after : List (List (Slot U))) (builds new : List (Option Held)) (place table extent : ℕ) (living : Option ℕ) →
       IsSound (kept_of slots builds) → living ≡ option_map (λ (g : Growing). g.id) (slot_at slots table extent).growing →
       after ≡ slots_with slot_dropped table extent slots → new ≡ builds_killed place living builds →
-      IsDropped (kept_of slots builds) (kept_of after new) place (Evict table extent)
-  IsDropped-evicted slots after builds new place table extent living sound is made killed = record {
+      IsOut (kept_of slots builds) (kept_of after new) place table extent
+  IsOut-evicted slots after builds new place table extent living sound is made killed = record {
     slots = λ t e.
         ap (λ (s : List (List (Slot U))). told (slot_at s t e)) made
         ∙ (ap told (slot_at-changed slot_dropped slots table extent t e (inr refl))

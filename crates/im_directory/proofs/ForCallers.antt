@@ -1,6 +1,5 @@
 -- What a directory answers of a history that it agrees with, and how it goes on to agree with it.
-use Rattle.std.proofs.Common.{◌≡◌, ℕ, ◌≤◌, true, ◌∷◌, ◌++◌, [], length, Option, Some, None, refl, sym, ap, ◌∙◌}
-use Rattle.im_history.specs.declared.entry.What.{What}
+use Rattle.std.proofs.Common.{◌≡◌, ℕ, ◌≤◌, Option, Some, None, refl, sym, ap, ◌∙◌}
 use Rattle.im_history.specs.declared.task.Held.{Held}
 use Rattle.im_history.specs.Commits.{scn}
 use Rattle.im_history.specs.History.{History}
@@ -8,38 +7,37 @@ use Rattle.im_history.specs.Units.{Content, held_at, living, stale, unit}
 use Rattle.im_history.specs.Views.{per_at}
 use Rattle.im_journal.specs.Stale.{stale_rows_at}
 use Rattle.im_directory.specs.Agreement.{IsLivingBuild}
-use Rattle.im_directory.specs.Agrees.{Agrees, scn_of, takes_out}
-use Rattle.im_directory.specs.Effects.{IsBefore, IsDropped}
+use Rattle.im_directory.specs.Agrees.{Agrees, scn_of}
+use Rattle.im_directory.specs.Effects.{IsBefore}
 use Rattle.im_directory.specs.Slots.{Kept, Stock, notes_of_unit, stale_told, told_at}
 use Rattle.im_directory.specs.Sound.{IsAlive}
-use Rattle.im_directory.proofs.AgreesLemmas.{plain-out, quiet-out}
 use Rattle.im_directory.proofs.JournalLemmas.{upto-later}
 use Rattle.im_directory.proofs.StaleLemmas.{NoneBehind-from, stale-noted}
-pub use Rattle.im_directory.proofs.AgreementLemmas.{Agrees-new, Agrees-told, Agrees-plain, Agrees-apart, Agrees-commit}
+pub use Rattle.im_directory.proofs.AgreementLemmas.{Agrees-new, Agrees-told, Agrees-drop, Agrees-apart, Agrees-commit}
+pub use Rattle.im_directory.proofs.AreaLemmas.{used-by}
 pub use Rattle.im_directory.proofs.BeginLemmas.{Agrees-begin}
 pub use Rattle.im_directory.proofs.EndLemmas.{Agrees-cancel, Agrees-switch}
+pub use Rattle.im_directory.proofs.ListLemmas.{due-by, empty-by, free-by, is_stale-by}
 
 module _ {U : Type 0} (content : U → Content) where
-  -- an entry that takes extents out of the column store
-  pub Agrees-drop : (h : History) (who : ℕ) (what : What) (old new : Kept U) → takes_out what ≡ true → Agrees content h old →
-      IsDropped old new (length h) what → Agrees content (h ++ record { who = who; what = what } ∷ []) new
-  Agrees-drop h who what old new out agrees dropped = Agrees-plain content h who what old new (plain-out what out) (quiet-out what out) agrees dropped
-
   -- the stale rows of a current unit are those of its journal
   pub stale-by : (h : History) (kept : Kept U) (table extent : ℕ) (stock : Stock U) (to : ℕ) → Agrees content h kept →
       (told_at kept table extent).current ≡ Some stock → 1 ≤ per_at h table → stale h table extent (content stock.unit).scn to ≡ stale_rows_at stock.notes to
   stale-by h kept table extent stock to agrees is some =
       stale-noted h table extent (content stock.unit).scn stock.notes to (agrees.stock table extent stock is).journal some
 
-  stale_of : (h : History) (kept : Kept U) (table extent at to : ℕ) (current : Option (Stock U)) → Agrees content h kept → 1 ≤ per_at h table → (told_at kept table extent).current ≡ current → scn_of content current ≡ Some at → stale_rows_at (notes_of_unit current) to ≡ stale h table extent at to
+  stale_of : (h : History) (kept : Kept U) (table extent at to : ℕ) (current : Option (Stock U)) → Agrees content h kept → 1 ≤ per_at h table →
+      (told_at kept table extent).current ≡ current → scn_of content current ≡ Some at → stale_rows_at (notes_of_unit current) to ≡ stale h table extent at to
   stale_of h kept table extent at to None agrees some is found = cc
   stale_of h kept table extent at to (Some stock) agrees some is found =
       let same : (content stock.unit).scn ≡ at = cc in
       sym (stale-by h kept table extent stock to agrees is some) ∙ ap (λ n. stale h table extent n to) same
 
   -- and so it is told of the unit that the history says is current
-  pub stale-of : (h : History) (kept : Kept U) (table extent at to : ℕ) → Agrees content h kept → 1 ≤ per_at h table → unit h table extent ≡ Some at → stale_told kept table extent to ≡ stale h table extent at to
-  stale-of h kept table extent at to agrees some is = stale_of h kept table extent at to (told_at kept table extent).current agrees some refl (agrees.units table extent ∙ is)
+  pub stale-of : (h : History) (kept : Kept U) (table extent at to : ℕ) → Agrees content h kept → 1 ≤ per_at h table → unit h table extent ≡ Some at →
+      stale_told kept table extent to ≡ stale h table extent at to
+  stale-of h kept table extent at to agrees some is =
+      stale_of h kept table extent at to (told_at kept table extent).current agrees some refl (agrees.units table extent ∙ is)
 
   -- no note is of a later commit than the present one
   pub IsBefore-by : (h : History) (kept : Kept U) (n : ℕ) → Agrees content h kept → scn h ≤ n → IsBefore kept n

@@ -1,5 +1,6 @@
 mod AgreementLemmas
 mod AgreesLemmas
+mod AreaLemmas
 mod BeginLemmas
 mod BuildLemmas
 pub mod CountLaws
@@ -8,9 +9,15 @@ mod EffectLemmas
 mod EndLemmas
 pub mod ForCallers
 mod JournalLemmas
+mod ListedLemmas
+mod ListLemmas
 mod NoteLemmas
 mod NotingLemmas
+mod PlacedLemmas
 mod RangeLemmas
+mod RestLemmas
 mod SlotLemmas
 mod SoundLemmas
 mod StaleLemmas
+mod SumLaws
+mod WaitLemmas

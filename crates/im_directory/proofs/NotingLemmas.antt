@@ -11,11 +11,11 @@ use Rattle.im_journal.specs.Stale.{Note, Notes}
 use Rattle.im_journal.proofs.ForCallers.{last_scn-noted}
 use Rattle.im_history.specs.declared.change.Change.{Change}
 use Rattle.im_history.specs.declared.look.TableInfo.{TableInfo}
-use Rattle.im_directory.specs.declared.slot.Current.{Current}
-use Rattle.im_directory.specs.declared.slot.Growing.{Growing}
-use Rattle.im_directory.specs.declared.slot.Slot.{Slot}
+use Rattle.im_tables.proofs.ForCallers.{HasCell-with_cell}
+use Rattle.im_directory.specs.declared.journals.Current.{Current}
+use Rattle.im_directory.specs.declared.journals.Growing.{Growing}
 use Rattle.im_directory.specs.Effects.{NoneBehind, extent_in, is_in_extent, noted_in, notes_for, with_notes}
-use Rattle.im_directory.specs.Slots.{Growth, Stock, Told, growth, nothing, slot_at, stock, told}
+use Rattle.im_directory.specs.Slots.{Growth, Slot, Stock, Told, growth, nothing, slot_at, stock, told}
 use Rattle.im_directory.specs.Steps.{AreBefore, AreNoted, HasNotesRoom, HasSlotRoom, IsFor, IsSlotBefore, MayNote, TellsAlike, WentThrough, current_noted, growing_noted, has_journal, slot_counted, slot_noted, slot_roomy, slot_through, slot_uncounted, slots_with, with_note, with_room}
 use Rattle.im_directory.proofs.SlotLemmas.{slot_at-changed}
 
@@ -70,8 +70,8 @@ growth_noted note notes (Some growing) = refl
 
 module _ {U : Type 0} where
   -- what is read of an extent
-  abbrev the_told : Option (Stock U) → Option Growth → Told U
-  the_told current growing = record { current = current; growing = growing }
+  abbrev the_told : Option (Stock U) → Option Growth → Bool → Told U
+  the_told current growing waits = record { current = current; growing = growing; waits = waits }
 
   -- one change more
   slot_through-push : (effect : Change → Slot U → Slot U) (tables : List TableInfo) (done : List Change) (change : Change) (table extent : ℕ)
@@ -84,7 +84,7 @@ module _ {U : Type 0} where
       ap (fold step slot) (filter-append p done (change ∷ [])) ∙ fold_filter_by (p change) step slot (filter p done) change
 
   pub WentThrough-none : (effect : Change → Slot U → Slot U) (old : List (List (Slot U))) (tables : List TableInfo) → WentThrough effect old old tables []
-  WentThrough-none effect old tables = record { each = λ table extent. refl }
+  WentThrough-none effect old tables = record { each = λ table extent. refl; room = λ table extent has. has }
 
   WentThrough-next : (effect : Change → Slot U → Slot U) (old now : List (List (Slot U))) (tables : List TableInfo) (done : List Change) (change : Change) →
       effect change nothing ≡ nothing → WentThrough effect old now tables done →
@@ -94,6 +94,9 @@ module _ {U : Type 0} where
         slot_at-changed (effect change) now change.table (extent_in tables change) table extent (inr keeps)
         ∙ (ap (λ (slot : Slot U). if is_in_extent tables table extent change then effect change slot else slot) (went.each table extent)
         ∙ sym (slot_through-push effect tables done change table extent (slot_at old table extent)));
+    room = λ table extent has.
+        HasCell-with_cell now change.table (extent_in tables change) (effect change (slot_at now change.table (extent_in tables change))) table extent
+        (went.room table extent has);
   }
 
   -- the next change of a list has its effect
@@ -117,8 +120,8 @@ module _ {U : Type 0} where
 
   -- ---- notes
 
-  same_told : (a b : Option (Stock U)) (c d : Option Growth) → a ≡ b → c ≡ d → the_told a c ≡ the_told b d
-  same_told a b c d first second = ap₂ the_told first second
+  same_told : (a b : Option (Stock U)) (c d : Option Growth) (waits : Bool) → a ≡ b → c ≡ d → the_told a c waits ≡ the_told b d waits
+  same_told a b c d waits first second = ap₂ (λ (current : Option (Stock U)) (growing : Option Growth). the_told current growing waits) first second
 
   stock_noted : (note : Note) (notes : List Note) (o : Option (Current U)) →
       option_map (λ (s : Stock U). record s { notes = with_notes notes s.notes }) (option_map stock (option_map (current_noted note) o)) ≡ option_map
@@ -130,18 +133,20 @@ module _ {U : Type 0} where
   told-noted : (scn : ℕ) (changes : List Change) (slot : Slot U) →
       told (fold (λ s c. slot_noted (c.rid, scn) s) slot changes) ≡ noted_in (map (λ c. (c.rid, scn)) changes) (told slot)
   told-noted scn [] slot =
-      sym (same_told _ _ _ _ (option_map-same (λ (s : Stock U). s) (told slot).current (λ s. refl))
+      sym (same_told _ _ _ _ slot.waits (option_map-same (λ (s : Stock U). s) (told slot).current (λ s. refl))
       (option_map-same (λ (g : Growth). g) (told slot).growing (λ g. refl)))
   told-noted scn (change ∷ changes) slot =
       let note : Note = (change.rid, scn) in
       told-noted scn changes (slot_noted note slot)
-      ∙ same_told _ _ _ _ (stock_noted note (map (λ c. (c.rid, scn)) changes) slot.current) (growth_noted note (map (λ c. (c.rid, scn)) changes) slot.growing)
+      ∙ same_told _ _ _ _ slot.waits (stock_noted note (map (λ c. (c.rid, scn)) changes) slot.current)
+      (growth_noted note (map (λ c. (c.rid, scn)) changes) slot.growing)
 
   pub AreNoted-all : (old new : List (List (Slot U))) (tables : List TableInfo) (scn : ℕ) (changes : List Change) →
       WentThrough (λ change. slot_noted (change.rid, scn)) old new tables changes → AreNoted old new tables scn changes
   AreNoted-all old new tables scn changes went = record {
     each = λ table extent.
         ap told (went.each table extent) ∙ told-noted scn (filter (is_in_extent tables table extent) changes) (slot_at old table extent);
+    room = went.room;
   }
 
   -- the journals of an extent can take so many notes of a commit
@@ -211,13 +216,17 @@ module _ {U : Type 0} where
       WentThrough (λ change. slot_uncounted) old new tables changes → TellsAlike old new
   TellsAlike-uncounted old new tables changes went = record {
     each = λ table extent. ap told (went.each table extent) ∙ told-uncounted (filter (is_in_extent tables table extent) changes) (slot_at old table extent);
+    room = went.room;
   }
 
   pub TellsAlike-same : (slots : List (List (Slot U))) → TellsAlike slots slots
-  TellsAlike-same slots = record { each = λ table extent. refl }
+  TellsAlike-same slots = record { each = λ table extent. refl; room = λ table extent has. has }
 
   pub TellsAlike-trans : (a b c : List (List (Slot U))) → TellsAlike a b → TellsAlike b c → TellsAlike a c
-  TellsAlike-trans a b c ab bc = record { each = λ table extent. bc.each table extent ∙ ab.each table extent }
+  TellsAlike-trans a b c ab bc = record {
+    each = λ table extent. bc.each table extent ∙ ab.each table extent;
+    room = λ table extent has. bc.room table extent (ab.room table extent has);
+  }
 
   -- so many notes are counted of an extent, and there is room for them
   record IsCounted (slot : Slot U) (count : ℕ) : Type 0 where

@@ -9,7 +9,7 @@ use Rattle.im_history.specs.Tables.{table_among}
 use Rattle.im_history.specs.Views.{grid_of}
 use Rattle.im_tables.specs.Table.{row_of}
 use Rattle.im_directory.specs.declared.range.ExtentRange.{ExtentRange}
-use Rattle.im_directory.specs.declared.slot.Slot.{Slot}
+use Rattle.im_directory.specs.Slots.{Slot}
 use Rattle.im_directory.specs.Effects.{extent_in}
 use Rattle.im_directory.specs.Steps.{IsFor, IsRange, IsWithin}
 use Rattle.im_directory.proofs.SlotLemmas.{slot_at-none, slots_with-none}

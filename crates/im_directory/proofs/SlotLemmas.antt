@@ -6,10 +6,9 @@ use Rattle.std.proofs.lemmas.Bool.{cases_lt, cases_eq, eq-eqb, false≢true, ne_
 use Rattle.std.proofs.lemmas.Grind.{get_or-set_at}
 use Rattle.std.proofs.lemmas.List.{get_or_past, get_or-set_other}
 use Rattle.im_tables.specs.Table.{HasCell, cell_at, found_at, with_cell}
-use Rattle.im_tables.proofs.ForCallers.{HasCell-found, HasCell-or-empty, HasCell-where, cell_at-with_cell, cell_at-with_cell_other, cell_at-with_cell_same, same_cell, unwrap_or-found_at, with_cell-none}
+use Rattle.im_tables.proofs.ForCallers.{HasCell-found, HasCell-or-empty, HasCell-where, HasCell-with_cell, cell_at-with_cell, cell_at-with_cell_other, cell_at-with_cell_same, same_cell, unwrap_or-found_at, with_cell-none}
 use Rattle.im_tables.proofs.Tests.{and-true, eq-true}
-use Rattle.im_directory.specs.declared.slot.Slot.{Slot}
-use Rattle.im_directory.specs.Slots.{nothing, slot_at, told}
+use Rattle.im_directory.specs.Slots.{Slot, nothing, slot_at, told}
 use Rattle.im_directory.specs.Steps.{TellsAlike, slots_with}
 
 -- an element of a list changed by a function, if it is there
@@ -74,7 +73,7 @@ module _ {U : Type 0} where
 
   -- all is read as before where nothing changes
   pub TellsAlike-none : (slots : List (List (Slot U))) → TellsAlike slots slots
-  TellsAlike-none slots = record { each = λ table extent. refl }
+  TellsAlike-none slots = record { each = λ table extent. refl; room = λ table extent has. has }
 
   -- where of the slot that was found the same is read, all is read as before
   pub TellsAlike-found : (slots : List (List (Slot U))) (table extent : ℕ) (slot after : Slot U) →
@@ -87,6 +86,7 @@ module _ {U : Type 0} where
         ∙ (same ∙ ap told (slot_at-found slots table extent slot is))))
         (λ (apart : t ≡ table → e ≡ extent → ⊥). ap told (cell_at-with_cell_other nothing slots table extent after t e apart))
         (same_cell table extent t e);
+    room = HasCell-with_cell slots table extent after;
   }
 
   -- where a build lives, there is a slot

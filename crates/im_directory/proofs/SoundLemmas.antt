@@ -10,9 +10,8 @@ use Rattle.im_history.specs.Transactions.{or_here}
 use Rattle.im_history.specs.Units.{drops, is_on, killed_by, unless_ended}
 use Rattle.im_journal.specs.Stale.{Note}
 use Rattle.im_tables.proofs.ForCallers.{cell_at-nil}
-use Rattle.im_directory.specs.Effects.{IsBegun, IsCancelled, IsDropped, IsNew, IsNoted, IsSwitched, SameTold, unless_of, with_notes, notes_of}
-use Rattle.im_directory.specs.Slots.{Growth, Kept, Told, build_among, build_in, living_in, nothing, slot_at, told, told_at}
-use Rattle.im_directory.specs.declared.slot.Slot.{Slot}
+use Rattle.im_directory.specs.Effects.{IsBegun, IsCancelled, IsDropped, IsNew, IsNoted, IsSwitched, SameTold, ended_in, notes_of, rested_in, unless_of, with_notes}
+use Rattle.im_directory.specs.Slots.{Growth, Kept, Slot, Told, build_among, build_in, living_in, nothing, slot_at, told, told_at}
 use Rattle.im_history.specs.declared.change.Change.{Change}
 use Rattle.im_history.specs.declared.look.TableInfo.{TableInfo}
 use Rattle.im_directory.specs.Sound.{IsLiving, IsSound}
@@ -36,7 +35,7 @@ on_parts table extent held on =
 pub on_own : (held : Held) → is_on held.task.table held.task.extent held ≡ true
 on_own held = and_from _ _ (eq-eqb held.task.table held.task.table refl) (eq-eqb held.task.extent held.task.extent refl)
 
-kept_build : (b : Bool) (o : Option Held) (held : Held) → (if b then None else o) ≡ Some held → (b ≡ false) × (o ≡ Some held)
+pub kept_build : (b : Bool) (o : Option Held) (held : Held) → (if b then None else o) ≡ Some held → (b ≡ false) × (o ≡ Some held)
 kept_build true o held is = absurd (false≢true (ap is_some is))
 kept_build false o held is = (refl, is)
 
@@ -130,12 +129,12 @@ pub some_same : {X : Type 0} (x y : X) → Some x ≡ Some y → x ≡ y
 some_same x y same = cc
 
 -- a build that an entry killed or not, and what it was before
-record WasHeld (place : ℕ) (what : What) (o : Option Held) (now : Held) : Type 0 where
-  held : Held
-  is : o ≡ Some held
-  same : now ≡ killed_by place what held
+pub record WasHeld (place : ℕ) (what : What) (o : Option Held) (now : Held) : Type 0 where
+  pub held : Held
+  pub is : o ≡ Some held
+  pub same : now ≡ killed_by place what held
 
-killed_from : (place : ℕ) (what : What) (o : Option Held) (held : Held) → option_map (killed_by place what) o ≡ Some held → WasHeld place what o held
+pub killed_from : (place : ℕ) (what : What) (o : Option Held) (held : Held) → option_map (killed_by place what) o ≡ Some held → WasHeld place what o held
 killed_from place what None held is = absurd (false≢true (ap is_some is))
 killed_from place what (Some old) held is = record { held = old; is = refl; same = sym (some_same _ _ is) }
 
@@ -173,11 +172,11 @@ kept_by false o id is = (refl, is)
 
 module _ {U : Type 0} where
   -- the same builds are held, and the same ones are living
-  record ReadsSame (old new : Kept U) : Type 0 where
-    builds : (id : ℕ) → build_in new id ≡ build_in old id
-    living : (table extent : ℕ) → living_in new table extent ≡ living_in old table extent
+  pub record ReadsSame (old new : Kept U) : Type 0 where
+    pub builds : (id : ℕ) → build_in new id ≡ build_in old id
+    pub living : (table extent : ℕ) → living_in new table extent ≡ living_in old table extent
 
-  IsSound-reads : (old new : Kept U) → ReadsSame old new → IsSound old → IsSound new
+  pub IsSound-reads : (old new : Kept U) → ReadsSame old new → IsSound old → IsSound new
   IsSound-reads old new same sound = record {
     numbered = λ id held is. sound.numbered id held (sym (same.builds id) ∙ is);
     lives = λ id held is alive. same.living held.task.table held.task.extent ∙ sound.lives id held (sym (same.builds id) ∙ is) alive;
@@ -211,7 +210,7 @@ module _ {U : Type 0} where
   pub build_in-new : (kept : Kept U) (id : ℕ) → IsNew kept → build_in kept id ≡ None
   build_in-new kept id new = ap (λ (b : List (Option Held)). build_among b id) new.builds ∙ build_none id
 
-  pub told_at-new : (kept : Kept U) (table extent : ℕ) → IsNew kept → told_at kept table extent ≡ record { current = None; growing = None }
+  pub told_at-new : (kept : Kept U) (table extent : ℕ) → IsNew kept → told_at kept table extent ≡ record { current = None; growing = None; waits = false }
   told_at-new kept table extent new =
       ap (λ (s : List (List (Slot U))). told (slot_at s table extent)) new.slots ∙ ap told (cell_at-nil nothing table extent)
 
@@ -288,9 +287,17 @@ module _ {U : Type 0} where
             ∙ switched_by (is_on table extent held) old _ table extent id held sound is alive refl refl;
       }
 
-  pub IsEnding-cancelled : (old new : Kept U) (id : ℕ) (held : Held) → IsSound old → build_in old id ≡ Some held → IsCancelled old new held →
-      IsEnding old new id
-  IsEnding-cancelled old new id held sound is cancelled =
+  ended_by : (b : Bool) (old : Kept U) (table extent id : ℕ) (full : Bool) (held : Held) → IsSound old → build_in old id ≡ Some held →
+      held.task.id ≡ id → is_on table extent held ≡ b →
+      number_of (if b then ended_in held.task.id full (told_at old table extent) else told_at old table extent)
+      ≡ unless_ended id (living_in old table extent)
+  ended_by true old table extent id full held sound is number on =
+      number_unless held.task.id (told_at old table extent).growing ∙ ap (λ (k : ℕ). unless_ended k (living_in old table extent)) number
+  ended_by false old table extent id full held sound is number off = sym (living_off old table extent id held sound is off)
+
+  pub IsEnding-cancelled : (old new : Kept U) (id : ℕ) (full : Bool) (held : Held) → IsSound old → build_in old id ≡ Some held →
+      IsCancelled old new held full → IsEnding old new id
+  IsEnding-cancelled old new id full held sound is cancelled =
       let number : held.task.id ≡ id = sound.numbered id held is in
       record {
         builds = λ other.
@@ -298,7 +305,7 @@ module _ {U : Type 0} where
             ∙ build_ended old.builds id other (build_some old.builds id held is);
         living = λ table extent.
             ap (λ (told : Told U). number_of told) (cancelled.slots table extent)
-            ∙ (number_unless held.task.id (told_at old table extent).growing ∙ ap (λ (k : ℕ). unless_ended k (living_in old table extent)) number);
+            ∙ ended_by (is_on table extent held) old table extent id full held sound is number refl;
       }
 
   -- ---- a build begins
@@ -388,7 +395,7 @@ module _ {U : Type 0} where
     builds = λ id. ap (λ (b : List (Option Held)). build_among b id) dropped.builds ∙ build_mapped (option_map (killed_by place what)) old.builds id refl;
     living = λ table extent.
         ap (λ (told : Told U). number_of told) (dropped.slots table extent)
-        ∙ ap_if (λ (told : Told U). number_of told) (drops table extent what) _ (told_at old table extent);
+        ∙ ap_if (λ (told : Told U). number_of told) (drops table extent what) _ (rested_in (told_at old table extent));
   }
 
   pub IsSound-killed : (old new : Kept U) (place : ℕ) (what : What) → IsKilling old new place what → IsSound old → IsSound new

@@ -1,18 +1,23 @@
 -- What callers know of a directory that agrees with a history.
-use Rattle.std.specs.Prelude.{◌≡◌, ℕ, ◌+◌, ◌≤◌, Bool, true, [], ◌∷◌, ◌++◌, length, Some, None}
+use Rattle.std.specs.Prelude.{◌≡◌, ℕ, ◌+◌, ◌≤◌, ◌&&◌, Bool, true, [], ◌∷◌, ◌++◌, length, Some, None, is_none}
 use Rattle.im_journal.specs.Stale.{stale_rows_at}
 use Rattle.im_history.specs.declared.entry.What.{What}
 use Rattle.im_history.specs.declared.entry.What.TheVariants.{Commit, Build, Switch, Cancel}
 use Rattle.im_history.specs.declared.task.Held.{Held}
 use Rattle.im_history.specs.Commits.{scn}
+use Rattle.im_history.specs.Area.{used}
+use Rattle.im_history.specs.Extents.{AreOfExtents}
 use Rattle.im_history.specs.History.{History}
 use Rattle.im_history.specs.Legal.{Exists}
+use Rattle.im_history.specs.Queue as Queue
 use Rattle.im_history.specs.Tables.{given, tables}
 use Rattle.im_history.specs.Transactions.{pending}
-use Rattle.im_history.specs.Units.{Content, builds, content_at, held_at, is_on, living, stale, task_at}
+use Rattle.im_history.specs.Units.{Content, builds, content_at, held_at, is_on, living, stale, task_at, unit}
 use Rattle.im_history.specs.Views.{per_at}
 use Rattle.im_directory.specs.Agrees.{Agrees, is_apart, takes_out}
 use Rattle.im_directory.specs.Effects.{IsBefore, IsBegun, IsCancelled, IsDropped, IsNew, IsNoted, IsSwitched, SameTold}
+use Rattle.im_directory.specs.Lists as Lists
+use Rattle.im_directory.specs.Lists.{used_in}
 use Rattle.im_directory.specs.Slots.{Kept, Stock, told_at}
 use Rattle.im_directory.specs.Sound.{IsAlive}
 
@@ -41,7 +46,7 @@ module _ {U : Type 0} (content : U → Content) where
         held.killed ≡ None → content unit ≡ content_at h held.task.table held.task.extent held.task.scn → IsSwitched old new held unit →
         Agrees content (h ++ record { who = who; what = Switch id } ∷ []) new
     pub cancels : (h : History) (who id : ℕ) (full : Bool) (held : Held) (old new : Kept U) → Agrees content h old → held_at h id ≡ Some held →
-        IsCancelled old new held → Agrees content (h ++ record { who = who; what = Cancel id full } ∷ []) new
+        IsCancelled old new held full → Agrees content (h ++ record { who = who; what = Cancel id full } ∷ []) new
     pub drops : (h : History) (who : ℕ) (what : What) (old new : Kept U) → takes_out what ≡ true → Agrees content h old →
         IsDropped old new (length h) what → Agrees content (h ++ record { who = who; what = what } ∷ []) new
     pub others : (h : History) (who : ℕ) (what : What) (kept : Kept U) → is_apart what ≡ true → Agrees content h kept →
@@ -58,3 +63,11 @@ module _ {U : Type 0} (content : U → Content) where
     pub lives : (id : ℕ) (held : Held) → held_at h id ≡ Some held → held.killed ≡ None → living h held.task.table held.task.extent ≡ Some id
     pub numbered : (id : ℕ) (held : Held) → held_at h id ≡ Some held → held.task.id ≡ id
     pub alive : (id : ℕ) (held : Held) → held_at h id ≡ Some held → held.killed ≡ None → IsAlive kept id
+    pub empty : (table extent : ℕ) →
+        Lists.is_empty (told_at kept table extent)
+        ≡ (Queue.is_free h (record { table = table; number = extent }) && is_none (unit h table extent))
+    pub due : (table extent : ℕ) → 1 ≤ per_at h table →
+        Lists.is_due content (told_at kept table extent) ≡ Queue.is_due h (record { table = table; number = extent })
+    pub stale : (table extent : ℕ) → 1 ≤ per_at h table →
+        Lists.is_stale content (told_at kept table extent) ≡ Queue.is_stale h (record { table = table; number = extent })
+    pub used : AreOfExtents h → used_in content kept.slots ≡ used h

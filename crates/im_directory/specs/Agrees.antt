@@ -8,6 +8,7 @@ use Rattle.im_history.specs.declared.task.Held.{Held}
 use Rattle.im_history.specs.Commits.{scn}
 use Rattle.im_history.specs.History.{History}
 use Rattle.im_history.specs.Legal.{Exists}
+use Rattle.im_history.specs.Queue.{waits}
 use Rattle.im_history.specs.Units.{Content, builds, content_at, held_at, living, touched_between, unit}
 use Rattle.im_history.specs.Views.{per_at}
 use Rattle.im_directory.specs.Slots.{Growth, Kept, Stock, build_in, living_in, told_at}
@@ -43,6 +44,7 @@ module _ {U : Type 0} (content : U → Content) where
     pub held : (id : ℕ) → build_in kept id ≡ held_at history id
     pub units : (table extent : ℕ) → scn_of (told_at kept table extent).current ≡ unit history table extent
     pub living : (table extent : ℕ) → living_in kept table extent ≡ living history table extent
+    pub waits : (table extent : ℕ) → (told_at kept table extent).waits ≡ waits history table extent
     pub stock : (table extent : ℕ) (stock : Stock U) → (told_at kept table extent).current ≡ Some stock → IsStock history table extent stock
     pub growth : (table extent : ℕ) (growth : Growth) → (told_at kept table extent).growing ≡ Some growth → IsGrowth history table extent growth
 

@@ -1,5 +1,5 @@
 -- What each call leaves.
-use Rattle.std.specs.Prelude.{◌≡◌, ℕ, ◌-◌, ◌/◌, ◌≤◌, ◌==◌, ◌&&◌, Bool, List, [], ◌∷◌, ◌++◌, map, filter, length, set, Option, Some, None, if◌then◌else◌}
+use Rattle.std.specs.Prelude.{◌≡◌, ℕ, ◌-◌, ◌/◌, ◌≤◌, ◌==◌, ◌&&◌, ◌||◌, Bool, false, List, [], ◌∷◌, ◌++◌, map, filter, length, set, Option, Some, None, if◌then◌else◌}
 use Rattle.std.specs.List.{fold}
 use Rattle.std.specs.Option.{option_map, ForSome}
 use Rattle.im_journal.specs.Stale.{Note, last_scn, noted}
@@ -47,7 +47,7 @@ unless_of id (Some growth) = if growth.id == id then None else Some growth
 module _ {U : Type 0} where
   -- what is read of an extent once both its journals have these notes
   abbrev pub noted_in : List Note → Told U → Told U
-  noted_in more told = record {
+  noted_in more told = record told {
     current = option_map (λ (stock : Stock U). record stock { notes = with_notes more stock.notes }) told.current;
     growing = option_map (λ (growth : Growth). record growth { notes = with_notes more growth.notes }) told.growing;
   }
@@ -97,17 +97,30 @@ module _ {U : Type 0} where
   -- this build ended, and its unit is current, with the build's journal
   pub record IsSwitched (old new : Kept U) (held : Held) (unit : U) : Type 0 where
     pub slots : (table extent : ℕ) → told_at new table extent
-        ≡ (if is_on table extent held then record { current = grown unit (told_at old table extent).growing; growing = None } else told_at old table extent)
+        ≡ (if is_on table extent held then record (told_at old table extent) {
+          current =
+              grown unit (told_at old table extent).growing;
+          growing = None;
+        } else told_at old table extent)
     pub builds : new.builds ≡ set old.builds (held.task.id - 1) None
 
-  -- this build ended, and its unit is not used
-  pub record IsCancelled (old new : Kept U) (held : Held) : Type 0 where
-    pub slots : (table extent : ℕ) → told_at new table extent ≡ record
-        (told_at old table extent) { growing = unless_of held.task.id (told_at old table extent).growing }
+  -- an extent whose build of this number ends without its unit, which did not fit into the area or was not used
+  abbrev pub ended_in : ℕ → Bool → Told U → Told U
+  ended_in id full told = record told { growing = unless_of id told.growing; waits = told.waits || full }
+
+  -- this build ended, and its unit is not used: where it did not fit into the area, the extent waits
+  pub record IsCancelled (old new : Kept U) (held : Held) (full : Bool) : Type 0 where
+    pub slots : (table extent : ℕ) → told_at new table extent
+        ≡ (if is_on table extent held then ended_in held.task.id full (told_at old table extent) else told_at old table extent)
     pub builds : new.builds ≡ set old.builds (held.task.id - 1) None
 
-  -- an entry at this place took extents out of the column store: their units are gone, and their living builds are killed
+  -- an extent that waits no more
+  abbrev pub rested_in : Told U → Told U
+  rested_in told = record told { waits = false }
+
+  -- an entry at this place took extents out of the column store: their units are gone, and their living builds are killed. No
+  -- extent waits any more
   pub record IsDropped (old new : Kept U) (place : ℕ) (what : What) : Type 0 where
     pub slots : (table extent : ℕ) → told_at new table extent ≡
-        (if drops table extent what then record { current = None; growing = None } else told_at old table extent)
+        (if drops table extent what then record { current = None; growing = None; waits = false } else rested_in (told_at old table extent))
     pub builds : new.builds ≡ map (option_map (killed_by place what)) old.builds

@@ -1,12 +1,19 @@
 -- What is kept of each extent and of each build, read by their numbers.
-use Rattle.std.specs.Prelude.{ℕ, zero, suc, List, [], slice_index_or, Option, Some, None}
+use Rattle.std.specs.Prelude.{ℕ, zero, suc, Bool, false, List, [], slice_index_or, Option, Some, None}
 use Rattle.std.specs.Option.{option_map}
 use Rattle.im_tables.specs.Table.{cell_at}
 use Rattle.im_journal.specs.Stale.{Note, stale_rows_at}
 use Rattle.im_history.specs.declared.task.Held.{Held}
-use Rattle.im_directory.specs.declared.slot.Current.{Current}
-use Rattle.im_directory.specs.declared.slot.Growing.{Growing}
-use Rattle.im_directory.specs.declared.slot.Slot.{Slot}
+use Rattle.im_directory.specs.declared.journals.Current.{Current}
+use Rattle.im_directory.specs.declared.journals.Growing.{Growing}
+
+-- what is kept of an extent: its current unit and its living build, each with its journal, whether it waits for room in the area, and
+-- how many notes a commit will make in each journal, counted while room is made for them
+pub record Slot (U : Type 0) : Type 0 where
+  pub current : Option (Current U)
+  pub growing : Option Growing
+  pub waits : Bool
+  pub wanted : ℕ
 
 -- what is kept of all extents, by table and extent, and of all builds that were begun, the first of which is build 1: those that
 -- are held, and nothing of the others
@@ -28,6 +35,7 @@ pub record Growth : Type 0 where
 pub record Told (U : Type 0) : Type 0 where
   pub current : Option (Stock U)
   pub growing : Option Growth
+  pub waits : Bool
 
 -- what is read of a living build
 abbrev pub growth : Growing → Growth
@@ -41,7 +49,7 @@ build_among builds (suc before) = slice_index_or builds before None
 module _ {U : Type 0} where
   -- an extent of which nothing is kept
   abbrev pub nothing : Slot U
-  nothing = record { current = None; growing = None; wanted = 0 }
+  nothing = record { current = None; growing = None; waits = false; wanted = 0 }
 
   -- what is read of a current unit
   abbrev pub stock : Current U → Stock U
@@ -49,7 +57,7 @@ module _ {U : Type 0} where
 
   -- what is read of an extent
   abbrev pub told : Slot U → Told U
-  told slot = record { current = option_map stock slot.current; growing = option_map growth slot.growing }
+  told slot = record { current = option_map stock slot.current; growing = option_map growth slot.growing; waits = slot.waits }
 
   -- what is kept of an extent; past the ends there is nothing
   abbrev pub slot_at : List (List (Slot U)) → ℕ → ℕ → Slot U

@@ -1,9 +1,9 @@
 -- What a single call does to what is kept of one extent.
-use Rattle.std.specs.Prelude.{◌≡◌, ℕ, ◌+◌, ◌-◌, ◌/◌, ◌≤◌, ◌<◌, ◌==◌, ◌||◌, Bool, max, List, [], filter, fold, set, Option, Some, None, is_some, if◌then◌else◌}
+use Rattle.std.specs.Prelude.{◌≡◌, ℕ, ◌+◌, ◌-◌, ◌/◌, ◌≤◌, ◌<◌, ◌==◌, ◌||◌, Bool, false, max, List, [], filter, fold, set, Option, Some, None, is_some, if◌then◌else◌}
 use Rattle.std.specs.Option.{option_map, ForSome}
 use Rattle.std.specs.declared.alloc.Global.{Global}
 use Rattle.std.specs.declared.sync.Arc.{Arc}
-use Rattle.im_tables.specs.Table.{with_cell}
+use Rattle.im_tables.specs.Table.{HasCell, with_cell}
 use Rattle.im_journal.specs.Stale.{Note, Notes, noted}
 use Rattle.im_history.specs.declared.change.Change.{Change}
 use Rattle.im_history.specs.declared.look.TableInfo.{TableInfo}
@@ -13,11 +13,10 @@ use Rattle.im_history.specs.Tables.{table_among}
 use Rattle.im_history.specs.Transactions.{or_here}
 use Rattle.im_history.specs.Views.{grid_of}
 use Rattle.im_directory.specs.declared.range.ExtentRange.{ExtentRange}
-use Rattle.im_directory.specs.declared.slot.Current.{Current}
-use Rattle.im_directory.specs.declared.slot.Growing.{Growing}
-use Rattle.im_directory.specs.declared.slot.Slot.{Slot}
+use Rattle.im_directory.specs.declared.journals.Current.{Current}
+use Rattle.im_directory.specs.declared.journals.Growing.{Growing}
 use Rattle.im_directory.specs.Effects.{NoneBehind, extent_in, is_in_extent, noted_in, notes_for, notes_of}
-use Rattle.im_directory.specs.Slots.{build_among, slot_at, told}
+use Rattle.im_directory.specs.Slots.{Slot, build_among, nothing, slot_at, told}
 
 -- a journal with a note more
 abbrev pub with_note : Note → Notes → Notes
@@ -84,7 +83,7 @@ module _ {U : Type 0} where
 
   -- an extent with room for so many notes, which are counted
   abbrev pub slot_roomy : ℕ → Slot U → Slot U
-  slot_roomy count slot = record {
+  slot_roomy count slot = record slot {
     current = option_map (λ (current : Current U). record current { journal = with_room count current.journal }) slot.current;
     growing = option_map (λ (growing : Growing). record growing { journal = with_room count growing.journal }) slot.growing;
     wanted = count;
@@ -111,13 +110,22 @@ module _ {U : Type 0} where
   abbrev pub slot_switched : Arc U Global → Slot U → Slot U
   slot_switched unit slot = record slot { current = option_map (current_grown unit) slot.growing; growing = None }
 
-  -- an extent without the living build of this number
-  abbrev pub slot_cancelled : ℕ → Slot U → Slot U
-  slot_cancelled id slot = record slot { growing = growing_unless id slot.growing }
+  -- an extent without the living build of this number, which waits where the build's unit did not fit
+  abbrev pub slot_cancelled : ℕ → Bool → Slot U → Slot U
+  slot_cancelled id full slot = record slot { growing = growing_unless id slot.growing; waits = slot.waits || full; wanted = 0 }
 
   -- an extent out of the column store
   abbrev pub slot_dropped : Slot U → Slot U
-  slot_dropped slot = record slot { current = None; growing = None }
+  slot_dropped slot = nothing
+
+  -- an extent that waits no more
+  abbrev pub slot_rested : Slot U → Slot U
+  slot_rested slot = record slot { waits = false }
+
+  -- no extent waits any more, and each has its place
+  pub record AreRested (old new : List (List (Slot U))) : Type 0 where
+    pub each : (table extent : ℕ) → slot_at new table extent ≡ slot_rested (slot_at old table extent)
+    pub room : (table extent : ℕ) → HasCell old table extent → HasCell new table extent
 
   -- all extents, one of them having changed, if it is there
   abbrev pub slots_with : (Slot U → Slot U) → ℕ → ℕ → List (List (Slot U)) → List (List (Slot U))
@@ -141,18 +149,21 @@ module _ {U : Type 0} where
   pub record AreBefore (slots : List (List (Slot U))) (scn : ℕ) : Type 0 where
     pub each : (table extent : ℕ) → IsSlotBefore (slot_at slots table extent) scn
 
-  -- the commit with this SCN noted its changes
+  -- the commit with this SCN noted its changes, and each extent has its place
   pub record AreNoted (old new : List (List (Slot U))) (tables : List TableInfo) (scn : ℕ) (changes : List Change) : Type 0 where
     pub each : (table extent : ℕ) → told (slot_at new table extent) ≡ noted_in (notes_of tables scn changes table extent) (told (slot_at old table extent))
+    pub room : (table extent : ℕ) → HasCell old table extent → HasCell new table extent
 
   -- what is kept of an extent once each of these changes to a row of it has had an effect on it
   abbrev pub slot_through : (Change → Slot U → Slot U) → List TableInfo → List Change → ℕ → ℕ → Slot U → Slot U
   slot_through effect tables changes table extent slot = fold (λ slot change. effect change slot) slot (filter (is_in_extent tables table extent) changes)
 
-  -- each of these changes has had an effect on the extent of its row
+  -- each of these changes has had an effect on the extent of its row, and each extent has its place
   pub record WentThrough (effect : Change → Slot U → Slot U) (old new : List (List (Slot U))) (tables : List TableInfo) (changes : List Change) : Type 0 where
     pub each : (table extent : ℕ) → slot_at new table extent ≡ slot_through effect tables changes table extent (slot_at old table extent)
+    pub room : (table extent : ℕ) → HasCell old table extent → HasCell new table extent
 
-  -- of each extent all is read as before
+  -- of each extent all is read as before, and each has its place
   pub record TellsAlike (old new : List (List (Slot U))) : Type 0 where
     pub each : (table extent : ℕ) → told (slot_at new table extent) ≡ told (slot_at old table extent)
+    pub room : (table extent : ℕ) → HasCell old table extent → HasCell new table extent

@@ -1,15 +1,18 @@
-ghost use Rattle.std.specs.Prelude.{◌≡◌, ◌+◌, ◌^◌, ◌<◌, count_by, is_some, length, option_copied, option_map, IfOk, IsSome, None, OnErr, OnOk, Option};
+ghost use Rattle.std.specs.Prelude.{◌≡◌, ◌+◌, ◌^◌, ◌<◌, count_by, is_some, length, option_copied, option_map, IfOk, IfSome, IsSome, None, OnErr, OnOk, Option};
 ghost use Rattle.std.specs.Option.{ForSome};
 ghost use Rattle.im_journal.specs.Stale.{stale_rows};
+ghost use Rattle.im_history.specs.Contents.{unit_bytes};
 ghost use Rattle.im_history.specs.declared.entry.What.TheVariants.{Evict, Memory};
 ghost use Rattle.im_directory.specs.Effects.{HasRoom, IsBefore, IsBegun, IsCancelled, IsDropped, IsNew, IsNoted, IsSwitched, SameTold};
+ghost use Rattle.im_directory.specs.Lists.{IsFirst, NonePasses, is_due, is_empty, is_stale, used_in};
 ghost use Rattle.im_directory.specs.Slots.{build_in, living_in, notes_in, stale_told, told_at, unit_in};
 ghost use Rattle.im_directory.specs.Sound.{IsAlive};
+ghost use Rattle.im_directory.specs.inner.Placed.{IsOut};
 
 use crate::builds::Builds;
+use crate::journals::{Current, Growing};
 use crate::shelves::Shelves;
-use crate::slot::{Current, Growing};
-use im_history::{Catalog, Change, Held};
+use im_history::{Catalog, Change, Held, UnitLike};
 use im_values::NoMemory;
 use std::alloc::Global;
 use std::marker::Model;
@@ -17,25 +20,25 @@ use std::sync::Arc;
 
 /// The column units of every extent, with their journals, and the builds.
 #[derive(Drop)]
-pub struct Directory<U> {
+pub struct Directory<U: UnitLike> {
     alloc: Global,
     shelves: Shelves<U>,
     builds: Builds,
 }
 
-impl<U> Model for Directory<U> {
+impl<U: UnitLike> Model for Directory<U> {
     ghost use Rattle.im_directory.specs.Slots.{Kept};
 
     ghost Value = { Kept U };
 
-    ghost use Rattle.im_directory.specs.Sound.{IsSound};
+    ghost use Rattle.im_directory.specs.inner.Placed.{IsPlaced};
 
     ghost view = { λ d. record { slots = d.shelves; builds = d.builds } };
 
-    ghost invariant = { λ d. IsSound (record { slots = d.shelves; builds = d.builds }) };
+    ghost invariant = { λ d. IsPlaced (record { slots = d.shelves; builds = d.builds }) };
 }
 
-impl<U: Drop> Directory<U> {
+impl<U: UnitLike> Directory<U> {
     /// No units and no builds. It takes no memory.
     pub fn new(alloc: Global) -> Directory<U>
         ensures { IsNew result }
@@ -114,6 +117,38 @@ impl<U: Drop> Directory<U> {
         }
     }
 
+    /// The bytes that all current units count for together. It takes constant time.
+    pub fn used(&self) -> u64
+        ensures { result ≡ used_in U.content self.now.slots }
+    {
+        self.shelves.used()
+    }
+
+    /// The first extent of a table that has no unit, and for which a build may begin. There is always one, but it may lie
+    /// behind the table's last row. It takes constant time.
+    pub fn first_empty(&self, table: u32) -> u64
+        ensures { IsFirst is_empty self.now table result }
+    {
+        self.shelves.first_empty(table)
+    }
+
+    /// The first extent of a table whose unit is past the threshold, and for which a build may begin. It takes constant
+    /// time.
+    pub fn first_due(&self, table: u32) -> Option<u64>
+        ensures due { IfSome result (λ extent. IsFirst (is_due U.content) self.now table extent) }
+        ensures none { result ≡ None → NonePasses (is_due U.content) self.now table }
+    {
+        self.shelves.first_due(table)
+    }
+
+    /// The first extent of a table whose unit has a stale row, and for which a build may begin. It takes constant time.
+    pub fn first_stale(&self, table: u32) -> Option<u64>
+        ensures stale { IfSome result (λ extent. IsFirst (is_stale U.content) self.now table extent) }
+        ensures none { result ≡ None → NonePasses (is_stale U.content) self.now table }
+    {
+        self.shelves.first_stale(table)
+    }
+
     /// Begins a build, which is the extent's living one, with an empty journal.
     ///
     /// It costs one for each extent of the table that is new. After an error some of them may be there.
@@ -127,9 +162,9 @@ impl<U: Drop> Directory<U> {
         let table = held.task.table;
         let extent = held.task.extent;
         let id = held.task.id;
-        self.shelves.reserve(table, extent)?;
+        let room = self.shelves.reserve(table, extent)?;
         self.builds.push(held)?;
-        self.shelves.begin(table, extent, id);
+        self.shelves.begin(table, extent, id, room);
         Ok(())
     }
 
@@ -157,7 +192,8 @@ impl<U: Drop> Directory<U> {
     /// Ends a held build that nothing killed: its unit is the extent's current one, with the build's journal. It answers
     /// the unit that was current before. It takes no memory.
     pub fn switch(&mut self, id: u64, unit: Arc<U>) -> Option<Arc<U>>
-        requires { IsAlive self.old id }
+        requires alive { IsAlive self.old id }
+        requires room { used_in U.content self.old.slots + unit_bytes (U.content unit.value) < 2 ^ 64 }
         ensures switched { ForSome (build_in self.old id) (λ held. IsSwitched self.old self.new held unit.value) }
         ensures before { ForSome (build_in self.old id) (λ held. option_map (λ unit. unit.value) result ≡ unit_in self.old held.task.table held.task.extent) }
     {
@@ -166,34 +202,47 @@ impl<U: Drop> Directory<U> {
         unit_of(before)
     }
 
-    /// Ends a held build without its unit. It takes no memory.
-    pub fn cancel(&mut self, id: u64)
+    /// Ends a held build without its unit: where that did not fit into the area, the extent waits. It takes no memory.
+    pub fn cancel(&mut self, id: u64, full: bool)
         requires { IsSome (build_in self.old id) }
-        ensures { ForSome (build_in self.old id) (λ held. IsCancelled self.old self.new held) }
+        ensures { ForSome (build_in self.old id) (λ held. IsCancelled self.old self.new held full) }
     {
         let held = self.builds.end(id);
-        self.shelves.cancel(held.task.table, held.task.extent, id);
+        self.shelves
+            .cancel(held.task.table, held.task.extent, id, full);
     }
 
-    /// Takes an extent out of the column store by the entry at this place: its unit is gone, and its living build is
-    /// killed. It answers the unit. It takes constant time.
+    /// Takes an extent out of the column store by the entry at this place: its unit is gone, its living build is killed, and
+    /// no extent waits any more. It answers the unit. It costs the extents that wait, and a step for each table.
     pub fn evict(&mut self, place: u64, table: u32, extent: u64) -> Option<Arc<U>>
         ensures dropped { IsDropped self.old self.new place (Evict table extent) }
+        ensures before { option_map (λ unit. unit.value) result ≡ unit_in self.old table extent }
+    {
+        let unit = self.take_out(place, table, extent);
+        self.shelves.rest();
+        unit
+    }
+
+    /// Takes a table out of the column store by the entry at this place: the units of all its extents are gone, their
+    /// living builds are killed, and no extent waits any more. It costs the table's extents, and what [`Directory::evict`]
+    /// does, and takes no memory.
+    pub fn drop_table(&mut self, place: u64, table: u32)
+        ensures { IsDropped self.old self.new place (Memory table None) }
+    {
+        for extent in 0..self.shelves.extents(table) {
+            drop(self.take_out(place, table, extent));
+        }
+        self.shelves.rest();
+    }
+
+    /// Takes an extent out of the column store by the entry at this place, and lets those wait that do. It answers the unit.
+    fn take_out(&mut self, place: u64, table: u32, extent: u64) -> Option<Arc<U>>
+        ensures out { IsOut self.old self.new place table extent }
         ensures before { option_map (λ unit. unit.value) result ≡ unit_in self.old table extent }
     {
         let (current, growing) = self.shelves.evict(table, extent);
         self.builds.kill(id_of(growing), place);
         unit_of(current)
-    }
-
-    /// Takes a table out of the column store by the entry at this place: the units of all its extents are gone, and their
-    /// living builds are killed. It costs the table's extents, and takes no memory.
-    pub fn drop_table(&mut self, place: u64, table: u32)
-        ensures { IsDropped self.old self.new place (Memory table None) }
-    {
-        for extent in 0..self.shelves.extents(table) {
-            drop(self.evict(place, table, extent));
-        }
     }
 }
 

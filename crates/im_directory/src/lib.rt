@@ -5,16 +5,22 @@
 //! [`Directory`] as the slots of each table by extent and the held builds by number, and read them through functions of
 //! `specs/Slots.antt` that answer nothing past the ends, so that growth is never seen.
 //!
+//! Lists of flags say which extents are taken, due, stale, and waiting, so that the first extent that a build may be chosen
+//! for is found at once.
+//!
 //! The main promise is `Agrees` of `specs/Agrees.antt`: where the directory agrees with a history, what is stale of a unit
 //! at an SCN is exactly what commits behind the unit's SCN and up to that one touched. `proofs/ForCallers.antt` has its
 //! law for each kind of entry.
 //!
-//! Start with `specs/Slots.antt`, then `directory.rt`, `specs/Effects.antt` and `specs/Agrees.antt`.
+//! Start with `specs/Slots.antt`, then `directory.rt`, `specs/Effects.antt`, `specs/Lists.antt` and `specs/Agrees.antt`.
 #![tactic(auto)]
 
 mod agreement;
 mod builds;
 mod directory;
+mod journals;
+mod lists;
+mod marks;
 mod noting;
 mod range;
 mod shelves;

@@ -3,10 +3,10 @@ ghost use Rattle.im_directory.specs.Steps.{AreBefore, AreNoted, HasNotesRoom, Is
 
 use crate::range::ExtentRange;
 use crate::shelves::Shelves;
-use im_history::{Catalog, Change};
+use im_history::{Catalog, Change, UnitLike};
 use im_values::NoMemory;
 
-impl<U: Drop> Shelves<U> {
+impl<U: UnitLike> Shelves<U> {
     /// Makes room in the journals for the notes of a commit of these changes, and for no more.
     ///
     /// It costs two steps for each change, and two look-ups of a table for each run of changes to one extent. After an

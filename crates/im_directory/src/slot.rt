@@ -1,35 +1,36 @@
 ghost use Rattle.std.specs.Prelude.{◌≡◌, length, option_copied, option_map, IfOk, IsSome, OnOk};
 ghost use Rattle.im_journal.specs.Stale.{stale_rows, stale_rows_at};
 ghost use Rattle.im_directory.specs.Slots.{notes_of_unit, nothing, told};
-ghost use Rattle.im_directory.specs.Steps.{MayNote, slot_begun, slot_cancelled, slot_counted, slot_dropped, slot_noted, slot_roomy, slot_switched, slot_uncounted};
+ghost use Rattle.im_directory.specs.Steps.{MayNote, slot_begun, slot_cancelled, slot_counted, slot_dropped, slot_noted, slot_rested, slot_switched, slot_uncounted};
+ghost use Rattle.im_directory.specs.inner.Listed.{marks_of};
+ghost use Rattle.im_directory.specs.inner.Whole.{whole};
 
-use im_journal::Journal;
+use crate::journals::{Current, Growing, Journals};
+use crate::marks::Marks;
+use im_history::UnitLike;
 use im_tables::Cell;
 use im_values::NoMemory;
 use std::alloc::Global;
+use std::marker::Model;
 use std::sync::Arc;
 
-/// An extent's current unit, and the journal of what was touched since its SCN.
-#[derive(Drop)]
-pub struct Current<U> {
-    pub unit: Arc<U>,
-    pub journal: Journal,
-}
-
-/// An extent's living build, and the journal of what was touched since it began.
-#[derive(Drop)]
-pub struct Growing {
-    pub id: u64,
-    pub journal: Journal,
-}
-
 /// What is kept of an extent.
+///
+/// Its journals are kept apart, and only where there is a unit or a build: each other extent takes 24 bytes.
 #[derive(Drop)]
 pub struct Slot<U> {
-    pub current: Option<Current<U>>,
-    pub growing: Option<Growing>,
-    /// How many notes a commit will make in each journal, counted while room is made for them.
-    pub wanted: u64,
+    /// Whether the extent waits for room in the area.
+    waits: bool,
+    journals: Option<Box<Journals<U>>>,
+}
+
+impl<U> Model for Slot<U> {
+    ghost use Rattle.im_directory.specs.Slots.{Slot as AnySlot};
+    ghost use Rattle.im_directory.specs.inner.Whole.{slot_of};
+
+    ghost Value = { AnySlot U };
+
+    ghost view = { λ s. slot_of s.waits s.journals };
 }
 
 impl<U: Drop> Cell for Slot<U> {
@@ -37,20 +38,19 @@ impl<U: Drop> Cell for Slot<U> {
 
     fn empty(_alloc: Global) -> Slot<U> {
         Slot {
-            current: None,
-            growing: None,
-            wanted: 0,
+            waits: false,
+            journals: None,
         }
     }
 }
 
-impl<U> Slot<U> {
+impl<U: Drop> Slot<U> {
     /// The number of the living build.
     pub fn living(&self) -> Option<u64>
         ensures { result ≡ option_map (λ growing. growing.id) self.now.growing }
     {
-        match &self.growing {
-            Some(growing) => Some(growing.id),
+        match &self.journals {
+            Some(journals) => journals.living(),
             None => None,
         }
     }
@@ -59,8 +59,8 @@ impl<U> Slot<U> {
     pub fn unit(&self) -> Option<&Arc<U>>
         ensures { option_copied result ≡ option_map (λ current. current.unit) self.now.current }
     {
-        match &self.current {
-            Some(current) => Some(&current.unit),
+        match &self.journals {
+            Some(journals) => journals.unit(),
             None => None,
         }
     }
@@ -69,8 +69,8 @@ impl<U> Slot<U> {
     pub fn stale_at(&self, alloc: Global, scn: u64) -> Result<Vec<u64>, NoMemory>
         ensures { IfOk result (λ rows. rows.items ≡ stale_rows_at (notes_of_unit (told self.now).current) scn) }
     {
-        match &self.current {
-            Some(current) => current.journal.stale_at(alloc, scn),
+        match &self.journals {
+            Some(journals) => journals.stale_at(alloc, scn),
             None => Ok(Vec::new(alloc)),
         }
     }
@@ -79,8 +79,8 @@ impl<U> Slot<U> {
     pub fn stale_count(&self) -> u64
         ensures { result ≡ length (stale_rows (notes_of_unit (told self.now).current)) }
     {
-        match &self.current {
-            Some(current) => current.journal.stale_count(),
+        match &self.journals {
+            Some(journals) => journals.stale_count(),
             None => 0,
         }
     }
@@ -90,11 +90,8 @@ impl<U> Slot<U> {
         requires { MayNote self.old scn }
         ensures { self.new ≡ slot_noted (row, scn) self.old }
     {
-        if let Some(current) = &mut self.current {
-            current.journal.note(row, scn);
-        }
-        if let Some(growing) = &mut self.growing {
-            growing.journal.note(row, scn);
+        if let Some(journals) = &mut self.journals {
+            journals.note(row, scn);
         }
     }
 
@@ -102,7 +99,9 @@ impl<U> Slot<U> {
     pub fn uncount(&mut self)
         ensures { self.new ≡ slot_uncounted self.old }
     {
-        self.wanted = 0;
+        if let Some(journals) = &mut self.journals {
+            journals.uncount();
+        }
     }
 
     /// Counts one note more, and makes room for as many as are counted. Where there is no journal, nothing is counted.
@@ -110,38 +109,21 @@ impl<U> Slot<U> {
         ensures same { told self.new ≡ told self.old }
         ensures counted { OnOk result (self.new ≡ slot_counted self.old) }
     {
-        if self.current.is_none() && self.growing.is_none() {
-            return Ok(());
+        match &mut self.journals {
+            Some(journals) => journals.count(),
+            None => Ok(()),
         }
-        let Some(wanted) = self.wanted.checked_add(1) else {
-            return Err(NoMemory);
-        };
-        self.make_room(wanted)
     }
 
-    /// Makes room for so many notes, and sets their count.
-    fn make_room(&mut self, wanted: u64) -> Result<(), NoMemory>
-        ensures same { told self.new ≡ told self.old }
-        ensures counted { OnOk result (self.new ≡ slot_roomy wanted self.old) }
-    {
-        self.wanted = wanted;
-        if let Some(current) = &mut self.current {
-            current.journal.reserve(wanted)?;
-        }
-        if let Some(growing) = &mut self.growing {
-            growing.journal.reserve(wanted)?;
-        }
-        Ok(())
-    }
-
-    /// Begins a build, with an empty journal. It takes no memory.
-    pub fn begin(&mut self, alloc: Global, id: u64)
+    /// Begins a build, with an empty journal. It takes no memory: where there is no room yet for a unit and a build, it takes
+    /// this one.
+    pub fn begin(&mut self, alloc: Global, id: u64, room: Box<Journals<U>>)
+        requires { whole room.value ≡ nothing }
         ensures { self.new ≡ slot_begun id self.old }
     {
-        self.growing = Some(Growing {
-            id,
-            journal: Journal::new(alloc),
-        });
+        let mut journals = self.journals.take().unwrap_or(room);
+        journals.begin(alloc, id);
+        self.journals = Some(journals);
     }
 
     /// Makes the unit of the living build current, with the build's journal, and answers the one that was current.
@@ -150,27 +132,67 @@ impl<U> Slot<U> {
         ensures slot { self.new ≡ slot_switched unit self.old }
         ensures before { result ≡ self.old.current }
     {
-        let Growing { id: _, journal } = self.growing.take().unwrap();
-        self.current.replace(Current { unit, journal })
+        match &mut self.journals {
+            Some(journals) => journals.switch(unit),
+            None => None,
+        }
     }
 
-    /// Ends the living build, if it is the one of this number.
-    pub fn cancel(&mut self, id: u64)
-        ensures { self.new ≡ slot_cancelled id self.old }
+    /// Ends the living build, if it is the one of this number, without its unit. The extent waits where that did not fit.
+    /// Where there is no unit either, the room for both is given back.
+    pub fn cancel(&mut self, id: u64, full: bool)
+        ensures { self.new ≡ slot_cancelled id full self.old }
     {
-        if let Some(growing) = &self.growing {
-            if growing.id == id {
-                self.growing = None;
+        self.waits = self.waits || full;
+        if let Some(mut journals) = self.journals.take() {
+            journals.cancel(id);
+            if !journals.is_none() {
+                self.journals = Some(journals);
             }
         }
     }
 
-    /// Takes the current unit and the living build away, and answers both.
+    /// Takes the current unit and the living build away, and answers both. The room for them is given back.
     pub fn evict(&mut self) -> (Option<Current<U>>, Option<Growing>)
         ensures slot { self.new ≡ slot_dropped self.old }
         ensures unit { result.0 ≡ self.old.current }
         ensures build { result.1 ≡ self.old.growing }
     {
-        (self.current.take(), self.growing.take())
+        self.waits = false;
+        match self.journals.take() {
+            Some(journals) => {
+                let Journals {
+                    current,
+                    growing,
+                    wanted: _,
+                } = Box::into_inner(journals);
+                (current, growing)
+            }
+            None => (None, None),
+        }
+    }
+
+    /// The extent waits no more.
+    pub fn rest(&mut self)
+        ensures { self.new ≡ slot_rested self.old }
+    {
+        self.waits = false;
+    }
+}
+
+impl<U: UnitLike> Slot<U> {
+    /// What the lists are to say of the extent. It takes constant time.
+    pub fn marks(&self) -> Marks
+        ensures { result ≡ marks_of U.content (told self.now) }
+    {
+        match &self.journals {
+            Some(journals) => journals.marks(self.waits),
+            None => Marks {
+                taken: self.waits,
+                due: false,
+                stale: false,
+                waits: self.waits,
+            },
+        }
     }
 }

@@ -1,24 +1,23 @@
 -- In a legal history each held build is of an extent that had a row number when it began.
-use Rattle.std.proofs.Common.{◌≡◌, ℕ, ◌*◌, ◌==◌, ◌&&◌, ◌<◌, ◌≤◌, Bool, true, false, [], ◌∷◌, ◌++◌, length, map, Option, Some, None, if◌then◌else◌, nat_lt, refl, sym, ap, ap₂, ◌∙◌, subst, arith}
+use Rattle.std.proofs.Common.{◌≡◌, ℕ, ◌*◌, ◌==◌, ◌<◌, ◌≤◌, Bool, true, false, [], ◌∷◌, ◌++◌, length, map, Option, Some, None, if◌then◌else◌, refl, sym, ap, ap₂, ◌∙◌, subst, arith}
 use Rattle.std.specs.Option.{option_map, option_or}
-use Rattle.std.proofs.lemmas.Bool.Decides.{nat_tests}
 use Rattle.im_history.specs.declared.entry.Entry.{Entry}
 use Rattle.im_history.specs.declared.entry.What.{What}
 use Rattle.im_history.specs.declared.entry.What.TheVariants.{Build, Switch, Cancel}
 use Rattle.im_history.specs.declared.limits.Limits.{Limits}
 use Rattle.im_history.specs.declared.task.Held.{Held}
 use Rattle.im_history.specs.Commits.{scn}
-use Rattle.im_history.specs.Grid.{extents_for}
 use Rattle.im_history.specs.History.{History}
 use Rattle.im_history.specs.Legal.{Exists, IsAllowed, IsLegal, MayBuild}
 use Rattle.im_history.specs.Tables.{given, table_at}
 use Rattle.im_history.specs.Transactions.{or_here}
-use Rattle.im_history.specs.Units.{Content, columns_of, content_at, held_at, is_member, killed_by, rows_of_extent, task_content, unit_row}
+use Rattle.im_history.specs.Units.{Content, columns_of, content_at, held_at, killed_by, rows_of_extent, task_content, unit_row}
 use Rattle.im_history.specs.Views.{per_at}
 use Rattle.im_history.proofs.BuildLaws.{begun_at, held_at-build, held_at-cancel, held_at-nil, held_at-plain, held_at-switch}
 use Rattle.im_history.proofs.GivenLaws.{given-grows}
 use Rattle.im_history.proofs.GridLaws.{first_within}
 use Rattle.im_history.proofs.Laws.{IsLegal-pop, scn-push}
+use Rattle.im_history.proofs.NextLaws.{next-is}
 use Rattle.im_history.proofs.RowLaws.{each_history}
 use Rattle.im_history.proofs.TableLaws.{Exists-push, columns-push, per_at-push}
 use Rattle.im_history.proofs.UnitLaws.{is_plain}
@@ -50,20 +49,15 @@ IsWithin-killed h place what held within = by _
     by true = record { exists = within.exists; per = within.per; columns = within.columns; first = within.first; given = within.given; scn = within.scn }
     by false = within
 
-both : (a b : Bool) → (a && b) ≡ true → (a ≡ true) × (b ≡ true)
-both true b is = (refl, is)
-both false b is = cc
-
 -- the build that begins
-IsWithin-begun : (h : History) (who id table extent : ℕ) (trickle : Bool) → MayBuild h id table extent → IsWithin h (begun_at h who id table extent trickle)
+IsWithin-begun : (h : History) (who id table extent : ℕ) (trickle : Bool) → MayBuild h id table extent trickle → IsWithin h (begun_at h who id table extent trickle)
 IsWithin-begun h who id table extent trickle may =
-    let rest = (both (is_member (table_at h table)) _ may.may).1 in
-    let some : nat_lt extent (extents_for (given h table) (per_at h table)) ≡ true = (both _ _ rest).0 in
+    let known = next-is h _ may.comes in
     record {
-      exists = may.exists;
+      exists = known.exists;
       per = refl;
       columns = refl;
-      first = first_within (given h table) (per_at h table) extent (grind (arith, nat_tests, some));
+      first = first_within (given h table) (per_at h table) extent known.within.within;
       given = omega arith;
       scn = omega arith;
     }

@@ -1,13 +1,18 @@
+mod MemoryLemmas
+pub mod AreaLaws
 pub mod BuildLaws
 pub mod ContentLaws
+pub mod ExtentLaws
 pub mod FitLaws
 pub mod GivenLaws
 pub mod GridLaws
 pub mod HeldLaws
 pub mod LastLaws
 pub mod Laws
-mod MemoryLemmas
+pub mod LeaveLaws
+pub mod NextLaws
 pub mod PutLaws
+pub mod QueueLaws
 pub mod Replay
 pub mod RowLaws
 pub mod ShapeLaws

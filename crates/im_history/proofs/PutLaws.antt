@@ -1,7 +1,6 @@
 -- Rows that were put from a row number on, by their places.
-use Rattle.std.proofs.Common.{◌≡◌, ℕ, zero, suc, ◌+◌, ◌<◌, List, [], ◌∷◌, length, Option, Some, refl, ap, ◌∙◌, arith}
+use Rattle.std.proofs.Common.{◌≡◌, ℕ, zero, suc, ◌+◌, List, [], ◌∷◌, length, Option, Some, refl, ap, ◌∙◌, arith}
 use Rattle.std.specs.List.{slice_get}
-use Rattle.im_history.specs.declared.change.Change.{Change}
 use Rattle.im_history.specs.Puts.{put_from}
 use Rattle.im_history.specs.Rows.{Row}
 

@@ -11,6 +11,10 @@ History = List Entry
 abbrev pub Adds : History → ℕ → What → History → Type 0
 Adds old who what new = new ≡ old ++ record { who = who; what = what } ∷ []
 
+-- a history with one more entry
+abbrev pub behind : History → ℕ → What → History
+behind old who what = old ++ record { who = who; what = what } ∷ []
+
 -- the history read on from where `before` stood already
 abbrev pub replay_from : {S : Type 0} → (History → S → Entry → S) → History → S → History → S
 replay_from step before state [] = state

@@ -11,15 +11,18 @@ use Rattle.im_history.specs.declared.entry.What.TheVariants.{Create, Memory, Beg
 use Rattle.im_history.specs.declared.limits.Limits.{Limits}
 use Rattle.im_history.specs.declared.look.TableInfo.{TableInfo}
 use Rattle.im_history.specs.declared.task.Held.{Held}
-use Rattle.im_history.specs.Cursors.{Opened, cursor_at, is_cursor_open}
+use Rattle.im_history.specs.Cursors.{Opened, cursor_at, is_cursor_open, opened as cursors_of}
+use Rattle.im_history.specs.Area.{task_bytes, used}
 use Rattle.im_history.specs.Grid.{Grid, IsInRange}
 use Rattle.im_history.specs.History.{History}
+use Rattle.im_history.specs.Leaves.{has_left}
 pub use Rattle.im_history.specs.Puts.{put_from}
+use Rattle.im_history.specs.Queue.{next}
 use Rattle.im_history.specs.Refusals.{create_refusal, begin_refusal, open_refusal, insert_refusal, write_refusal}
 use Rattle.im_history.specs.Rows.{Row, row_after}
 use Rattle.im_history.specs.Tables.{table_at, given}
 use Rattle.im_history.specs.Transactions.{is_open, pending}
-use Rattle.im_history.specs.Units.{builds, held_at, may_populate, unit}
+use Rattle.im_history.specs.Units.{builds, held_at, unit}
 use Rattle.im_history.specs.Views.{seen_by}
 
 -- a table may be created: the session has no open transaction, nothing refuses it, and it has one column
@@ -89,11 +92,10 @@ pub record MaySetMemory (history : History) (who table : ℕ) : Type 0 where
   pub exists : Exists history table
   pub idle : is_open history who ≡ false
 
--- a build may begin: its table exists, its extent may be populated, and it has the next number
-pub record MayBuild (history : History) (id table extent : ℕ) : Type 0 where
-  pub exists : Exists history table
-  pub may : may_populate history table extent ≡ true
-  pub next : id ≡ builds history + 1
+-- a build may begin: it is the one that comes next, and has the next number
+pub record MayBuild (history : History) (id table extent : ℕ) (trickle : Bool) : Type 0 where
+  pub comes : next history ≡ Some (record { table = table; extent = extent; trickle = trickle })
+  pub numbered : id ≡ builds history + 1
 
 -- a build may end: whoever ends it began it, and it is held
 pub record MayEnd (history : History) (who id : ℕ) : Type 0 where
@@ -101,12 +103,34 @@ pub record MayEnd (history : History) (who id : ℕ) : Type 0 where
   pub is : held_at history id ≡ Some held
   pub mine : held.who ≡ who
 
--- its unit may become current: nothing killed the build
-pub record MaySwitch (history : History) (who id : ℕ) : Type 0 where
+-- what all units take together with that of a held build
+abbrev pub used_with : History → Held → ℕ
+used_with history held = used history + task_bytes history held.task
+
+-- its unit may become current: nothing killed the build, and the unit fits into the area beside all others, the one that it
+-- replaces among them
+pub record MaySwitch (limits : Limits) (history : History) (who id : ℕ) : Type 0 where
   pub may : MayEnd history who id
   pub lives : may.held.killed ≡ None
+  pub fits : used_with history may.held ≤ limits.area
 
--- the entry is allowed after this history; Trickle and Leave are not made yet
+-- the unit of a held build does not fit into the area, and nothing killed the build
+pub record IsFull (limits : Limits) (history : History) (held : Held) : Type 0 where
+  pub lives : held.killed ≡ None
+  pub over : limits.area < used_with history held
+
+-- a build may be cancelled: as one whose unit does not fit only where that is so
+pub record MayCancel (limits : Limits) (history : History) (who id : ℕ) (full : Bool) : Type 0 where
+  pub may : MayEnd history who id
+  pub cause : full ≡ true → IsFull limits history may.held
+
+-- a session may leave, once: it has no open transaction and no open cursor
+pub record MayLeave (history : History) (who : ℕ) : Type 0 where
+  pub idle : is_open history who ≡ false
+  pub closed : cursors_of history who ≡ []
+  pub once : has_left history who ≡ false
+
+-- the entry is allowed after this history
 abbrev pub IsAllowed : Limits → History → ℕ → What → Type 0
 IsAllowed limits history who (Create name schema grid) = MayCreate history who name schema grid
 IsAllowed limits history who (Begin mode) = begin_refusal history who ≡ None
@@ -116,12 +140,12 @@ IsAllowed limits history who (Write changes) = IsInsert limits history who chang
 IsAllowed limits history who Commit = Unit {0}
 IsAllowed limits history who Rollback = IsTrue (is_open history who)
 IsAllowed limits history who (Memory table priority) = MaySetMemory history who table
-IsAllowed limits history who (Build id table extent trickle) = MayBuild history id table extent
-IsAllowed limits history who (Switch id) = MaySwitch history who id
-IsAllowed limits history who (Cancel id full) = MayEnd history who id × (full ≡ false)
+IsAllowed limits history who (Build id table extent trickle) = MayBuild history id table extent trickle
+IsAllowed limits history who (Switch id) = MaySwitch limits history who id
+IsAllowed limits history who (Cancel id full) = MayCancel limits history who id full
 IsAllowed limits history who (Evict table extent) = IsTrue (is_some (unit history table extent))
-IsAllowed limits history who (Trickle count) = ⊥
-IsAllowed limits history who Leave = ⊥
+IsAllowed limits history who (Trickle count) = Unit {0}
+IsAllowed limits history who Leave = MayLeave history who
 
 -- the entry may come after this history: whoever made it has a number, and what it records is allowed
 pub record MayFollow (limits : Limits) (history : History) (entry : Entry) : Type 0 where

@@ -1,10 +1,15 @@
+pub mod Area
 pub mod Commits
+pub mod Contents
 pub mod Cursors
+pub mod Extents
 pub mod Grid
 pub mod History
 pub mod Last
+pub mod Leaves
 pub mod Legal
 pub mod Puts
+pub mod Queue
 pub mod Refusals
 pub mod Rows
 pub mod Serving

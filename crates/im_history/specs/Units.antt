@@ -1,5 +1,5 @@
 -- Column units, as a history tells of them: the builds that are held, the units that are current, and their stale rows.
-use Rattle.std.specs.Prelude.{◌≡◌, ℕ, ◌+◌, ◌*◌, ◌==◌, ◌&&◌, ◌||◌, Bool, false, not, nat_le, nat_lt, List, [], ◌∷◌, ◌++◌, length, map, filter, Option, Some, None, is_none, is_some, if◌then◌else◌}
+use Rattle.std.specs.Prelude.{◌≡◌, ℕ, ◌+◌, ◌*◌, ◌==◌, ◌&&◌, ◌||◌, Bool, false, not, nat_le, nat_lt, List, [], ◌∷◌, ◌++◌, length, map, filter, Option, Some, None, if◌then◌else◌}
 use Rattle.std.specs.List.{find, range_with_len}
 use Rattle.std.specs.Option.{option_map}
 use Rattle.im_history.specs.declared.entry.What.{What}
@@ -8,7 +8,6 @@ use Rattle.im_history.specs.declared.look.TableInfo.{TableInfo}
 use Rattle.im_history.specs.declared.task.Held.{Held}
 use Rattle.im_history.specs.declared.task.Task.{Task}
 use Rattle.im_history.specs.Commits.{scn}
-use Rattle.im_history.specs.Grid.{extents_for}
 use Rattle.im_history.specs.History.{History, replay}
 use Rattle.im_history.specs.Rows.{Row, rows}
 use Rattle.im_history.specs.Tables.{table_at, given}
@@ -82,6 +81,11 @@ held history = replay (λ before so_far entry. held_after before entry.who so_fa
 abbrev pub held_at : History → ℕ → Option Held
 held_at history id = find (is_id id) (held history)
 
+-- the place of the entry that killed a held build
+abbrev pub killed_of : Option Held → Option ℕ
+killed_of None = None
+killed_of (Some held) = held.killed
+
 -- an extent's living build, unless it is the build of this number, which ends
 abbrev pub unless_ended : ℕ → Option ℕ → Option ℕ
 unless_ended id None = None
@@ -118,17 +122,6 @@ builds_after so_far Leave = so_far
 -- how many builds began: the next one has one number more
 unfoldable pub builds : History → ℕ
 builds history = replay (λ before so_far entry. builds_after so_far entry.what) 0 history
-
--- the table is a member of the column store
-abbrev pub is_member : Option TableInfo → Bool
-is_member None = false
-is_member (Some table) = is_some table.memory
-
--- a build of an extent may begin: its table is a member of the column store, and it has a row number and no living build
-abbrev pub may_populate : History → ℕ → ℕ → Bool
-may_populate history table extent =
-    is_member (table_at history table)
-    && (nat_lt extent (extents_for (given history table) (per_at history table)) && is_none (living history table extent))
 
 -- ---- units
 

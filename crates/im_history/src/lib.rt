@@ -37,7 +37,7 @@ pub use own::OwnChanges;
 pub use refused::{Refused, Why};
 pub use shape::Shape;
 pub use stored::History;
-pub use task::{Held, Task};
+pub use task::{Choice, Held, Task};
 pub use unit::UnitLike;
 pub use view::View;
 pub use who::{Who, callers_have_numbers};

@@ -18,6 +18,16 @@ pub struct Task {
     pub trickle: bool,
 }
 
+/// The extent whose unit is built next.
+#[derive(Clone, Copy, Debug, PartialEq, Eq)]
+pub struct Choice {
+    /// The table's number.
+    pub table: u32,
+    pub extent: u64,
+    /// Whether a credit for a trickle repopulation is spent on it.
+    pub trickle: bool,
+}
+
 /// A build that was begun and is not ended.
 #[derive(Debug, Drop)]
 pub struct Held {

@@ -1,16 +1,20 @@
 -- One side of a store that several may share: whom it speaks for, and how it sees the history go on.
-use Rattle.std.specs.Prelude.{◌≡◌, ℕ, ◌+◌, ◌==◌, Bool, true, false, [], ◌∷◌, ◌++◌, length, All, Option, Some, None, if◌then◌else◌}
+use Rattle.std.specs.Prelude.{◌≡◌, ℕ, ◌+◌, ◌-◌, ◌<◌, ◌≤◌, ◌==◌, Bool, true, false, [], ◌∷◌, ◌++◌, length, All, Option, Some, None, if◌then◌else◌}
 use Rattle.im_core.specs.declared.answers.Offer.{Offer}
 use Rattle.im_core.specs.declared.answers.Offer.TheVariants.{Task, Idle}
 use Rattle.im_core.specs.declared.answers.Switched.{Switched}
 use Rattle.im_core.specs.declared.answers.Switched.TheVariants.{Done, AreaFull, Cancelled}
-use Rattle.im_core.specs.Answers.{content_in, killed_of}
+use Rattle.im_core.specs.Answers.{content_in, killed_of, task_bytes}
 use Rattle.im_history.specs.declared.entry.What.{What}
-use Rattle.im_history.specs.declared.entry.What.TheVariants.{Build, Switch, Cancel}
+use Rattle.im_history.specs.declared.entry.What.TheVariants.{Switch, Cancel}
 use Rattle.im_history.specs.declared.limits.Limits.{Limits}
+use Rattle.im_history.specs.declared.task.Choice.{Choice}
 use Rattle.im_history.specs.declared.task.Task.{Task as TaskInfo}
-use Rattle.im_history.specs.History.{History}
-use Rattle.im_history.specs.Units.{Content, builds, held_at, may_populate, task_at, unit_content}
+use Rattle.im_history.specs.Area.{used}
+use Rattle.im_history.specs.History.{History, behind}
+use Rattle.im_history.specs.Leaves.{leaves}
+use Rattle.im_history.specs.Queue.{build_of, next, task_of}
+use Rattle.im_history.specs.Units.{Content, held_at, unit_content}
 use Rattle.im_plan.specs.Goes.{After}
 
 -- a side of a store: whether nobody else has the store, and the number that it speaks for, if it is not every number
@@ -68,24 +72,30 @@ pub record Missed (old new : Known) (holds : History → Type 0) : Type 0 where
   pub now : new ≡ record old { log = at; misses = missed old.misses }
   pub fact : holds at
 
--- a build began, or could not
-abbrev pub Offered : Known → Known → ℕ → ℕ → ℕ → Bool → Offer → Type 0
-Offered old new who table extent trickle (Task task) =
-    Added old new who (λ at. Build (builds at + 1) table extent trickle) (λ at.
-    (may_populate at table extent ≡ true) × (task ≡ task_at at (builds at + 1) table extent trickle))
-Offered old new who table extent trickle (Idle place left) =
-    Missed old new (λ at. (may_populate at table extent ≡ false) × (place ≡ length at) × (left ≡ 0))
+-- the build that comes next began, or there was none
+abbrev pub Offered : Known → Known → ℕ → Offer → Type 0
+Offered old new who (Task task) =
+    (choice : Choice) × Added old new who (λ at. build_of at choice) (λ at. (next at ≡ Some choice) × (task ≡ task_of at choice))
+Offered old new who (Idle place left) = Missed old new (λ at. (next at ≡ None) × (place ≡ length at) × (left ≡ leaves at))
 
 module _ {U : Type 0} (content : U → Content) where
-  -- a finished build became current, and the unit that was current is handed back; or the build was found dead
+  -- a finished build became current, and the unit that was current is handed back; or its unit did not fit into the area; or the
+  -- build was found dead
   abbrev pub IsSwitched : Known → Known → ℕ → TaskInfo → Switched U → Type 0
-  IsSwitched old new who task (Done place used before) =
+  IsSwitched old new who task (Done place sum before) =
       Added old new who (λ at. Switch task.id) (λ at.
       (killed_of (held_at at task.id) ≡ None)
+      × (used at + task_bytes at task ≤ old.limits.area)
       × (place ≡ length at)
-      × (used ≡ 0)
+      × (sum ≡ used (behind at who (Switch task.id)))
       × (content_in content before ≡ unit_content at task.table task.extent))
-  IsSwitched old new who task (AreaFull place need free) = ⊥
+  IsSwitched old new who task (AreaFull place need free) =
+      Added old new who (λ at. Cancel task.id true) (λ at.
+      (killed_of (held_at at task.id) ≡ None)
+      × (old.limits.area < used at + task_bytes at task)
+      × (place ≡ length at)
+      × (need ≡ task_bytes at task)
+      × (free ≡ old.limits.area - used at))
   IsSwitched old new who task (Cancelled place killed) =
       Added old new who (λ at. Cancel task.id false) (λ at.
       (killed_of (held_at at task.id) ≡ Some killed) × (place ≡ length at))

@@ -1,8 +1,11 @@
 ghost use Rattle.std.specs.Prelude.{◌≡◌, ◌+◌, ◌<◌, ◌≤◌, length, true, false, Some, None, IfOk, IfErr};
 ghost use Rattle.im_history.specs.declared.entry.What.TheVariants as what;
+ghost use Rattle.im_history.specs.Area.{used};
 ghost use Rattle.im_history.specs.Commits.{scn};
 ghost use Rattle.im_history.specs.Cursors.{is_cursor_open};
-ghost use Rattle.im_history.specs.Legal.{Exists, IsLawful, MayInsert, MaySetMemory, MayWrite, put_from};
+ghost use Rattle.im_history.specs.History.{behind};
+ghost use Rattle.im_history.specs.Legal.{Exists, IsLawful, MayInsert, MayLeave, MaySetMemory, MayWrite, put_from};
+ghost use Rattle.im_history.specs.Queue.{credits};
 ghost use Rattle.im_history.specs.Refusals.{begin_refusal, create_refusal, insert_refusal, open_refusal, write_refusal};
 ghost use Rattle.im_history.specs.Tables.{tables, given};
 ghost use Rattle.im_history.specs.Transactions.{is_open};
@@ -195,20 +198,11 @@ pub trait Reach<U: UnitLike> {
         ensures err { IfErr result (λ why. Found (known self.old) (known self.new) (λ at. IsRefusal at None why)) }
         ensures lawful { IsLawful (known self.new).limits (known self.new).log };
 
-    /// Begins a build of an extent: of a table in the column store, which has a row number and no living build. Where it
-    /// is none of these there is nothing to build.
-    fn build_of<R: Wait>(
-        &mut self,
-        rt: &R,
-        who: u32,
-        table: u32,
-        extent: u64,
-        trickle: bool,
-    ) -> Result<Offer, Refused>
+    /// Begins the build that comes next, where there is one.
+    fn build<R: Wait>(&mut self, rt: &R, who: u32) -> Result<Offer, Refused>
         requires session { who < NUMBERS }
         requires speaks { speaks (known self.old).side who ≡ true }
-        requires exists { Exists (known self.old).log table }
-        ensures ok { IfOk result (λ offer. Offered (known self.old) (known self.new) who table extent trickle offer) }
+        ensures ok { IfOk result (λ offer. Offered (known self.old) (known self.new) who offer) }
         ensures err { IfErr result (λ why. Missed (known self.old) (known self.new) (λ at. IsRefusal at None why)) }
         ensures lawful { IsLawful (known self.new).limits (known self.new).log };
 
@@ -232,7 +226,8 @@ pub trait Reach<U: UnitLike> {
         ensures lawful { IsLawful (known self.new).limits (known self.new).log };
 
     /// Makes the unit of a finished build current, with the journal of what was touched since the build began, and hands
-    /// back the unit that was. A build that was killed is cancelled. It takes no memory.
+    /// back the unit that was. A build that was killed is cancelled, and so is one whose unit does not fit into the area
+    /// beside all that is there: its extent then waits. It takes no memory.
     fn switch<R: Wait>(&mut self, rt: &R, who: u32, task: Task, unit: Arc<U>) -> Switched<U>
         requires session { who < NUMBERS }
         requires speaks { speaks (known self.old).side who ≡ true }
@@ -263,9 +258,28 @@ pub trait Reach<U: UnitLike> {
         requires exists { Exists (known self.old).log table }
         ensures ok { IfOk result (λ evicted. Added (known self.old) (known self.new) who (λ at. what.Evict table extent) (λ at.
             (evicted.place ≡ length at)
-            × (evicted.used ≡ 0)
+            × (evicted.used ≡ used (behind at who (what.Evict table extent)))
             × (unit_content at table extent ≡ Some (U.content evicted.old.value)))) }
         ensures err { IfErr result (λ why. Found (known self.old) (known self.new) (λ at.
             IsRefusal at (evict_refusal at table extent) why)) }
+        ensures lawful { IsLawful (known self.new).limits (known self.new).log };
+
+    /// Gives credits for trickle repopulations, and answers those that are left then.
+    fn trickle<R: Wait>(&mut self, rt: &R, who: u32, n: u32) -> Result<u128, Refused>
+        requires session { who < NUMBERS }
+        requires speaks { speaks (known self.old).side who ≡ true }
+        ensures ok { IfOk result (λ left. Added (known self.old) (known self.new) who (λ at. what.Trickle n) (λ at.
+            left ≡ credits (behind at who (what.Trickle n)))) }
+        ensures err { IfErr result (λ why. Found (known self.old) (known self.new) (λ at. IsRefusal at None why)) }
+        ensures lawful { IsLawful (known self.new).limits (known self.new).log };
+
+    /// Ends a session or worker, and answers the place of the entry.
+    fn leave<R: Wait>(&mut self, rt: &R, who: u32) -> Result<u64, Refused>
+        requires session { who < NUMBERS }
+        requires speaks { speaks (known self.old).side who ≡ true }
+        requires may { MayLeave (known self.old).log who }
+        ensures ok { IfOk result (λ place. Added (known self.old) (known self.new) who (λ at. what.Leave) (λ at.
+            place ≡ length at)) }
+        ensures err { IfErr result (λ why. Found (known self.old) (known self.new) (λ at. IsRefusal at None why)) }
         ensures lawful { IsLawful (known self.new).limits (known self.new).log };
 }

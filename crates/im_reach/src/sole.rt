@@ -125,15 +125,8 @@ impl<U: UnitLike> Reach<U> for Sole<U> {
         answer
     }
 
-    fn build_of<R: Wait>(
-        &mut self,
-        _rt: &R,
-        who: u32,
-        table: u32,
-        extent: u64,
-        trickle: bool,
-    ) -> Result<Offer, Refused> {
-        let answer = self.core.build_of(who, table, extent, trickle);
+    fn build<R: Wait>(&mut self, _rt: &R, who: u32) -> Result<Offer, Refused> {
+        let answer = self.core.build(who);
         self.core.known();
         match answer {
             Ok(Offer::Task(task)) => Ok(Offer::Task(task)),
@@ -183,6 +176,18 @@ impl<U: UnitLike> Reach<U> for Sole<U> {
         extent: u64,
     ) -> Result<Evicted<U>, Refused> {
         let answer = self.core.evict(who, table, extent);
+        self.core.known();
+        answer
+    }
+
+    fn trickle<R: Wait>(&mut self, _rt: &R, who: u32, n: u32) -> Result<u128, Refused> {
+        let answer = self.core.trickle(who, n);
+        self.core.known();
+        answer
+    }
+
+    fn leave<R: Wait>(&mut self, _rt: &R, who: u32) -> Result<u64, Refused> {
+        let answer = self.core.leave(who);
         self.core.known();
         answer
     }

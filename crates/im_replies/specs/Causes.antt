@@ -8,10 +8,10 @@ use Rattle.im_replies.specs.declared.fault.Fault.{Fault}
 use Rattle.im_replies.specs.declared.fault.Fault.TheVariants as fault
 
 -- the fault of a call that was refused for this cause, before its line made an entry. A call that names no cursor opens
--- cursor 0. Which name is taken and which extent has no unit does not follow from the cause: `creation_fault` and
--- `eviction_fault` have it from what was asked
+-- cursor 0. Only a creation is refused for a name that is taken, and only an eviction for an extent without a unit: which one it
+-- is does not follow from the cause, and `creation_fault` and `eviction_fault` have it from what was asked
 abbrev pub fault_of : Why → Fault
-fault_of (why.TableExists table) = fault.NotBuilt
+fault_of (why.TableExists table) = fault.Memory 0
 fault_of why.TooManyTables = fault.TooManyTables
 fault_of (why.TransactionOpen place) = fault.TransactionOpen place
 fault_of why.ReadOnly = fault.ReadOnly
@@ -21,7 +21,7 @@ fault_of (why.RowLocked row holder) = fault.RowLocked row holder
 fault_of (why.Serialize row scn) = fault.CannotSerialize row scn
 fault_of (why.TooManyChanges need left) = fault.TooManyChanges need left
 fault_of (why.StoreFull need left) = fault.StoreFull need left
-fault_of why.NoUnit = fault.NotBuilt
+fault_of why.NoUnit = fault.Memory 0
 fault_of why.NoMemory = fault.Memory 0
 
 -- the fault of a call that was to create a table of this name

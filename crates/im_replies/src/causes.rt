@@ -20,8 +20,7 @@ impl From<Why> for Fault {
             Why::Serialize { row, scn } => Fault::CannotSerialize { row, scn },
             Why::TooManyChanges { need, left } => Fault::TooManyChanges { need, left },
             Why::StoreFull { need, left } => Fault::StoreFull { need, left },
-            Why::TableExists { .. } | Why::NoUnit => Fault::NotBuilt,
-            Why::NoMemory => Fault::Memory { k: 0 },
+            Why::TableExists { .. } | Why::NoUnit | Why::NoMemory => Fault::Memory { k: 0 },
         }
     }
 }

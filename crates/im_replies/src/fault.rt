@@ -3,8 +3,6 @@ use im_values::Name;
 /// Why a line was refused.
 #[derive(Debug, Drop)]
 pub enum Fault {
-    /// The statement is read, and not played yet.
-    NotBuilt,
     /// The line is longer than a line may be, and was read no further.
     LineTooLong {
         /// Its bytes, without the end of the line.

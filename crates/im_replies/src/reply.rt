@@ -11,7 +11,7 @@ use std::alloc::Global;
 #[derive(Debug, Drop)]
 pub struct Reply {
     /// How many entries the history had when the reply was settled. None where that says nothing: for a line that was not
-    /// played, and for out of memory.
+    /// played, for one of the background, and for out of memory.
     pub place: Option<u64>,
     /// One mark for each extent that was served, in the order of serving.
     pub marks: List<Served>,
@@ -35,10 +35,17 @@ impl Reply {
     pub fn refusal(alloc: Global, fault: Fault) -> Reply
         ensures { result ≡ record { place = None; marks = []; body = Error fault } }
     {
+        Reply::plain(alloc, Body::Error(fault))
+    }
+
+    /// The reply that is settled at no place, of a line that no extent was served. It takes no memory.
+    pub fn plain(alloc: Global, body: Body) -> Reply
+        ensures { result ≡ record { place = None; marks = []; body = body } }
+    {
         Reply {
             place: None,
             marks: List::of(Vec::new(alloc)),
-            body: Body::Error(fault),
+            body,
         }
     }
 }

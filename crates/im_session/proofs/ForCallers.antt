@@ -18,7 +18,7 @@ use Rattle.im_session.specs.Sessions.{Agrees, IsPlayed, Kept, state_of}
 use Rattle.im_session.proofs.CursorLemmas.{sound-longer}
 use Rattle.im_session.proofs.KeptLemmas.{all-map}
 use Rattle.im_statements.specs.Agreement.{AreQueriesOf}
-use Rattle.im_statements.specs.Outcomes.{Outcome, Replied}
+use Rattle.im_statements.specs.Outcomes.{Replied}
 use Rattle.im_statements.specs.Statements.{statement_plan}
 use Rattle.im_statements.specs.Turns.{amends}
 use Rattle.im_statements.proofs.OtherLaws.{is_open-after, opened-after}
@@ -36,40 +36,46 @@ module _ (mine : ℕ → Bool) (all : (number : ℕ) → mine number ≡ true) w
           let both : true ≡ false = sym (all entry.who) ∙ All-head (λ (e : Entry). mine e.who ≡ false) entry rest apart in
           absurd cc
 
-  goes-alone : (who : ℕ) (old : History) (plan : Plan Outcome) (outcome : Outcome) (new : History) → Goes (Others mine) who old plan outcome new
-      → Goes Nobody who old plan outcome new
-  goes-alone who old (End value) outcome new goes = record { value_is = goes.value_is; after = nobody old new goes.after }
-  goes-alone who old (Turn decides adds on) outcome new goes =
-      (goes.0, nobody old goes.0 goes.1, goes-alone who (goes.0 ++ made who (adds goes.0)) (on goes.0) outcome new goes.2)
+  goes-alone : {R : Type 0} (who : ℕ) (old : History) (plan : Plan R) (result : R) (new : History) → Goes (Others mine) who old plan result new
+      → Goes Nobody who old plan result new
+  goes-alone who old (End value) result new goes = record { value_is = goes.value_is; after = nobody old new goes.after }
+  goes-alone who old (Turn decides adds on) result new goes =
+      (goes.0, nobody old goes.0 goes.1, goes-alone who (goes.0 ++ made who (adds goes.0)) (on goes.0) result new goes.2)
 
-  lacks-alone : (who k : ℕ) (old : History) (plan : Plan Outcome) (outcome : Outcome) (new : History)
-      → Lacks (Others mine) who (amends who) k old plan outcome new → Lacks Nobody who (amends who) k old plan outcome new
-  lacks-alone who k old (End value) outcome new lacks = goes-alone who old (amends who k) outcome new lacks
-  lacks-alone who k old (Turn decides adds on) outcome new lacks = elim lacks [
-    | inl amended ↦ inl (goes-alone who old (amends who k) outcome new amended)
+  lacks-alone : {R : Type 0} (who : ℕ) (amend : ℕ → Plan R) (k : ℕ) (old : History) (plan : Plan R) (result : R) (new : History)
+      → Lacks (Others mine) who amend k old plan result new → Lacks Nobody who amend k old plan result new
+  lacks-alone who amend k old (End value) result new lacks = goes-alone who old (amend k) result new lacks
+  lacks-alone who amend k old (Turn decides adds on) result new lacks = elim lacks [
+    | inl amended ↦ inl (goes-alone who old (amend k) result new amended)
     | inr later ↦ inr (
       later.0,
       nobody old later.0 later.1,
       later.2,
-      lacks-alone who (counted (adds later.0) k) (later.0 ++ made who (adds later.0)) (on later.0) outcome new later.3,
+      lacks-alone who amend (counted (adds later.0) k) (later.0 ++ made who (adds later.0)) (on later.0) result new later.3,
     )
   ]
 
-  pub line-alone : (who : ℕ) (old : History) (plan : Plan Outcome) (outcome : Outcome) (new : History)
-      → Line (Others mine) who (amends who) old plan outcome new → Line Nobody who (amends who) old plan outcome new
-  line-alone who old plan outcome new line = record {
+  line-alone_of : {R : Type 0} (who : ℕ) (amend : ℕ → Plan R) (old : History) (plan : Plan R) (result : R) (new : History)
+      → Line (Others mine) who amend old plan result new → Line Nobody who amend old plan result new
+  line-alone_of who amend old plan result new line = record {
     whole = record {
       played = elim line.whole.played [
-        | inl goes ↦ inl (goes-alone who old plan outcome new goes)
-        | inr lacks ↦ inr (lacks-alone who 0 old plan outcome new lacks)
+        | inl goes ↦ inl (goes-alone who old plan result new goes)
+        | inr lacks ↦ inr (lacks-alone who amend 0 old plan result new lacks)
       ];
     };
   }
 
+-- over a store that nobody else has a line of any number goes with nobody between its turns
+pub line-alone : {R : Type 0} (side : StoreSide) (who : ℕ) (amend : ℕ → Plan R) (old : History) (plan : Plan R) (result : R) (new : History)
+    → side ≡ sole → Line (Others (speaks side)) who amend old plan result new → Line Nobody who amend old plan result new
+line-alone side who amend old plan result new alone =
+    line-alone_of (speaks side) (λ number. ap (λ (s : StoreSide). speaks s number) alone) who amend old plan result new
+
 -- ---- what a line leaves to others
 
 -- the history went on by entries of this number alone
-record IsOwn (who : ℕ) (old new : History) : Type 0 where
+pub record IsOwn (who : ℕ) (old new : History) : Type 0 where
   pub more : History
   pub own : All (λ entry. entry.who ≡ who) more
   pub log : new ≡ old ++ more
@@ -95,26 +101,27 @@ own-turn who old at added new after later = record {
       ∙ (append_assoc at (made who added) later.more ∙ ap (λ (h : History). h ++ (made who added ++ later.more)) (same_after old at after));
 }
 
-goes-own : (who : ℕ) (old : History) (plan : Plan Outcome) (outcome : Outcome) (new : History) → Goes Nobody who old plan outcome new → IsOwn who old new
-goes-own who old (End value) outcome new goes = own-none who old new goes.after
-goes-own who old (Turn decides adds on) outcome new goes =
-    own-turn who old goes.0 (adds goes.0) new goes.1 (goes-own who (goes.0 ++ made who (adds goes.0)) (on goes.0) outcome new goes.2)
+goes-own : {R : Type 0} (who : ℕ) (old : History) (plan : Plan R) (result : R) (new : History) → Goes Nobody who old plan result new → IsOwn who old new
+goes-own who old (End value) result new goes = own-none who old new goes.after
+goes-own who old (Turn decides adds on) result new goes =
+    own-turn who old goes.0 (adds goes.0) new goes.1 (goes-own who (goes.0 ++ made who (adds goes.0)) (on goes.0) result new goes.2)
 
-lacks-own : (who k : ℕ) (old : History) (plan : Plan Outcome) (outcome : Outcome) (new : History)
-    → Lacks Nobody who (amends who) k old plan outcome new → IsOwn who old new
-lacks-own who k old (End value) outcome new lacks = goes-own who old (amends who k) outcome new lacks
-lacks-own who k old (Turn decides adds on) outcome new lacks = elim lacks [
-  | inl amended ↦ goes-own who old (amends who k) outcome new amended
+lacks-own : {R : Type 0} (who : ℕ) (amend : ℕ → Plan R) (k : ℕ) (old : History) (plan : Plan R) (result : R) (new : History)
+    → Lacks Nobody who amend k old plan result new → IsOwn who old new
+lacks-own who amend k old (End value) result new lacks = goes-own who old (amend k) result new lacks
+lacks-own who amend k old (Turn decides adds on) result new lacks = elim lacks [
+  | inl amended ↦ goes-own who old (amend k) result new amended
   | inr later ↦
       own-turn who old later.0 (adds later.0) new later.1
-      (lacks-own who (counted (adds later.0) k) (later.0 ++ made who (adds later.0)) (on later.0) outcome new later.3)
+      (lacks-own who amend (counted (adds later.0) k) (later.0 ++ made who (adds later.0)) (on later.0) result new later.3)
 ]
 
-line-own : (who : ℕ) (old : History) (plan : Plan Outcome) (outcome : Outcome) (new : History) → Line Nobody who (amends who) old plan outcome new
-    → IsOwn who old new
-line-own who old plan outcome new line = elim line.whole.played [
-  | inl goes ↦ goes-own who old plan outcome new goes
-  | inr lacks ↦ lacks-own who 0 old plan outcome new lacks
+-- a line adds entries of its own number alone
+pub line-own : {R : Type 0} (who : ℕ) (amend : ℕ → Plan R) (old : History) (plan : Plan R) (result : R) (new : History)
+    → Line Nobody who amend old plan result new → IsOwn who old new
+line-own who amend old plan result new line = elim line.whole.played [
+  | inl goes ↦ goes-own who old plan result new goes
+  | inr lacks ↦ lacks-own who amend 0 old plan result new lacks
 ]
 
 -- the line that a session played over a store that nobody else has
@@ -123,12 +130,11 @@ pub played-alone : (s : Stmt) (before after : Kept) (old new : Known) (reply : R
     → Line Nobody before.who (amends before.who) old.log (statement_plan old.limits before.who (state_of before.cursors) s)
     (Replied reply played.effect) new.log
 played-alone s before after old new reply alone played =
-    line-alone (speaks old.side) (λ number. ap (λ (side : StoreSide). speaks side number) alone) before.who old.log _ _ new.log played.line
+    line-alone old.side before.who (amends before.who) old.log _ _ new.log alone played.line
 
--- another session agrees as it did
-pub agrees-other : (s : Stmt) (before after other : Kept) (old new : Known) (reply : Reply) → old.side ≡ sole
-    → IsPlayed s before old reply after new → (before.who == other.who) ≡ false → Agrees other old → Agrees other new
-agrees-other s before after other old new reply alone played apart agrees = record {
+-- where the history went on by entries of one number, a session of another agrees as it did
+pub agrees-own : (who : ℕ) (other : Kept) (old new : Known) → IsOwn who old.log new.log → (who == other.who) ≡ false → Agrees other old → Agrees other new
+agrees-own who other old new own apart agrees = record {
   cursors = record {
     closed = ap (list_any (is_cursor 0)) same ∙ agrees.cursors.closed;
     queries = subst (λ (cursors : List Opened). AreQueriesOf (state_of other.cursors).queries cursors) (sym same) agrees.cursors.queries;
@@ -141,12 +147,9 @@ agrees-other s before after other old new reply alone played apart agrees = reco
       agrees.transaction ∙ sym (is_open-after (λ number. number == other.who) other.who old.log new.log (grind (arith, nat_tests)) after_old);
 }
   where
-    own : IsOwn before.who old.log new.log
-    own = line-own before.who old.log _ _ new.log (played-alone s before after old new reply alone played)
-
     others : All (λ entry. (entry.who == other.who) ≡ false) own.more
     others =
-        All-weaker (λ (entry : Entry). entry.who ≡ before.who) (λ (entry : Entry). (entry.who == other.who) ≡ false)
+        All-weaker (λ (entry : Entry). entry.who ≡ who) (λ (entry : Entry). (entry.who == other.who) ≡ false)
         (λ entry is. ap (λ (n : ℕ). n == other.who) is ∙ apart) own.more own.own
 
     after_old : After (Others (λ number. number == other.who)) old.log new.log
@@ -154,3 +157,15 @@ agrees-other s before after other old new reply alone played apart agrees = reco
 
     same : opened new.log other.who ≡ opened old.log other.who
     same = opened-after (λ number. number == other.who) other.who old.log new.log (grind (arith, nat_tests)) after_old
+
+-- a line of a session adds entries of its own number alone
+pub played-own : (s : Stmt) (before after : Kept) (old new : Known) (reply : Reply) → old.side ≡ sole → IsPlayed s before old reply after new
+    → IsOwn before.who old.log new.log
+played-own s before after old new reply alone played =
+    line-own before.who (amends before.who) old.log _ _ new.log (played-alone s before after old new reply alone played)
+
+-- another session agrees as it did
+pub agrees-other : (s : Stmt) (before after other : Kept) (old new : Known) (reply : Reply) → old.side ≡ sole
+    → IsPlayed s before old reply after new → (before.who == other.who) ≡ false → Agrees other old → Agrees other new
+agrees-other s before after other old new reply alone played apart =
+    agrees-own before.who other old new (played-own s before after old new reply alone played) apart

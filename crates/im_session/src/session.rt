@@ -78,7 +78,7 @@ impl Session {
 
     /// Plays one statement, and answers it.
     ///
-    /// A statement of the background is not a session's: it is answered so, and nothing is done. The gate is called before and
+    /// A statement of the background is not a session's: nothing is done, and the reply says so. The gate is called before and
     /// after each extent that a scan is served, outside the store's turn. Each row that a scan reads from the blocks is one step
     /// at most, also where memory is out.
     pub fn execute<R: Wait, H: Reach<ColumnUnit>, G: Gate, L: Ledger>(
@@ -192,7 +192,7 @@ impl Session {
             | Resolved::Switch
             | Resolved::Cancel
             | Resolved::Trickle(_)
-            | Resolved::Evict { .. } => Reply::refusal(alloc, Fault::NotBuilt),
+            | Resolved::Evict { .. } => Reply::settled(alloc, look.place, Body::Nothing),
             Resolved::Create { .. } | Resolved::Memory { .. } => unreachable!(),
         }
     }

@@ -1,4 +1,4 @@
--- What a line has is known: a statement of the language, of a session from 1 to 16.
+-- What a line has is known: a statement of the language, of a session from 1 to 16 or of the background.
 use Rattle.std.proofs.Common.{ℕ, List, Option}
 use Rattle.im_syntax.specs.Rules.{IsStmt, IsStmtOf}
 use Rattle.im_syntax.specs.declared.statement.Side.{Side}
@@ -15,6 +15,7 @@ use Rattle.im_shell.specs.inner.Answers.{IsKnown, HasStatement}
 -- the statement of a line is one of the language
 abbrev OfLanguage : LineKind → Type 0
 OfLanguage (kind.Session who s) = IsStmt s
+OfLanguage (kind.Background s) = IsStmt s
 OfLanguage k = Unit {0}
 
 says_known : (whose : Side) (before : ℕ) (line : List ℕ) (of : Stmt → LineKind) (k : LineKind) →
@@ -30,10 +31,11 @@ kind_known form.Skip line k has = rw has tt
 kind_known form.Race line k has = rw has tt
 kind_known form.Bare line k has = rw has tt
 kind_known (form.Session n before) line k has = says_known _ before line (kind.Session n) k (λ s is. is.is_stmt) has
-kind_known (form.Background before) line k has = says_known _ before line kind.Background k (λ s is. tt) has
+kind_known (form.Background before) line k has = says_known _ before line kind.Background k (λ s is. is.is_stmt) has
 
 known_by : (who : Option ℕ) (k : LineKind) → SpeaksAs who k → OfLanguage k → HasStatement k
-known_by who (kind.Session n s) speaks is = (speaks.2, is)
+known_by who (kind.Session n s) speaks is = (speaks.1, speaks.2, is)
+known_by who (kind.Background s) speaks is = is
 known_by who _ speaks is = tt
 
 -- what the line of some bytes has is known

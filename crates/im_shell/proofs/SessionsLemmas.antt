@@ -1,27 +1,39 @@
 -- The sessions of a script as a list: one of them plays a statement, and the others stay as they were.
-use Rattle.std.proofs.Common.{◌≡◌, ℕ, zero, suc, ◌+◌, ◌<◌, ◌≤◌, List, [], ◌∷◌, ◌++◌, length, map, Some, refl, sym, ap, ◌∙◌, subst, arith}
+use Rattle.std.proofs.Common.{◌≡◌, ℕ, zero, suc, ◌+◌, ◌<◌, ◌≤◌, ◌==◌, false, All, List, [], ◌∷◌, ◌++◌, length, map, Some, refl, sym, ap, ◌∙◌, subst, arith, append-nil, append_assoc}
 use Rattle.std.specs.Prelude.{slice_get, slice_index_or, slice_set}
 use Rattle.std.proofs.lemmas.Bool.Decides.{nat_tests}
+use Rattle.std.proofs.lemmas.List.Elements.{All-append, All-nil, All-weaker}
+use Rattle.im_history.specs.declared.entry.Entry.{Entry}
 use Rattle.im_history.specs.declared.limits.Limits.{Limits}
+use Rattle.im_history.specs.declared.task.Task.{Task}
 use Rattle.im_history.specs.Cursors.{opened}
-use Rattle.im_history.specs.History.{replay}
+use Rattle.im_history.specs.History.{History, replay}
+use Rattle.im_history.specs.Legal.{IsLawful}
 use Rattle.im_history.specs.Transactions.{begun}
+use Rattle.im_history.proofs.UnitLaws.{held-nil}
 use Rattle.im_plan.specs.Goes.{Line as Whole, Nobody}
-use Rattle.im_reach.specs.Sides.{Known, sole}
+use Rattle.im_reach.specs.Sides.{Known, sole, speaks}
 use Rattle.im_replies.specs.declared.reply.Reply.{Reply}
+use Rattle.im_session.specs.Reads.{IsCounted}
 use Rattle.im_session.specs.Sessions.{Agrees, IsPlayed, Kept, state_of}
-use Rattle.im_session.proofs.ForCallers.{agrees-other, played-alone}
-use Rattle.im_shell.specs.Play.{Machine, idle, state_in, unused}
-use Rattle.im_shell.specs.Requests.{asked, script_limits}
+use Rattle.im_session.proofs.ForCallers.{IsOwn, agrees-other, agrees-own, line-alone, line-own, played-alone, played-own}
+use Rattle.im_shell.specs.Play.{Machine, alone_at, idle, state_in, unused}
+use Rattle.im_shell.specs.Requests.{BACKGROUND, asked, script_limits}
 use Rattle.im_script.specs.declared.line.Line.{Line}
 use Rattle.im_script.specs.declared.line.LineKind.{LineKind}
 use Rattle.im_script.specs.declared.line.LineKind.TheVariants as kind
-use Rattle.im_shell.specs.inner.Answers.{Answers, AreSessions, IsAnswer, IsAnswered, IsBetween, machine_of, unused_from, unused_session}
+use Rattle.im_shell.specs.inner.Answers.{Answers, AreSessions, IsAnswer, IsAnswered, IsBetween, IsCommandAnswer, IsHolding, background_side, command_of, machine_of, nothing_in, request_of, unused_background, unused_from, unused_session}
+use Rattle.im_statements.specs.Background as command
+use Rattle.im_statements.specs.Background.{Answered, command_amends, command_plan}
 use Rattle.im_statements.specs.Outcomes.{Outcome, Replied, State, fresh, kept_after}
 use Rattle.im_statements.specs.Statements.{statement_plan}
 use Rattle.im_statements.specs.Turns.{amends}
 use Rattle.im_syntax.specs.declared.statement.Stmt.{Stmt}
 use Rattle.im_values.specs.declared.limits.TheConstants.{NUMBERS, SESSIONS}
+use Rattle.im_worker.specs.Background as background
+use Rattle.im_worker.specs.Background.{tasks_of}
+use Rattle.im_worker.specs.Reads as builds
+use Rattle.im_worker.proofs.ForCallers.{agrees-behind}
 
 some-inj : {a b : Kept} → Some a ≡ Some b → a ≡ b
 some-inj e = cc
@@ -33,26 +45,26 @@ indexed [] at other inside = absurd (omega (arith, inside))
 indexed (s ∷ ss) zero other inside = refl
 indexed (s ∷ ss) (suc at) other inside = indexed ss at other (omega (arith, inside))
 
-pub session-there : (sessions : List Kept) (at : ℕ) (other : Kept) (now : Known) → IsBetween now sessions → at ≤ SESSIONS
-    → slice_get sessions at ≡ Some (slice_index_or sessions at other)
-session-there sessions at other now between within =
-    indexed sessions at other (let count = between.count in omega (arith, count, within))
+pub session-there : (sessions : List Kept) (at : ℕ) (session : Kept) (now : Known) (kept : background.Kept) → IsBetween now sessions kept → at ≤ SESSIONS
+    → session ≡ slice_index_or sessions at session → slice_get sessions at ≡ Some session
+session-there sessions at session now kept between within is =
+    indexed sessions at session (let count = between.count in omega (arith, count, within)) ∙ ap Some (sym is)
 
 -- the session of a number
 pub record IsSession (first : ℕ) (sessions : List Kept) (at : ℕ) (session : Kept) (now : Known) : Type 0 where
   pub number : session.who ≡ first + at
-  pub agrees : Agrees session now
+  pub agrees : 1 ≤ first + at → Agrees session now
 
 session-at : (first : ℕ) (sessions : List Kept) (at : ℕ) (session : Kept) (now : Known) → AreSessions first sessions now
     → slice_get sessions at ≡ Some session → IsSession first sessions at session now
 session-at first [] at session now are is = absurd cc
 session-at first (s ∷ ss) zero session now are is = record {
   number = ap (λ (k : Kept). k.who) (sym (some-inj is)) ∙ (are.0 ∙ omega arith);
-  agrees = subst (λ (k : Kept). Agrees k now) (some-inj is) are.1;
+  agrees = λ one. subst (λ (k : Kept). Agrees k now) (some-inj is) (are.1 (omega (arith, one)));
 }
 session-at first (s ∷ ss) (suc at) session now are is =
     let later = session-at (suc first) ss at session now are.2 is in
-    record { number = later.number ∙ omega arith; agrees = later.agrees }
+    record { number = later.number ∙ omega arith; agrees = λ one. later.agrees (omega (arith, one)) }
 
 -- what it keeps
 state-at : (sessions : List Kept) (at : ℕ) (session : Kept) → slice_get sessions at ≡ Some session
@@ -72,31 +84,103 @@ length-set [] at after = refl
 length-set (s ∷ ss) zero after = refl
 length-set (s ∷ ss) (suc at) after = ap suc (length-set ss at after)
 
--- ---- it plays a statement
+-- ---- one number goes on
+
+-- the sessions of other numbers agree as they did
+others-agree : (who : ℕ) (old new : Known) → IsOwn who old.log new.log → (first : ℕ) (sessions : List Kept)
+    → ((number : ℕ) → first ≤ number → 1 ≤ number → (who == number) ≡ false) → AreSessions first sessions old → AreSessions first sessions new
+others-agree who old new own first [] apart are = tt
+others-agree who old new own first (session ∷ sessions) apart are = (
+  are.0,
+  λ one. agrees-own who session old new own (ap (λ (n : ℕ). who == n) are.0 ∙ apart first (omega arith) one) (are.1 one),
+  others-agree who old new own (suc first) sessions (λ number above one. apart number (omega (arith, above)) one) are.2,
+)
+
+-- the background holds what it held, where a session went on
+holding-own : (who : ℕ) (kept : background.Kept) (old new : Known) → 1 ≤ who → IsOwn who old.log new.log → IsHolding kept old → IsHolding kept new
+holding-own who kept old new one own holding = record {
+  who = holding.who;
+  at = holding.at;
+  agrees = record { builds = holding.agrees.builds; ready = holding.agrees.ready; own = holding.agrees.own };
+  after = record {
+    between = holding.after.between ++ own.more;
+    lawful = record {
+      alone = λ alone. absurd cc;
+      apart = All-append Apart holding.after.between own.more holding.after.lawful.apart others;
+    };
+    log = own.log ∙ (ap (λ (h : History). h ++ own.more) holding.after.log ∙ append_assoc holding.at holding.after.between own.more);
+  };
+}
+  where
+    Apart : Entry → Type 0
+    Apart entry = speaks background_side entry.who ≡ false
+
+    others : All Apart own.more
+    others =
+        All-weaker (λ (entry : Entry). entry.who ≡ who) Apart
+        (λ entry is. ap (λ (n : ℕ). BACKGROUND == n) is ∙ (let e : (BACKGROUND == who) ≡ false = grind (arith, nat_tests, one) in e)) own.more own.own
+
+-- whoever is not the background has another number than it
+not-background : (kept : background.Kept) → kept.who ≡ BACKGROUND → (entry : Entry) → speaks background_side entry.who ≡ false
+    → (entry.who == kept.who) ≡ false
+not-background kept who entry apart = rw who (let e : (entry.who == BACKGROUND) ≡ false = grind (arith, nat_tests, apart) in e)
+
+-- the builds that the background holds now
+pub holding-now : (kept : background.Kept) (now : Known) → IsHolding kept now → IsLawful now.limits now.log → background.Agrees kept now
+holding-now kept now holding lawful =
+    agrees-behind kept (record now { log = holding.at }) now holding.after.between lawful holding.after.log
+    (All-weaker (λ (entry : Entry). speaks background_side entry.who ≡ false) (λ (entry : Entry). (entry.who == kept.who) ≡ false)
+    (not-background kept holding.who) holding.after.between holding.after.lawful.apart)
+    holding.agrees
+
+holding-new : (kept : background.Kept) (now : Known) → kept.who ≡ BACKGROUND → background.Agrees kept now → IsHolding kept now
+holding-new kept now who agrees = record {
+  who = who;
+  at = now.log;
+  agrees = record { builds = agrees.builds; ready = agrees.ready; own = agrees.own };
+  after = record {
+    between = [];
+    lawful = record { alone = λ alone. refl; apart = All-nil (λ (entry : Entry). speaks background_side entry.who ≡ false) };
+    log = sym (append-nil now.log);
+  };
+}
+
+-- ---- a session plays a statement
 
 module _ (s : Stmt) (before after : Kept) (old new : Known) (reply : Reply) (alone : old.side ≡ sole) (played : IsPlayed s before old reply after new) where
-  -- those of other numbers agree as they did
-  others-agree : (first : ℕ) (sessions : List Kept) → before.who < first → AreSessions first sessions old → AreSessions first sessions new
-  others-agree first [] below are = tt
-  others-agree first (session ∷ sessions) below are = (
-    are.0,
-    agrees-other s before after session old new reply alone played (let e = are.0 in grind (arith, nat_tests, e, below)) are.1,
-    others-agree (suc first) sessions (omega (arith, below)) are.2,
-  )
+  own_of : IsOwn before.who old.log new.log
+  own_of = played-own s before after old new reply alone played
 
   sessions-set : (first : ℕ) (sessions : List Kept) (at : ℕ) → AreSessions first sessions old → slice_get sessions at ≡ Some before → Agrees after new
       → before.who ≡ first + at → AreSessions first (slice_set sessions at after) new
   sessions-set first [] at are is agrees number = absurd cc
-  sessions-set first (session ∷ sessions) zero are is agrees number =
-      let below : before.who < suc first = omega (arith, number) in
-      (played.same ∙ (number ∙ omega arith), agrees, others-agree (suc first) sessions below are.2)
+  sessions-set first (session ∷ sessions) zero are is agrees number = (
+    played.same ∙ (number ∙ omega arith),
+    λ one. agrees,
+    others-agree before.who old new own_of (suc first) sessions (λ other above one. grind (arith, nat_tests, number, above)) are.2,
+  )
   sessions-set first (session ∷ sessions) (suc at) are is agrees number = (
     are.0,
-    agrees-other s before after session old new reply alone played (let e = are.0 in grind (arith, nat_tests, e, number)) are.1,
+    λ one. agrees-other s before after session old new reply alone played (let e = are.0 in grind (arith, nat_tests, e, number)) (are.1 one),
     sessions-set (suc first) sessions at are.2 is agrees (number ∙ omega arith),
   )
 
-module _ (sessions : List Kept) (at : ℕ) (before : Kept) (old : Known) (between : IsBetween old sessions) (is : slice_get sessions at ≡ Some before) where
+-- a scan is counted by the histories alone
+counted-alone : (area who at before after : ℕ) (old new : Known) → who ≡ at → IsCounted who before after old new
+    → IsCounted at before after (alone_at area old.log) (alone_at area new.log)
+counted-alone area who at before after old new same counted =
+    subst (λ (n : ℕ). IsCounted n before after (alone_at area old.log) (alone_at area new.log)) same
+    (record {
+      cursor = counted.cursor;
+      view = counted.view;
+      from = counted.from;
+      upto = counted.upto;
+      within = counted.within;
+      read = counted.read;
+    })
+
+module _ (sessions : List Kept) (at : ℕ) (before : Kept) (kept : background.Kept) (old : Known) (between : IsBetween old sessions kept)
+    (is : slice_get sessions at ≡ Some before) (first : 1 ≤ at) where
   one : IsSession 0 sessions at before old
   one = session-at 0 sessions at before old between.agree is
 
@@ -104,27 +188,33 @@ module _ (sessions : List Kept) (at : ℕ) (before : Kept) (old : Known) (betwee
   number-is = one.number ∙ omega arith
 
   pub session-agrees : Agrees before old
-  session-agrees = one.agrees
+  session-agrees = one.agrees (omega (arith, first))
 
   pub session-number : at ≤ SESSIONS → before.who < NUMBERS
   session-number within = let e = number-is in omega (arith, e, within)
 
-  module _ (s : Stmt) (after : Kept) (new : Known) (reply : Reply) (played : IsPlayed s before old reply after new) (agrees : Agrees after new) where
-    pub between-after : IsBetween new (slice_set sessions at after)
+  module _ (s : Stmt) (after : Kept) (new : Known) (reply : Reply) (steps later : ℕ) (played : IsPlayed s before old reply after new)
+      (agrees : Agrees after new) (counted : IsCounted before.who steps later old new) where
+    pub between-after : IsBetween new (slice_set sessions at after) kept
     between-after = record {
       side = ap (λ (k : Known). k.side) played.known ∙ between.side;
-      limits = ap (λ (k : Known). k.limits) played.known ∙ between.limits;
+      limits = subst (λ (l : Limits). l ≡ script_limits l.area) (sym (ap (λ (k : Known). k.limits) played.known)) between.limits;
       count = length-set sessions at after ∙ between.count;
       agree = sessions-set s before after old new reply between.side played 0 sessions at between.agree is agrees one.number;
+      holding =
+          holding-own before.who kept old new (let e = number-is in omega (arith, e, first)) (own_of s before after old new reply between.side played)
+          between.holding;
     }
 
-    pub answer-after : (number : ℕ)
-        → IsAnswer (record { number = number; who = at; plan = λ state. statement_plan script_limits at state s; amends = amends at })
-        (machine_of old sessions) reply (machine_of new (slice_set sessions at after))
+    pub limits-after : new.limits ≡ old.limits
+    limits-after = ap (λ (k : Known). k.limits) played.known
+
+    pub answer-after : (number : ℕ) → IsAnswer old.limits.area steps later (request_of old.limits.area number at s)
+        (machine_of old sessions kept) reply (machine_of new (slice_set sessions at after) kept)
     answer-after number = record {
       effect = played.effect;
       line =
-          subst (λ (n : ℕ). Whole Nobody n (amends n) old.log (statement_plan script_limits n (state_in machine at) s) outcome new.log) number-is
+          subst (λ (n : ℕ). Whole Nobody n (amends n) old.log (statement_plan limits n (state_in machine at) s) outcome new.log) number-is
           (subst (λ (l : Limits). Whole Nobody before.who (amends before.who) old.log (statement_plan l before.who (state_in machine at) s) outcome new.log)
           between.limits
           (subst (λ (state : State). Whole Nobody before.who (amends before.who) old.log (statement_plan old.limits before.who state s) outcome new.log)
@@ -132,10 +222,15 @@ module _ (sessions : List Kept) (at : ℕ) (before : Kept) (old : Known) (betwee
       states =
           state-set sessions at after
           ∙ ap (slice_set machine.states at) (played.keeps ∙ ap (kept_after played.effect) (sym keeps));
+      builds_are = refl;
+      counted = counted-alone old.limits.area before.who at steps later old new number-is counted;
     }
       where
         machine : Machine
-        machine = machine_of old sessions
+        machine = machine_of old sessions kept
+
+        limits : Limits
+        limits = script_limits old.limits.area
 
         outcome : Outcome
         outcome = Replied reply played.effect
@@ -144,12 +239,79 @@ module _ (sessions : List Kept) (at : ℕ) (before : Kept) (old : Known) (betwee
         keeps = state-at sessions at before is
 
 -- a line of a session
-pub answers-session : (line : Line) (who : ℕ) (s : Stmt) (old new : Machine) (reply : Reply) → line.kind ≡ kind.Session who s
-    → ((number : ℕ) → IsAnswer (record { number = number; who = who; plan = λ state. statement_plan script_limits who state s; amends = amends who })
-    old reply new)
-    → Answers line old (Some reply) new
-answers-session line who s old new reply is answer = record {
-  answered = subst (λ (k : LineKind). IsAnswered (asked line.number k) old (Some reply) new) (sym is) (answer line.number);
+pub answers-session : (area before after : ℕ) (line : Line) (who : ℕ) (s : Stmt) (old new : Machine) (reply : Reply) → line.kind ≡ kind.Session who s
+    → ((number : ℕ) → IsAnswer area before after (request_of area number who s) old reply new) → Answers area before after line old (Some reply) new
+answers-session area before after line who s old new reply is answer = record {
+  answered = subst (λ (k : LineKind). IsAnswered area before after (asked area line.number k) old (Some reply) new) (sym is) (answer line.number);
+}
+
+-- ---- the background plays a statement
+
+-- the reading of builds is counted by the histories alone
+command-counted : (area who before after : ℕ) (old new : Known) → who ≡ BACKGROUND → builds.IsCounted who before after old new
+    → builds.IsCounted BACKGROUND before after (alone_at area old.log) (alone_at area new.log)
+command-counted area who before after old new same counted =
+    subst (λ (n : ℕ). builds.IsCounted n before after (alone_at area old.log) (alone_at area new.log)) same
+    (record { starts = counted.starts; begun = counted.begun; few = counted.few })
+
+module _ (sessions : List Kept) (kept after : background.Kept) (old new : Known) (between : IsBetween old sessions kept) (s : Stmt) (reply : Reply)
+    (steps later : ℕ) (played : background.IsPlayed s kept old reply after new) (agrees : background.Agrees after new)
+    (counted : builds.IsCounted kept.who steps later old new) where
+  who-is : kept.who ≡ BACKGROUND
+  who-is = between.holding.who
+
+  command-alone : Whole Nobody kept.who (command_amends kept.who (tasks_of kept.builds)) old.log
+      (command_plan old.limits kept.who played.rounds (tasks_of kept.builds) s) (Answered reply (tasks_of after.builds)) new.log
+  command-alone =
+      line-alone old.side kept.who (command_amends kept.who (tasks_of kept.builds)) old.log
+      (command_plan old.limits kept.who played.rounds (tasks_of kept.builds) s) (Answered reply (tasks_of after.builds)) new.log between.side played.line
+
+  command-own : IsOwn BACKGROUND old.log new.log
+  command-own =
+      subst (λ (n : ℕ). IsOwn n old.log new.log) who-is
+      (line-own kept.who (command_amends kept.who (tasks_of kept.builds)) old.log
+      (command_plan old.limits kept.who played.rounds (tasks_of kept.builds) s) (Answered reply (tasks_of after.builds)) new.log command-alone)
+
+  pub between-command : IsBetween new sessions after
+  between-command = record {
+    side = ap (λ (k : Known). k.side) played.known ∙ between.side;
+    limits = subst (λ (l : Limits). l ≡ script_limits l.area) (sym (ap (λ (k : Known). k.limits) played.known)) between.limits;
+    count = between.count;
+    agree = others-agree BACKGROUND old new command-own 0 sessions (λ number above one. grind (arith, nat_tests, one)) between.agree;
+    holding = holding-new after new (played.same ∙ who-is) agrees;
+  }
+
+  pub limits-command : new.limits ≡ old.limits
+  limits-command = ap (λ (k : Known). k.limits) played.known
+
+  pub answer-command : (number : ℕ) → IsCommandAnswer old.limits.area steps later (command_of old.limits.area number s)
+      (machine_of old sessions kept) reply (machine_of new sessions after)
+  answer-command number = record {
+    rounds = played.rounds;
+    line =
+        subst (λ (n : ℕ). Whole Nobody n (command_amends n tasks) old.log (command_plan (script_limits old.limits.area) n played.rounds tasks s) outcome new.log)
+        who-is
+        (subst (λ (l : Limits). Whole Nobody kept.who (command_amends kept.who tasks) old.log (command_plan l kept.who played.rounds tasks s) outcome new.log)
+        between.limits command-alone);
+    states_are = refl;
+    counted = command-counted old.limits.area kept.who steps later old new who-is counted;
+  }
+    where
+      tasks : List Task
+      tasks = tasks_of kept.builds
+
+      outcome : command.Outcome
+      outcome = Answered reply (tasks_of after.builds)
+
+-- a look at the store changes nothing
+pub looked : (old now : Known) (sessions : List Kept) (kept : background.Kept) → now ≡ old → IsBetween old sessions kept → IsBetween now sessions kept
+looked old now sessions kept same between = subst (λ (k : Known). IsBetween k sessions kept) (sym same) between
+
+-- a line of the background
+pub answers-command : (area before after : ℕ) (line : Line) (s : Stmt) (old new : Machine) (reply : Reply) → line.kind ≡ kind.Background s
+    → ((number : ℕ) → IsCommandAnswer area before after (command_of area number s) old reply new) → Answers area before after line old (Some reply) new
+answers-command area before after line s old new reply is answer = record {
+  answered = subst (λ (k : LineKind). IsAnswered area before after (asked area line.number k) old (Some reply) new) (sym is) (answer line.number);
 }
 
 -- ---- none keeps anything
@@ -186,20 +348,27 @@ unfolding begun opened replay
 unused-agree who zero now empty = tt
 unused-agree who (suc left) now empty = (
   refl,
-  record { cursors = record { closed = rw empty refl; queries = rw empty tt }; sound = tt; apart = tt; transaction = rw empty refl },
+  λ one. record { cursors = record { closed = rw empty refl; queries = rw empty tt }; sound = tt; apart = tt; transaction = rw empty refl },
   unused-agree (suc who) left now empty,
 )
 
-pub between-start : (now : Known) (sessions : List Kept) → now ≡ record { side = sole; limits = script_limits; log = []; misses = 0 }
-    → sessions ≡ unused_from 0 (SESSIONS + 1) → IsBetween now sessions
-between-start now sessions is unused_is = rw (is, unused_is) (record {
+-- and so does a background that holds nothing
+unused-holds : (now : Known) → now.log ≡ [] → IsHolding unused_background now
+unused-holds now empty =
+    holding-new unused_background now refl
+    (record { builds = rw (empty, held-nil) refl; ready = tt; own = tt })
+
+pub between-start : (area : ℕ) (now : Known) (sessions : List Kept) (kept : background.Kept) → now ≡ nothing_in area
+    → sessions ≡ unused_from 0 (SESSIONS + 1) → kept ≡ unused_background → IsBetween now sessions kept
+between-start area now sessions kept is unused_is kept_is = rw (is, unused_is, kept_is) (record {
   side = refl;
   limits = refl;
   count = unused-length 0 (SESSIONS + 1);
   agree = unused-agree 0 (SESSIONS + 1) _ refl;
+  holding = unused-holds _ refl;
 })
 
-pub machine-start : (now : Known) (sessions : List Kept) → now ≡ record { side = sole; limits = script_limits; log = []; misses = 0 }
-    → sessions ≡ unused_from 0 (SESSIONS + 1) → machine_of now sessions ≡ idle
-machine-start now sessions is unused_is =
-    rw (is, unused_is) (ap (λ (states : List State). record { history = []; states = states }) (unused-states 0 (SESSIONS + 1)))
+pub machine-start : (area : ℕ) (now : Known) (sessions : List Kept) (kept : background.Kept) → now ≡ nothing_in area
+    → sessions ≡ unused_from 0 (SESSIONS + 1) → kept ≡ unused_background → machine_of now sessions kept ≡ idle
+machine-start area now sessions kept is unused_is kept_is =
+    rw (is, unused_is, kept_is) (ap (λ (states : List State). record { history = []; states = states; builds = [] }) (unused-states 0 (SESSIONS + 1)))

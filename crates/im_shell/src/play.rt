@@ -2,12 +2,22 @@ ghost use Rattle.std.specs.Prelude.{◌≡◌, ◌≤◌, ◌+◌, ℕ, [], ◌+
 ghost use Rattle.im_edge.specs.Faults.{Rose};
 ghost use Rattle.im_shell.specs.declared.play.Stop.TheVariants as stop;
 ghost use Rattle.im_shell.specs.inner.Going.{IsRead, text_put, Sends, SendsPart, PlaysBytes, PlaysNext};
-ghost use Rattle.im_shell.specs.Play.{Plays, PlaysInPart};
+ghost use Rattle.im_history.specs.Legal.{IsLawful};
 ghost use Rattle.im_reach.specs.Sides.{sole};
-ghost use Rattle.im_shell.specs.inner.Answers.{Answers, IsAnswer, IsBetween, IsKnown, machine_of, unused_from};
-ghost use Rattle.im_shell.specs.Requests.{script_limits};
-ghost use Rattle.im_statements.specs.Statements.{statement_plan};
-ghost use Rattle.im_statements.specs.Turns.{amends};
+ghost use Rattle.im_shell.specs.Play.{Plays, PlaysInPart};
+ghost use Rattle.im_shell.specs.inner.Answers.{
+  Answers,
+  IsAnswer,
+  IsBetween,
+  IsCommandAnswer,
+  IsKnown,
+  command_of,
+  machine_of,
+  nothing_in,
+  request_of,
+  unused_background,
+  unused_from,
+};
 ghost use Rattle.im_syntax.specs.Rules.{IsStmt};
 ghost use Rattle.im_text.specs.Replies.{reply_text};
 
@@ -23,20 +33,14 @@ use im_text::Waiting;
 use im_unit::ColumnUnit;
 use im_values::limits::{MOST_CHANGES, MOST_WEIGHT, SESSIONS};
 use im_values::{NoMemory, Steps};
+use im_worker::Background;
 use std::alloc::Global;
 use std::sync::Wait;
 use std::sync::ledger::Ledger;
 use thiserror::Error;
 
-/// The bytes that column units may take together, as long as the words do not set it.
-pub const AREA: u64 = 67_108_864;
-
-/// The limits of the store that a script is played over.
-const LIMITS: Limits = Limits {
-    area: AREA,
-    store: MOST_WEIGHT,
-    changes: MOST_CHANGES,
-};
+/// The number of the background, which is no session's.
+const BACKGROUND: u32 = 0;
 
 /// Replies are handed to the sink once so many bytes wait, where there is no memory for a further one, and at the end.
 const PIECE: usize = 65536;
@@ -76,25 +80,69 @@ fn read_line(alloc: Global, number: u64, bytes: &[u8]) -> Line
     line_of(alloc, number, bytes)
 }
 
+/// Those who play statements.
+#[derive(Drop)]
+struct Players {
+    /// The sessions by their numbers. Number 0 is not used: it is the background's.
+    sessions: Vec<Session>,
+    background: Background,
+}
+
 /// Plays a statement of a session.
 fn play_statement<R: Wait, H: Reach<ColumnUnit>, G: Gate, L: Ledger>(
     rt: &R,
     reach: &mut H,
     gate: &G,
-    sessions: &mut [Session],
+    players: &mut Players,
     who: u32,
     statement: &Stmt,
     steps: &mut Steps<L>,
 ) -> Reply
+    requires one { 1 ≤ who }
     requires session { who ≤ SESSIONS }
     requires statement { IsStmt statement.now }
-    requires between { IsBetween (H.known reach.old) sessions.old }
-    ensures between { IsBetween (H.known reach.new) sessions.new }
-    ensures answer { (number : ℕ) → IsAnswer
-        (record { number = number; who = who; plan = λ state. statement_plan script_limits who state statement.now; amends = amends who })
-        (machine_of (H.known reach.old) sessions.old) result (machine_of (H.known reach.new) sessions.new) }
+    requires between { IsBetween (H.known reach.old) players.old.sessions.items players.old.background }
+    ensures between { IsBetween (H.known reach.new) players.new.sessions.items players.new.background }
+    ensures limits { (H.known reach.new).limits ≡ (H.known reach.old).limits }
+    ensures answer { (number : ℕ) → IsAnswer (H.known reach.old).limits.area steps.old steps.new
+        (request_of (H.known reach.old).limits.area number who statement.now)
+        (machine_of (H.known reach.old) players.old.sessions.items players.old.background) result
+        (machine_of (H.known reach.new) players.new.sessions.items players.new.background) }
 {
-    sessions[who as usize].execute(rt, reach, gate, statement, steps)
+    players.sessions[who as usize].execute(rt, reach, gate, statement, steps)
+}
+
+/// Looks at a store that nobody else has: its history is known to be legal then. The look itself is not used.
+fn look_on<R: Wait, H: Reach<ColumnUnit>>(rt: &R, reach: &mut H)
+    requires alone { (H.known reach.old).side ≡ sole }
+    ensures same { H.known reach.new ≡ H.known reach.old }
+    ensures lawful { IsLawful (H.known reach.new).limits (H.known reach.new).log }
+{
+    let _ = reach.look(rt, BACKGROUND);
+}
+
+/// Plays a statement of the background.
+fn play_command<R: Wait, H: Reach<ColumnUnit>, G: Gate, L: Ledger>(
+    rt: &R,
+    reach: &mut H,
+    gate: &G,
+    players: &mut Players,
+    statement: &Stmt,
+    steps: &mut Steps<L>,
+) -> Reply
+    requires statement { IsStmt statement.now }
+    requires between { IsBetween (H.known reach.old) players.old.sessions.items players.old.background }
+    ensures between { IsBetween (H.known reach.new) players.new.sessions.items players.new.background }
+    ensures limits { (H.known reach.new).limits ≡ (H.known reach.old).limits }
+    ensures answer { (number : ℕ) → IsCommandAnswer (H.known reach.old).limits.area steps.old steps.new
+        (command_of (H.known reach.old).limits.area number statement.now)
+        (machine_of (H.known reach.old) players.old.sessions.items players.old.background) result
+        (machine_of (H.known reach.new) players.new.sessions.items players.new.background) }
+{
+    look_on(rt, reach);
+    players
+        .background
+        .command(rt, reach, gate, statement, steps)
 }
 
 /// Plays one line. Blanks, comments and the end of a prelude have no reply.
@@ -103,14 +151,17 @@ fn play_line<R: Wait, H: Reach<ColumnUnit>, G: Gate, L: Ledger>(
     rt: &R,
     reach: &mut H,
     gate: &G,
-    sessions: &mut [Session],
+    players: &mut Players,
     line: &Line,
     steps: &mut Steps<L>,
 ) -> Option<Reply>
     requires known { IsKnown line.now.kind }
-    requires between { IsBetween (H.known reach.old) sessions.old }
-    ensures between { IsBetween (H.known reach.new) sessions.new }
-    ensures answers { Answers line.now (machine_of (H.known reach.old) sessions.old) result (machine_of (H.known reach.new) sessions.new) }
+    requires between { IsBetween (H.known reach.old) players.old.sessions.items players.old.background }
+    ensures between { IsBetween (H.known reach.new) players.new.sessions.items players.new.background }
+    ensures limits { (H.known reach.new).limits ≡ (H.known reach.old).limits }
+    ensures answers { Answers (H.known reach.old).limits.area steps.old steps.new line.now
+        (machine_of (H.known reach.old) players.old.sessions.items players.old.background) result
+        (machine_of (H.known reach.new) players.new.sessions.items players.new.background) }
 {
     match &line.kind {
         LineKind::Skip | LineKind::Race => None,
@@ -120,9 +171,11 @@ fn play_line<R: Wait, H: Reach<ColumnUnit>, G: Gate, L: Ledger>(
         )),
         LineKind::Bad(byte) => Some(Reply::refusal(alloc, Fault::Syntax { byte: *byte })),
         LineKind::Session(who, statement) => {
-            Some(play_statement(rt, reach, gate, sessions, *who, statement, steps))
+            Some(play_statement(rt, reach, gate, players, *who, statement, steps))
         }
-        LineKind::Background(_) => Some(Reply::refusal(alloc, Fault::NotBuilt)),
+        LineKind::Background(statement) => {
+            Some(play_command(rt, reach, gate, players, statement, steps))
+        }
         LineKind::NoMemory => Some(Reply::refusal(alloc, Fault::Memory { k: 0 })),
     }
 }
@@ -133,18 +186,20 @@ fn play_bytes<R: Wait, H: Reach<ColumnUnit>, G: Gate, L: Ledger>(
     rt: &R,
     reach: &mut H,
     gate: &G,
-    sessions: &mut [Session],
+    players: &mut Players,
     bytes: &[u8],
     number: u64,
     steps: &mut Steps<L>,
 ) -> Option<Reply>
-    requires between { IsBetween (H.known reach.old) sessions.old }
-    ensures between { IsBetween (H.known reach.new) sessions.new }
-    ensures plays { PlaysBytes bytes.now number (machine_of (H.known reach.old) sessions.old) result
-        (machine_of (H.known reach.new) sessions.new) }
+    requires between { IsBetween (H.known reach.old) players.old.sessions.items players.old.background }
+    ensures between { IsBetween (H.known reach.new) players.new.sessions.items players.new.background }
+    ensures limits { (H.known reach.new).limits ≡ (H.known reach.old).limits }
+    ensures plays { PlaysBytes (H.known reach.old).limits.area bytes.now number
+        (machine_of (H.known reach.old) players.old.sessions.items players.old.background) result
+        (machine_of (H.known reach.new) players.new.sessions.items players.new.background) steps.old steps.new }
 {
     let line = read_line(alloc, number, bytes);
-    play_line(alloc, rt, reach, gate, sessions, &line, steps)
+    play_line(alloc, rt, reach, gate, players, &line, steps)
 }
 
 /// Writes all that waits.
@@ -220,31 +275,38 @@ fn play_next<R: Wait, H: Reach<ColumnUnit>, G: Gate, K: Sink, L: Ledger>(
     rt: &R,
     reach: &mut H,
     gate: &G,
-    sessions: &mut [Session],
+    players: &mut Players,
     bytes: &[u8],
     number: u64,
     sink: &mut K,
     waiting: &mut Waiting,
     steps: &mut Steps<L>,
 ) -> Result<(), Stop>
-    requires between { IsBetween (H.known reach.old) sessions.old }
-    ensures between { IsBetween (H.known reach.new) sessions.new }
-    ensures ok { OnOk result (PlaysNext bytes.now number (machine_of (H.known reach.old) sessions.old)
-        (machine_of (H.known reach.new) sessions.new) (K.taken sink.old) (K.taken sink.new) waiting.old waiting.new) }
+    requires between { IsBetween (H.known reach.old) players.old.sessions.items players.old.background }
+    ensures between { IsBetween (H.known reach.new) players.new.sessions.items players.new.background }
+    ensures limits { (H.known reach.new).limits ≡ (H.known reach.old).limits }
+    ensures ok { OnOk result (PlaysNext (H.known reach.old).limits.area bytes.now number
+        (machine_of (H.known reach.old) players.old.sessions.items players.old.background)
+        (machine_of (H.known reach.new) players.new.sessions.items players.new.background)
+        (K.taken sink.old) (K.taken sink.new) waiting.old waiting.new steps.old steps.new) }
     ensures err { OnErr result (SendsPart (K.taken sink.old) (K.taken sink.new) waiting.old) }
     ensures cause { IsErrOf result Stop.WriteFault → Rose (K.faults sink.old) (K.faults sink.new) }
     ensures later { K.faults sink.old ≤ K.faults sink.new }
 {
-    let reply = play_bytes(alloc, rt, reach, gate, sessions, bytes, number, steps);
+    let reply = play_bytes(alloc, rt, reach, gate, players, bytes, number, steps);
     put_reply(alloc, number, &reply, sink, waiting)
 }
 
-/// The store in which nothing has happened, and which nobody else has.
-fn empty_store(alloc: Global) -> Result<Sole<ColumnUnit>, NoMemory>
-    ensures { IfOk result (λ store. ⟦<Sole<ColumnUnit> as Reach<ColumnUnit>>⟧.known store
-        ≡ record { side = sole; limits = script_limits; log = []; misses = 0 }) }
+/// The store in which nothing has happened, and which nobody else has. Its column units may take so many bytes together.
+fn empty_store(alloc: Global, area: u64) -> Result<Sole<ColumnUnit>, NoMemory>
+    ensures { IfOk result (λ store. ⟦<Sole<ColumnUnit> as Reach<ColumnUnit>>⟧.known store ≡ nothing_in area) }
 {
-    match Core::new(alloc, LIMITS) {
+    let limits = Limits {
+        area,
+        store: MOST_WEIGHT,
+        changes: MOST_CHANGES,
+    };
+    match Core::new(alloc, limits) {
         Ok(core) => Ok(Sole::new(core)),
         Err(_) => Err(NoMemory),
     }
@@ -261,24 +323,37 @@ fn unused_sessions(alloc: Global) -> Result<Vec<Session>, NoMemory>
     Ok(sessions)
 }
 
-/// Plays a script line by line, over a store in which nothing has happened and sessions that keep nothing, and writes the text
+/// The sessions and the background of a script, none of which keeps anything.
+fn unused_players(alloc: Global) -> Result<Players, NoMemory>
+    ensures sessions { IfOk result (λ players. players.sessions.items ≡ unused_from 0 (SESSIONS + 1)) }
+    ensures background { IfOk result (λ players. players.background ≡ unused_background) }
+{
+    let sessions = unused_sessions(alloc)?;
+    Ok(Players {
+        sessions,
+        background: Background::new(alloc, BACKGROUND),
+    })
+}
+
+/// Plays a script line by line, over a store in which nothing has happened and players that keep nothing, and writes the text
 /// of its replies.
 fn play_lines<R: Wait, H: Reach<ColumnUnit>, G: Gate, K: Sink, L: Ledger>(
     alloc: Global,
     rt: &R,
     reach: &mut H,
     gate: &G,
-    sessions: &mut [Session],
+    players: &mut Players,
     script: &[u8],
     sink: &mut K,
     waiting: &mut Waiting,
     steps: &mut Steps<L>,
 ) -> Result<(), Stop>
-    requires empty { H.known reach.old ≡ record { side = sole; limits = script_limits; log = []; misses = 0 } }
-    requires unused { sessions.old ≡ unused_from 0 (SESSIONS + 1) }
+    requires empty { H.known reach.old ≡ nothing_in (H.known reach.old).limits.area }
+    requires unused { players.old.sessions.items ≡ unused_from 0 (SESSIONS + 1) }
+    requires unused_background { players.old.background ≡ unused_background }
     requires none_waits { waiting.old ≡ [] }
-    ensures ok { OnOk result (Plays script.now (K.taken sink.old) (K.taken sink.new)) }
-    ensures err { OnErr result (PlaysInPart script.now (K.taken sink.old) (K.taken sink.new)) }
+    ensures ok { OnOk result (Plays (H.known reach.old).limits.area script.now (K.taken sink.old) (K.taken sink.new) steps.old steps.new) }
+    ensures err { OnErr result (PlaysInPart (H.known reach.old).limits.area script.now (K.taken sink.old) (K.taken sink.new)) }
     ensures cause { IsErrOf result Stop.WriteFault → Rose (K.faults sink.old) (K.faults sink.new) }
     ensures later { K.faults sink.old ≤ K.faults sink.new }
 {
@@ -287,7 +362,7 @@ fn play_lines<R: Wait, H: Reach<ColumnUnit>, G: Gate, K: Sink, L: Ledger>(
     while rest.len() > 0 {
         let (line, behind) = first_line(rest);
         play_next(
-            alloc, rt, reach, gate, sessions, line, number, sink, waiting, steps,
+            alloc, rt, reach, gate, players, line, number, sink, waiting, steps,
         )?;
         flush_piece(sink, waiting)?;
         number += 1;
@@ -296,30 +371,31 @@ fn play_lines<R: Wait, H: Reach<ColumnUnit>, G: Gate, K: Sink, L: Ledger>(
     Ok(flush(sink, waiting)?)
 }
 
-/// Plays a script, over a store and sessions of its own, and writes the text of its replies.
+/// Plays a script, over a store, sessions and a background of its own, and writes the text of its replies. The column units of
+/// the store may take `area` bytes together.
 pub fn play_script<R: Wait, G: Gate, K: Sink, L: Ledger>(
     alloc: Global,
     rt: &R,
     gate: &G,
+    area: u64,
     script: &[u8],
     sink: &mut K,
     steps: &mut Steps<L>,
 ) -> Result<(), Stop>
-    ensures ok { OnOk result (Plays script.now (K.taken sink.old) (K.taken sink.new)) }
-    ensures err { OnErr result (PlaysInPart script.now (K.taken sink.old) (K.taken sink.new)) }
+    ensures ok { OnOk result (Plays area script.now (K.taken sink.old) (K.taken sink.new) steps.old steps.new) }
+    ensures err { OnErr result (PlaysInPart area script.now (K.taken sink.old) (K.taken sink.new)) }
     ensures cause { IsErrOf result Stop.WriteFault → Rose (K.faults sink.old) (K.faults sink.new) }
     ensures later { K.faults sink.old ≤ K.faults sink.new }
 {
-    let mut store = empty_store(alloc)?;
-    let mut sessions = unused_sessions(alloc)?;
+    let mut store = empty_store(alloc, area)?;
+    let mut players = unused_players(alloc)?;
     let mut waiting = Waiting::with_room(alloc, PIECE)?;
-    let played = sessions.as_mut_slice();
     play_lines(
         alloc,
         rt,
         &mut store,
         gate,
-        played,
+        &mut players,
         script,
         sink,
         &mut waiting,

@@ -2,7 +2,7 @@ ghost use Rattle.std.specs.Prelude.{◌≡◌, ◌≤◌, ◌⊎◌, ◌+◌, If
 ghost use Rattle.im_edge.specs.Faults.{Rose};
 ghost use Rattle.im_edge.specs.Reading.{GaveAtMost, GaveCount};
 ghost use Rattle.im_edge.specs.Source.{IsSpent};
-ghost use Rattle.im_shell.specs.Play.{Plays, PlaysInPart};
+ghost use Rattle.im_shell.specs.Play.{PlaysFor, PlaysInPartFor};
 ghost use Rattle.im_words.specs.declared.asked.Asked.{Asked};
 ghost use Rattle.im_words.specs.Command.{Refuses};
 ghost use Rattle.im_words.specs.Good.{IsGood};
@@ -33,11 +33,12 @@ pub fn run<R: Threads + Wait + Sync, S: Source, K: Sink, G: Gate + Sync, L: Ledg
     gate: &G,
     steps: &mut Steps<L>,
 ) -> Status
-    // Where the source shows what it had left, that is the script.
+    // Where the source shows what it had left, that is the script. Where memory ran out before the script was read, the sink is as
+    // it was.
     ensures done { result ≡ Status.Done → IfSome (S.left source.old) (λ script.
-        Plays script (K.taken sink.old) (K.taken sink.new)) }
+        PlaysFor words.now script (K.taken sink.old) (K.taken sink.new) steps.old steps.new) }
     ensures in_part { (result ≡ Status.WriteFault) ⊎ (result ≡ Status.NoMemory) → IfSome (S.left source.old) (λ script.
-        PlaysInPart script (K.taken sink.old) (K.taken sink.new)) }
+        (sink.new ≡ sink.old) ⊎ PlaysInPartFor words.now script (K.taken sink.old) (K.taken sink.new)) }
     ensures read_to_end { result ≡ Status.Done → IsSpent (S.left source.new) }
 
     // The command's words are refused exactly where the reader of words refuses them, and good words never are.
@@ -54,18 +55,18 @@ pub fn run<R: Threads + Wait + Sync, S: Source, K: Sink, G: Gate + Sync, L: Ledg
     ensures reads_later { S.faults source.old ≤ S.faults source.new }
     ensures writes_later { K.faults sink.old ≤ K.faults sink.new }
 {
-    match read_words(alloc, words) {
-        Ok(_) => {}
+    let asked = match read_words(alloc, words) {
+        Ok(asked) => asked,
         Err(WordsFault::Usage) => return Status::Usage,
         Err(WordsFault::NoMemory) => return Status::NoMemory,
-    }
+    };
     let script = match read_all(alloc, source, MOST_SCRIPT_BYTES) {
         Ok(script) => script,
         Err(ReadError::Fault) => return Status::ReadFault,
         Err(ReadError::TooLong) => return Status::ScriptTooLong,
         Err(ReadError::NoMemory) => return Status::NoMemory,
     };
-    match play_script(alloc, rt, gate, script.as_slice(), sink, steps) {
+    match play_script(alloc, rt, gate, asked.area, script.as_slice(), sink, steps) {
         Ok(()) => Status::Done,
         Err(Stop::WriteFault) => Status::WriteFault,
         Err(Stop::NoMemory) => Status::NoMemory,

@@ -1,5 +1,6 @@
 pub mod Agreement
 pub mod Assigned
+pub mod Background
 pub mod Cursors
 pub mod Definitions
 pub mod Outcomes

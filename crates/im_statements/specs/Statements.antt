@@ -13,15 +13,14 @@ use Rattle.im_names.specs.Statements.{answer}
 use Rattle.im_plan.specs.Plan.{Plan, Turn}
 use Rattle.im_syntax.specs.declared.statement.Stmt.{Stmt}
 use Rattle.im_syntax.specs.declared.statement.Stmt.TheVariants as stmt
-use Rattle.im_replies.specs.declared.body.Body.TheVariants.{Error}
-use Rattle.im_replies.specs.declared.fault.Fault.TheVariants as fault
+use Rattle.im_replies.specs.declared.body.Body.TheVariants.{Error, Nothing}
 use Rattle.im_replies.specs.declared.reply.Reply.{Reply}
 use Rattle.im_replies.specs.Causes.{name_fault}
 use Rattle.im_statements.specs.Cursors.{close, fetch, open_query, step}
 use Rattle.im_statements.specs.Definitions.{alter_table, commit, create_table, roll_back, set_mode}
 use Rattle.im_statements.specs.Outcomes.{Outcome, State}
 use Rattle.im_statements.specs.Scans.{explain, select}
-use Rattle.im_statements.specs.Turns.{answer_at, look, memory_reply, refusal, settled_reply}
+use Rattle.im_statements.specs.Turns.{answer_at, look, memory_reply, settled_reply}
 use Rattle.im_statements.specs.declared.rewriting.Rewriting.TheVariants.{Updating, Deleting}
 use Rattle.im_statements.specs.Writes.{insert, rewrite, unless_read_only}
 
@@ -32,7 +31,7 @@ abbrev pub name_reply : ℕ → ℕ → NameFault → Reply
 name_reply k place names.NoMemory = memory_reply k
 name_reply k place fault = settled_reply place (Error (name_fault fault))
 
--- a statement whose names were found at this history. Those of the background are not a session's
+-- a statement whose names were found at this history. Those of the background are not a session's, and nothing is done
 abbrev pub resolved_plan : Limits → ℕ → State → History → Resolved → Plan Outcome
 resolved_plan limits who state at (resolved.Select bound) = select who bound
 resolved_plan limits who state at (resolved.Explain bound) = explain who bound
@@ -49,12 +48,12 @@ resolved_plan limits who state at (resolved.OpenFor cursor bound) = open_query w
 resolved_plan limits who state at (resolved.Step cursor) = step state at cursor
 resolved_plan limits who state at (resolved.Fetch cursor) = fetch state at cursor
 resolved_plan limits who state at (resolved.Close cursor) = close state at cursor
-resolved_plan limits who state at resolved.Run = refusal fault.NotBuilt
-resolved_plan limits who state at resolved.Begin = refusal fault.NotBuilt
-resolved_plan limits who state at resolved.Switch = refusal fault.NotBuilt
-resolved_plan limits who state at resolved.Cancel = refusal fault.NotBuilt
-resolved_plan limits who state at (resolved.Trickle credits) = refusal fault.NotBuilt
-resolved_plan limits who state at (resolved.Evict table extent) = refusal fault.NotBuilt
+resolved_plan limits who state at resolved.Run = answer_at at Nothing
+resolved_plan limits who state at resolved.Begin = answer_at at Nothing
+resolved_plan limits who state at resolved.Switch = answer_at at Nothing
+resolved_plan limits who state at resolved.Cancel = answer_at at Nothing
+resolved_plan limits who state at (resolved.Trickle credits) = answer_at at Nothing
+resolved_plan limits who state at (resolved.Evict table extent) = answer_at at Nothing
 
 -- the names of a statement were looked up at this history: what it does, or their fault
 abbrev pub found_plan : Limits → ℕ → State → History → Result Resolved NameFault → Plan Outcome

@@ -48,10 +48,6 @@ settled place body = End (said (settled_reply place body))
 abbrev pub answer_at : History → Body → Plan Outcome
 answer_at at body = settled (length at) body
 
--- a line that is refused before anything is looked up
-abbrev pub refusal : Fault → Plan Outcome
-refusal fault = End (said (fault_reply fault))
-
 -- ---- turns
 
 -- a turn that reads and adds nothing

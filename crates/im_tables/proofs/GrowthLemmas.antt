@@ -1,9 +1,9 @@
 -- Lists and tables that grow by empty elements.
-use Rattle.std.proofs.Common.{◌≡◌, ◌≢◌, ℕ, zero, suc, ◌<◌, List, [], ◌∷◌, ◌++◌, length, get_or, set, refl, sym, ap, ◌∙◌, ⊎_elim, arith, le_refl}
-use Rattle.std.proofs.lemmas.Bool.{cases_eq}
+use Rattle.std.proofs.Common.{◌≡◌, ◌≢◌, ℕ, zero, suc, ◌+◌, ◌<◌, ◌≤◌, List, [], ◌∷◌, ◌++◌, length, get_or, set, max, inl, inr, refl, sym, ap, ◌∙◌, ⊎_elim, arith, le_refl}
+use Rattle.std.proofs.lemmas.Bool.{cases_eq, cases_lt}
 use Rattle.std.proofs.lemmas.Grind.{get_or-set_at}
 use Rattle.std.proofs.lemmas.List.{get_or-set_other, get_or_read, length_push}
-use Rattle.im_tables.specs.Table.{IsGrown, IsPadded, cell_at, row_of}
+use Rattle.im_tables.specs.Table.{AddsUpTo, IsGrown, IsPadded, cell_at, row_of}
 
 -- a default element at the end is never read
 get_or-pad : {T : Type 0} (xs : List T) (default : T) (i : ℕ) → get_or (xs ++ default ∷ []) i default ≡ get_or xs i default
@@ -57,3 +57,29 @@ pub cell_at-row : {T : Type 0} (empty : T) (cells : List (List T)) (table number
     get_or row number empty ≡ cell_at empty cells table number
 unfolding cell_at
 cell_at-row empty cells table number row is = ap (λ (line : List _). get_or line number empty) is
+
+-- tables without cells have none
+pub AddsUpTo-padded : {T : Type 0} (old new : List (List T)) (table number : ℕ) → IsPadded [] old new → AddsUpTo table number old new
+AddsUpTo-padded old new table number padded = record {
+  each = λ t n has. let same = ap length (padded.each t) in let below = has.below in inl (record { below = omega (arith, same, below) });
+}
+
+-- a table has cells up to this number, or as many as before
+pub AddsUpTo-line : {T : Type 0} (old new : List (List T)) (table number : ℕ) (before row : List T) → IsPadded [] old new → table < length new
+    → before ≡ get_or new table before → length row ≤ max (length before) (number + 1) → AddsUpTo table number old (set new table row)
+AddsUpTo-line old new table number before row padded inside was most = record {
+  each = λ t n has.
+      let below = has.below in
+      ⊎_elim
+      (λ (is : t ≡ table).
+      let now = ap length (get_or-set_at new table t row [] is inside) in
+      let then_ = ap length (get_or_read new table before inside was [] ∙ (padded.each table ∙ ap (row_of old) (sym is))) in
+      ⊎_elim
+      (λ (within : n < length (row_of old t)). inl (record { below = within }))
+      (λ (past : length (row_of old t) ≤ n). inr (is, omega (arith, now, then_, most, below, past)))
+      (cases_lt n (length (row_of old t))))
+      (λ (other : t ≢ table).
+      let same = ap length (get_or-set_other new table t row [] other ∙ padded.each t) in
+      inl (record { below = omega (arith, same, below) }))
+      (cases_eq t table);
+}

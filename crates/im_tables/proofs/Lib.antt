@@ -1,3 +1,4 @@
+mod FlagLemmas
 pub mod ForCallers
 mod GrowthLemmas
 pub mod Lists

@@ -1,5 +1,5 @@
 -- General laws of sums, searches and counts.
-use Rattle.std.proofs.Common.{◌≡◌, ℕ, zero, suc, ◌+◌, ◌<◌, ◌≤◌, Bool, true, false, not, ◌||◌, List, [], ◌∷◌, length, map, filter, count_by, Option, Some, None, is_some, ⊎_elim, refl, sym, ap, ◌∙◌, arith, if◌then◌else◌}
+use Rattle.std.proofs.Common.{◌≡◌, ℕ, zero, suc, ◌+◌, ◌<◌, ◌≤◌, Bool, true, false, not, ◌||◌, List, [], ◌∷◌, length, map, filter, count_by, Option, Some, None, is_some, ⊎_elim, refl, ap, ◌∙◌, arith, if◌then◌else◌}
 use Rattle.std.specs.List.{sum_by, range_with_len, find, list_any}
 use Rattle.std.specs.Option.{option_map}
 use Rattle.std.proofs.lemmas.Bool.{cases_Bool, cases_eq, false≢true}

@@ -1,2 +1,4 @@
+pub mod Flags
 pub mod Lends
 pub mod Table
+pub mod inner

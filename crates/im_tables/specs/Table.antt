@@ -1,5 +1,5 @@
 -- Cells by table and number, of which growth is never seen.
-use Rattle.std.specs.Prelude.{◌≡◌, ℕ, ◌<◌, ◌≤◌, List, [], length, get_or, set, slice_get, Option}
+use Rattle.std.specs.Prelude.{◌≡◌, ℕ, ◌<◌, ◌≤◌, ◌⊎◌, List, [], length, get_or, set, slice_get, Option}
 
 module _ {T : Type 0} where
   -- the cells of a table; past the last table there are none
@@ -31,3 +31,7 @@ module _ {T : Type 0} where
   pub record IsGrown (empty : T) (old new : List (List T)) : Type 0 where
     pub cells : (table number : ℕ) → cell_at empty new table number ≡ cell_at empty old table number
     pub room : (table : ℕ) → length (row_of old table) ≤ length (row_of new table)
+
+  -- no cell was added but those of a table up to this number
+  pub record AddsUpTo (table number : ℕ) (old new : List (List T)) : Type 0 where
+    pub each : (t n : ℕ) → HasCell new t n → HasCell old t n ⊎ ((t ≡ table) × (n ≤ number))

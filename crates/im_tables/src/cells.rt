@@ -2,7 +2,7 @@ ghost use Rattle.std.specs.Borrow.{sem};
 ghost use Rattle.std.specs.Option.{option_copied_mut};
 ghost use Rattle.std.specs.Prelude.{◌≡◌, ◌<◌, [], length, option_copied, OnOk};
 ghost use Rattle.im_tables.specs.Lends.{lends_cell, lends_of_table};
-ghost use Rattle.im_tables.specs.Table.{HasCell, IsGrown, IsPadded, cell_at, found_at, row_of};
+ghost use Rattle.im_tables.specs.Table.{AddsUpTo, HasCell, IsGrown, IsPadded, cell_at, found_at, row_of};
 
 use crate::cell::Cell;
 use crate::line::Line;
@@ -74,6 +74,7 @@ impl<T: Cell> Cells<T> {
     pub fn reserve(&mut self, table: u32, number: u64) -> Result<(), NoMemory>
         ensures same { IsGrown T.blank self.old self.new }
         ensures there { OnOk result (HasCell self.new table number) }
+        ensures only { AddsUpTo table number self.old self.new }
     {
         self.grow(table)?;
         self.lines[table as usize].grow(self.alloc, number)

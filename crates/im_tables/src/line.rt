@@ -1,6 +1,6 @@
 ghost use Rattle.std.specs.Borrow.{sem};
 ghost use Rattle.std.specs.Option.{option_copied_mut};
-ghost use Rattle.std.specs.Prelude.{◌≡◌, ◌<◌, [], get_or, length, option_copied, slice_get, OnOk};
+ghost use Rattle.std.specs.Prelude.{◌≡◌, ◌+◌, ◌<◌, ◌≤◌, [], get_or, length, max, option_copied, slice_get, OnOk};
 ghost use Rattle.im_tables.specs.Lends.{lends_of_line, lends_place};
 ghost use Rattle.im_tables.specs.Table.{IsPadded};
 
@@ -68,6 +68,7 @@ impl<T: Cell> Line<T> {
     pub fn grow(&mut self, alloc: Global, number: u64) -> Result<(), NoMemory>
         ensures same { IsPadded T.blank self.old self.new }
         ensures there { OnOk result (number < length self.new) }
+        ensures most { length self.new ≤ max (length self.old) (number + 1) }
     {
         while self.cells.len() as u64 <= number {
             self.cells.push(T::empty(alloc))?;

@@ -2,7 +2,7 @@
 use Rattle.std.specs.Prelude.{ℕ, List, [], ◌∷◌, Option, Some, None, codes, decimal}
 use Rattle.im_values.specs.declared.limits.TheConstants.{MOST_TABLES, MOST_CURSORS}
 use Rattle.im_replies.specs.declared.fault.Fault.{Fault}
-use Rattle.im_replies.specs.declared.fault.Fault.TheVariants.{NotBuilt, LineTooLong, Syntax, UnknownTable, UnknownColumn, RepeatedColumn, WrongCount, WrongKind, TooLong, NotGrouped, TableExists, TooManyTables, CursorUnknown, CursorOpen, TooManyCursors, TransactionOpen, ReadOnly, RowLocked, CannotSerialize, TooManyChanges, StoreFull, NoUnit, Memory}
+use Rattle.im_replies.specs.declared.fault.Fault.TheVariants.{LineTooLong, Syntax, UnknownTable, UnknownColumn, RepeatedColumn, WrongCount, WrongKind, TooLong, NotGrouped, TableExists, TooManyTables, CursorUnknown, CursorOpen, TooManyCursors, TransactionOpen, ReadOnly, RowLocked, CannotSerialize, TooManyChanges, StoreFull, NoUnit, Memory}
 
 -- the column of a grouped query, or its `*`
 abbrev pub column_or_star : Option (List ℕ) → List ℕ
@@ -11,7 +11,6 @@ column_or_star None = codes "*"
 
 -- what follows the word `error`
 abbrev pub fault_fields : Fault → List (List ℕ)
-fault_fields NotBuilt = codes "00" ∷ codes "not-built" ∷ []
 fault_fields (Syntax byte) = codes "01" ∷ codes "syntax" ∷ decimal byte ∷ []
 fault_fields (LineTooLong length) = codes "02" ∷ codes "line-too-long" ∷ decimal length ∷ []
 fault_fields (UnknownTable name) = codes "03" ∷ codes "unknown-table" ∷ name ∷ []

@@ -23,7 +23,6 @@ pub fn put_fault(page: &mut Page, fault: &Fault) -> Result<(), NoMemory>
     ensures { OnOk result (Puts page.old page.new (spec.fault_record fault.now ∷ [])) }
 {
     match fault {
-        Fault::NotBuilt => page.refuse("00", "not-built", &[]),
         Fault::Syntax { byte } => page.refuse("01", "syntax", &[*byte]),
         Fault::LineTooLong { length } => page.refuse("02", "line-too-long", &[*length]),
         Fault::UnknownTable { name } => page.refuse_name("03", "unknown-table", name.bytes(), &[]),

@@ -14,6 +14,8 @@
 mod building;
 mod presence;
 mod reading;
+mod size;
 mod unit;
 
+pub use size::unit_bytes;
 pub use unit::ColumnUnit;

@@ -1,7 +1,7 @@
 ghost use Rattle.std.specs.Prelude.{◌≡◌, ◌+◌, ◌<◌, ◌≤◌, ◌^◌, map, length, sum_by, IfOk};
 ghost use Rattle.std.specs.Arc.{arc_value};
 ghost use Rattle.im_values.specs.Sizes.{column_bytes};
-ghost use Rattle.im_unit.specs.Holding.{AreShort, HaveWidth, columns_of, count_present, present_rows, row_of, unit_bytes, values_in};
+ghost use Rattle.im_unit.specs.Holding.{AreShort, HaveWidth, columns_of, present_rows, row_of, values_in};
 ghost use Rattle.im_unit.specs.inner.Kept.{AreBounded};
 
 use crate::building::{columns_of, rows_present};
@@ -130,20 +130,6 @@ impl ColumnUnit {
         &self.columns[i as usize]
     }
 
-    /// The number of rows that are present. It is kept, and not counted anew.
-    pub fn present(&self) -> u64
-        ensures { result ≡ count_present self.now.rows }
-    {
-        self.presence.count()
-    }
-
-    /// The bytes that it counts for: those of its columns, and a bit for each row number.
-    pub fn bytes(&self) -> u64
-        ensures { result ≡ unit_bytes self.now }
-    {
-        self.bytes
-    }
-
     /// The row number of the first of its rows.
     pub fn first(&self) -> u64
         ensures { result ≡ self.now.first }
@@ -157,5 +143,13 @@ impl UnitLike for ColumnUnit {
 
     fn scn(&self) -> u64 {
         self.scn
+    }
+
+    fn bytes(&self) -> u64 {
+        self.bytes
+    }
+
+    fn present(&self) -> u64 {
+        self.presence.count()
     }
 }

@@ -1,7 +1,9 @@
 //! Tables that join the column store, and the builds of their extents.
 ghost use Rattle.std.specs.Prelude.{◌≡◌, ◌<◌};
 
-use crate::store::{AMPLE, NoUnit, OUT_OF_PLACE, insert, row, set_memory, stocked, sum_of, takes};
+use crate::store::{
+    AMPLE, NoUnit, OUT_OF_PLACE, insert, open, row, set_memory, stocked, sum_of, takes,
+};
 use im_core::{Core, Offer};
 use im_history::{Priority, Refused, Shape, Why};
 use im_values::Steps;
@@ -10,23 +12,15 @@ use std::marker::Brand;
 use std::sync::ledger::{Blank, Ledger};
 use std::test::Fail;
 
-/// Asks for a build of an extent of the first table: the number that it has, or none.
-fn build(
-    alloc: Global,
-    store: &mut Core<NoUnit>,
-    who: u32,
-    extent: u64,
-) -> Result<Option<u64>, Refused>
+/// A build that begins: its number, its table and its extent.
+type Began = (u64, u32, u64);
+
+/// Begins the build that comes next, if there is one.
+fn build(store: &mut Core<NoUnit>, who: u32) -> Result<Option<Began>, Refused>
     requires { who < 25 }
 {
-    let Ok(row) = row(alloc, 1) else {
-        return Err(OUT_OF_PLACE);
-    };
-    if !takes(store, who, &row)? {
-        return Err(OUT_OF_PLACE);
-    }
-    match store.build_of(who, 1, extent, false)? {
-        Offer::Task(task) => Ok(Some(task.id)),
+    match store.build(who)? {
+        Offer::Task(task) => Ok(Some((task.id, task.table, task.extent))),
         Offer::Idle { .. } => Ok(None),
     }
 }
@@ -42,27 +36,69 @@ fn evict(alloc: Global, store: &mut Core<NoUnit>, extent: u64) -> Result<u64, Re
     Ok(store.evict(0, 1, extent)?.place)
 }
 
-/// The numbers of the builds that begin, one after the other, as a table of two rows joins the column store and leaves it.
-fn built(alloc: Global) -> Result<[Option<u64>; 6], Refused> {
-    let (mut store, _made) = stocked(alloc, AMPLE, Shape::standard())?;
-    let outside = build(alloc, &mut store, 0, 0)?;
+/// The builds that begin, one after the other, as a table of two extents joins the column store, leaves it, joins again
+/// without a priority, and is read.
+fn built(alloc: Global) -> Result<[Option<Began>; 7], Refused> {
+    let (mut store, _made) = stocked(alloc, AMPLE, Shape::of(1, 2))?;
+    let outside = build(&mut store, 0)?;
     let _joined = set_memory(alloc, &mut store, 1, Some(Priority::High))?;
-    let without_rows = build(alloc, &mut store, 0, 0)?;
-    let _wrote = insert(alloc, &mut store, 1, 2)?;
-    let first = build(alloc, &mut store, 0, 0)?;
-    let again = build(alloc, &mut store, 0, 0)?;
-    let past = build(alloc, &mut store, 0, 1)?;
+    let without_rows = build(&mut store, 0)?;
+    let _wrote = insert(alloc, &mut store, 1, 3)?;
+    let first = build(&mut store, 0)?;
+    let second = build(&mut store, 17)?;
+    let no_more = build(&mut store, 0)?;
     let _committed = store.commit(1)?;
     let _left = set_memory(alloc, &mut store, 1, None)?;
     let _joined = set_memory(alloc, &mut store, 1, Some(Priority::None))?;
-    let second = build(alloc, &mut store, 17, 0)?;
-    Ok([outside, without_rows, first, again, past, second])
+    let unread = build(&mut store, 0)?;
+    let _opened = open(alloc, &mut store, 2, 1)?;
+    let read = build(&mut store, 17)?;
+    Ok([outside, without_rows, first, second, no_more, unread, read])
 }
 
 #[test]
 fn an_extent_with_rows_is_built_once_at_a_time(rt: HostRuntime) -> Result<(), Fail> {
     let built = built(rt.alloc())?;
-    assert_eq!(rt; built, [None, None, Some(1), None, None, Some(2)]);
+    assert_eq!(rt;
+        built,
+        [
+            None,
+            None,
+            Some((1, 1, 0)),
+            Some((2, 1, 1)),
+            None,
+            None,
+            Some((3, 1, 0))
+        ]
+    );
+    Ok(())
+}
+
+/// A session that leaves a new store, and how many have left when no build comes.
+fn left(alloc: Global) -> Result<(u64, u32), Refused> {
+    let mut store = Core::<NoUnit>::new(alloc, AMPLE)?;
+    let place = store.leave(2)?;
+    match store.build(0)? {
+        Offer::Idle { left, .. } => Ok((place, left)),
+        Offer::Task(_) => Err(OUT_OF_PLACE),
+    }
+}
+
+#[test]
+fn a_session_that_left_is_counted(rt: HostRuntime) -> Result<(), Fail> {
+    assert_eq!(rt; left(rt.alloc())?, (0, 1));
+    Ok(())
+}
+
+/// The credits that are left as some are given twice.
+fn credits(alloc: Global) -> Result<[u128; 2], Refused> {
+    let mut store = Core::<NoUnit>::new(alloc, AMPLE)?;
+    Ok([store.trickle(0, 5)?, store.trickle(17, 1_000_000)?])
+}
+
+#[test]
+fn credits_add_up(rt: HostRuntime) -> Result<(), Fail> {
+    assert_eq!(rt; credits(rt.alloc())?, [5, 1_000_005]);
     Ok(())
 }
 
@@ -79,23 +115,16 @@ fn what_is_not_there_is_not_evicted(rt: HostRuntime) -> Result<(), Fail> {
     Ok(())
 }
 
-/// Begins a build of the first extent, reads its rows and cancels it: the sum of the rows, and the place of the entry.
+/// Begins the build that comes next, reads its rows and cancels it: the sum of the rows, and the place of the entry.
 fn read_in_vain<L: Ledger>(
-    alloc: Global,
     store: &mut Core<NoUnit>,
     who: u32,
     steps: &mut Steps<L>,
 ) -> Result<(u64, u64), Refused>
     requires { who < 25 }
 {
-    let Ok(row) = row(alloc, 1) else {
-        return Err(OUT_OF_PLACE);
-    };
-    if !takes(store, who, &row)? {
-        return Err(OUT_OF_PLACE);
-    }
-    let _legal = store.look(who)?;
-    let Offer::Task(task) = store.build_of(who, 1, 0, false)? else {
+    store.known();
+    let Offer::Task(task) = store.build(who)? else {
         return Err(OUT_OF_PLACE);
     };
     let pin = store.read_task(who, &task, steps)?;
@@ -114,9 +143,9 @@ fn read_twice<L: Ledger>(alloc: Global, blank: Blank) -> Result<[(u64, u64); 2],
     let _wrote = insert(alloc, &mut store, 1, 2)?;
     let _committed = store.commit(1)?;
     let _wrote = insert(alloc, &mut store, 1, 2)?;
-    let first = read_in_vain(alloc, &mut store, 0, &mut steps)?;
+    let first = read_in_vain(&mut store, 0, &mut steps)?;
     let _committed = store.commit(1)?;
-    let second = read_in_vain(alloc, &mut store, 17, &mut steps)?;
+    let second = read_in_vain(&mut store, 17, &mut steps)?;
     Ok([first, second])
 }
 

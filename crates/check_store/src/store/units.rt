@@ -1,8 +1,9 @@
-//! Column units of an extent of two rows: built while a row is updated, made current, evicted, and built again.
-ghost use Rattle.std.specs.Prelude.{◌≡◌, ◌<◌, All, map, length, OnOk, IfOk};
+//! Column units of extents of two or six rows: built while a row is updated, made current, evicted, and built again.
+ghost use Rattle.std.specs.Prelude.{◌≡◌, ◌*◌, ◌<◌, ◌≤◌, [], ◌∷◌, All, map, length, OnOk, IfOk};
 ghost use Rattle.std.specs.Bool.{OnTrue};
 ghost use Rattle.std.specs.Option.{ForSome};
 ghost use Rattle.im_history.specs.declared.task.Task.{Task as TaskInfo};
+ghost use Rattle.im_history.specs.Grid.{IsInRange};
 ghost use Rattle.im_history.specs.Cursors.{opened};
 ghost use Rattle.im_history.specs.Units.{IsOwn, task_content};
 ghost use Rattle.im_column.specs.Forms.{IsShort};
@@ -12,7 +13,7 @@ mod cursors;
 
 use crate::store::{AMPLE, OUT_OF_PLACE, insert, row, set_memory, stocked, sum_of, takes, update};
 use im_core::{Core, Fetched, Offer, Switched};
-use im_history::{Priority, Refused, Shape, Task, UnitLike};
+use im_history::{Limits, Priority, Refused, Shape, Task, UnitLike};
 use im_unit::ColumnUnit;
 use im_values::{NoMemory, Row, Steps, Value};
 use std::alloc::Global;
@@ -25,22 +26,27 @@ use std::test::Fail;
 /// their sum.
 type Met = (u64, Option<u64>, usize, u64);
 
-/// Begins a build of the extent.
-fn begin(alloc: Global, store: &mut Core<ColumnUnit>) -> Result<Task, Refused>
+/// Begins the build that comes next, if there is one.
+fn begin_next(store: &mut Core<ColumnUnit>) -> Result<Option<Task>, Refused>
+    ensures own { IfOk result (λ begun. ForSome begun (λ task. IsOwn store.new.log 0 task)) }
+    ensures stays { OnOk result (opened store.new.log 3 ≡ opened store.old.log 3) }
+{
+    store.known();
+    match store.build(0)? {
+        Offer::Task(task) => Ok(Some(task)),
+        Offer::Idle { .. } => Ok(None),
+    }
+}
+
+/// Begins the build that comes next.
+fn begin(store: &mut Core<ColumnUnit>) -> Result<Task, Refused>
     ensures own { IfOk result (λ task. IsOwn store.new.log 0 task) }
     ensures stays { OnOk result (opened store.new.log 3 ≡ opened store.old.log 3) }
 {
-    let Ok(row) = row(alloc, 1) else {
-        return Err(OUT_OF_PLACE);
-    };
-    if !takes(store, 0, &row)? {
-        return Err(OUT_OF_PLACE);
+    match begin_next(store)? {
+        Some(task) => Ok(task),
+        None => Err(OUT_OF_PLACE),
     }
-    let _legal = store.look(0)?;
-    let Offer::Task(task) = store.build_of(0, 1, 0, false)? else {
-        return Err(OUT_OF_PLACE);
-    };
-    Ok(task)
 }
 
 /// The rows that were fetched, without their numbers.
@@ -68,25 +74,42 @@ fn is_single(row: &Option<Row>) -> bool
     }
 }
 
-/// Whether these are the rows of a build of the first extent, of two rows of one number.
-fn are_whole(task: &Task, rows: &[Option<Row>]) -> bool
+/// Whether three rows are single.
+fn are_three(one: &Option<Row>, two: &Option<Row>, three: &Option<Row>) -> bool
+    ensures width { OnTrue result (HaveWidth 1 (one.now ∷ two.now ∷ three.now ∷ [])) }
+    ensures short { OnTrue result (AreShort (one.now ∷ two.now ∷ three.now ∷ [])) }
+{
+    is_single(one) && is_single(two) && is_single(three)
+}
+
+/// Whether these are rows of one number, two or six of them.
+fn are_single(rows: &[Option<Row>]) -> bool
     ensures width { OnTrue result (HaveWidth 1 rows.now) }
     ensures short { OnTrue result (AreShort rows.now) }
-    ensures two { OnTrue result (length rows.now ≡ 2) }
-    ensures extent { OnTrue result (task.now.extent ≡ 0) }
-    ensures per { OnTrue result (task.now.per ≡ 2) }
-    ensures columns { OnTrue result (task.now.columns ≡ 1) }
+    ensures few { OnTrue result (length rows.now ≤ 6) }
 {
-    if task.extent != 0 || task.per != 2 || task.columns != 1 {
-        return false;
-    }
     match rows {
-        [first, second] => is_single(first) && is_single(second),
+        [one, two] => is_single(one) && is_single(two),
+        [one, two, three, four, five, six] => {
+            are_three(one, two, three) && are_three(four, five, six)
+        }
         _ => false,
     }
 }
 
-/// The unit of a build of the extent, both rows of which were given.
+/// Whether these are the rows of a build of one of the first eight extents, all of whose row numbers were given.
+fn are_whole(task: &Task, rows: &[Option<Row>]) -> bool
+    ensures width { OnTrue result (HaveWidth 1 rows.now) }
+    ensures short { OnTrue result (AreShort rows.now) }
+    ensures few { OnTrue result (length rows.now ≤ 6) }
+    ensures full { OnTrue result (length rows.now ≡ task.now.per) }
+    ensures within { OnTrue result (task.now.extent * task.now.per < 64) }
+    ensures columns { OnTrue result (task.now.columns ≡ 1) }
+{
+    task.extent < 8 && task.columns == 1 && rows.len() as u64 == task.per && are_single(rows)
+}
+
+/// The unit of a build of an extent, all rows of which were given.
 fn unit_of<L: Ledger>(
     alloc: Global,
     store: &mut Core<ColumnUnit>,
@@ -104,7 +127,8 @@ fn unit_of<L: Ledger>(
     if !are_whole(task, rows.as_slice()) {
         return Err(OUT_OF_PLACE);
     }
-    let Ok(unit) = ColumnUnit::build(alloc, task.scn, 0, 1, rows.as_slice()) else {
+    let first = task.extent * task.per;
+    let Ok(unit) = ColumnUnit::build(alloc, task.scn, first, 1, rows.as_slice()) else {
         return Err(OUT_OF_PLACE);
     };
     match Arc::new(alloc, unit) {
@@ -116,10 +140,12 @@ fn unit_of<L: Ledger>(
 /// How a build ended.
 #[derive(Clone, Copy, Debug, PartialEq, Eq)]
 enum Ended {
-    /// Its unit is current; the unit that was before shows this SCN.
-    Current(Option<u64>),
+    /// Its unit is current, and so many bytes are used; the unit that was before shows this SCN.
+    Current(u64, Option<u64>),
     /// It was dead: the entry at this place had killed it.
     Dead(u64),
+    /// Its unit needs so many bytes, and so many were left.
+    Full(u64, u64),
 }
 
 /// Makes the unit of a build current.
@@ -134,13 +160,13 @@ fn switch<L: Ledger>(
 {
     let unit = unit_of(alloc, store, &task, steps)?;
     match store.switch(0, task, unit) {
-        Switched::Done { old, .. } => Ok(Ended::Current(old.map(|unit| unit.scn()))),
+        Switched::Done { used, old, .. } => { Ok(Ended::Current(used, old.map(|unit| unit.scn()))) }
         Switched::Cancelled { at, .. } => Ok(Ended::Dead(at)),
-        Switched::AreaFull { .. } => Err(OUT_OF_PLACE),
+        Switched::AreaFull { need, free, .. } => Ok(Ended::Full(need, free)),
     }
 }
 
-/// Begins a build of the extent, and then updates the first row and commits.
+/// Begins the build that comes next, and then updates the first row and commits.
 fn begin_late<L: Ledger>(
     alloc: Global,
     store: &mut Core<ColumnUnit>,
@@ -149,13 +175,13 @@ fn begin_late<L: Ledger>(
     ensures own { IfOk result (λ task. IsOwn store.new.log 0 task) }
     ensures stays { OnOk result (opened store.new.log 3 ≡ opened store.old.log 3) }
 {
-    let task = begin(alloc, store)?;
+    let task = begin(store)?;
     let _updated = update(alloc, store, 1, 0, steps)?;
     let _committed = store.commit(1)?;
     Ok(task)
 }
 
-/// Builds the extent, updates its first row and commits, and only then makes the unit current.
+/// Builds what comes next, updates the first row and commits, and only then makes the unit current.
 fn switch_late<L: Ledger>(
     alloc: Global,
     store: &mut Core<ColumnUnit>,
@@ -167,8 +193,8 @@ fn switch_late<L: Ledger>(
     switch(alloc, store, task, steps)
 }
 
-/// Evicts the unit of the extent, and answers its SCN.
-fn evict(alloc: Global, store: &mut Core<ColumnUnit>) -> Result<u64, Refused>
+/// Evicts the unit of the first extent, and answers its SCN and how many bytes are used then.
+fn evict(alloc: Global, store: &mut Core<ColumnUnit>) -> Result<(u64, u64), Refused>
     ensures owned { (task : TaskInfo) → IsOwn store.old.log 0 task → IsOwn store.new.log 0 task }
     ensures stays { OnOk result (opened store.new.log 3 ≡ opened store.old.log 3) }
 {
@@ -178,10 +204,11 @@ fn evict(alloc: Global, store: &mut Core<ColumnUnit>) -> Result<u64, Refused>
     if !takes(store, 0, &row)? {
         return Err(OUT_OF_PLACE);
     }
-    Ok(store.evict(0, 1, 0)?.old.scn())
+    let evicted = store.evict(0, 1, 0)?;
+    Ok((evicted.old.scn(), evicted.used))
 }
 
-/// Builds the extent, evicts its unit, which kills the build, and then ends the build.
+/// Begins a build of the first extent, evicts its unit, which kills the build, and then ends the build.
 fn switch_dead<L: Ledger>(
     alloc: Global,
     store: &mut Core<ColumnUnit>,
@@ -189,12 +216,12 @@ fn switch_dead<L: Ledger>(
 ) -> Result<Ended, Refused>
     ensures stays { OnOk result (opened store.new.log 3 ≡ opened store.old.log 3) }
 {
-    let task = begin(alloc, store)?;
+    let task = begin(store)?;
     let _evicted = evict(alloc, store)?;
     switch(alloc, store, task, steps)
 }
 
-/// What a scan of the extent meets.
+/// What a scan of the first extent meets.
 fn meet<L: Ledger>(
     alloc: Global,
     store: &mut Core<ColumnUnit>,
@@ -246,11 +273,15 @@ fn rounds<L: Ledger>(
     Ok([first, second, third, last])
 }
 
-/// A store whose table of two rows of 1 has joined the column store.
-fn filled(alloc: Global) -> Result<Core<ColumnUnit>, Refused> {
-    let (mut store, _made) = stocked(alloc, AMPLE, Shape::of(1, 2))?;
+/// A store whose table of so many rows of 1, in extents of so many, has joined the column store.
+fn filled(alloc: Global, limits: Limits, per: u32, count: u64) -> Result<Core<ColumnUnit>, Refused>
+    requires store { limits.store ≤ 536870912 }
+    requires changes { limits.changes ≤ 65536 }
+    requires per { IsInRange per }
+{
+    let (mut store, _made) = stocked(alloc, limits, Shape::of(1, per))?;
     let _joined = set_memory(alloc, &mut store, 1, Some(Priority::High))?;
-    let _wrote = insert(alloc, &mut store, 1, 2)?;
+    let _wrote = insert(alloc, &mut store, 1, count)?;
     let _committed = store.commit(1)?;
     Ok(store)
 }
@@ -262,7 +293,7 @@ fn met<L: Ledger>(alloc: Global, blank: Blank) -> Result<[(Ended, Met); 4], Refu
     requires some { 0 < blank.parts }
 {
     let mut steps = Steps::<L>::new(blank);
-    let mut store = filled(alloc)?;
+    let mut store = filled(alloc, AMPLE, 2, 2)?;
     rounds(alloc, &mut store, &mut steps)
 }
 
@@ -272,10 +303,10 @@ fn a_unit_serves_with_what_was_committed_while_it_was_built(rt: HostRuntime) -> 
     assert_eq!(rt;
         met,
         [
-            (Ended::Current(None), (3, Some(2), 1, 7)),
-            (Ended::Current(Some(2)), (4, Some(3), 1, 7)),
+            (Ended::Current(25, None), (3, Some(2), 1, 7)),
+            (Ended::Current(26, Some(2)), (4, Some(3), 1, 7)),
             (Ended::Dead(21), (4, None, 2, 8)),
-            (Ended::Current(None), (5, Some(4), 1, 7)),
+            (Ended::Current(26, None), (5, Some(4), 1, 7)),
         ]
     );
     Ok(())

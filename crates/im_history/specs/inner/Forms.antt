@@ -1,5 +1,5 @@
 -- How changes are kept.
-use Rattle.std.specs.Prelude.{ℕ, ◌+◌, ◌^◌, ◌≤◌, List, length}
+use Rattle.std.specs.Prelude.{◌+◌, ◌^◌, ◌≤◌, List, length}
 use Rattle.im_history.specs.declared.change.Change.{Change}
 use Rattle.im_history.specs.declared.changes.Form.{Form}
 use Rattle.im_history.specs.declared.changes.Form.TheVariants.{Put, Each}

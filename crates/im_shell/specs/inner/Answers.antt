@@ -1,35 +1,60 @@
--- How one line is played over a store and its sessions, and what holds between two lines.
+-- How one line is played over a store, its sessions and its background, and what holds between two lines.
 use Rattle.std.specs.Prelude.{◌≡◌, ℕ, zero, suc, ◌+◌, ◌≤◌, false, List, [], ◌∷◌, length, map, Option, Some, None, ⊤, slice_set}
+use Rattle.im_history.specs.History.{History}
 use Rattle.im_syntax.specs.Rules.{IsStmt}
-use Rattle.im_plan.specs.Goes.{Line as Whole, Nobody}
-use Rattle.im_reach.specs.Sides.{Known, sole}
+use Rattle.im_syntax.specs.declared.statement.Stmt.{Stmt}
+use Rattle.im_plan.specs.Goes.{After, Line as Whole, Nobody}
+use Rattle.im_reach.specs.Sides.{AreOthers, Known, StoreSide, sole}
 use Rattle.im_script.specs.declared.line.Line.{Line}
 use Rattle.im_script.specs.declared.line.LineKind.{LineKind}
 use Rattle.im_script.specs.declared.line.LineKind.TheVariants as line
+use Rattle.im_session.specs.Reads.{IsCounted}
 use Rattle.im_session.specs.Sessions.{Agrees, Kept, state_of}
 use Rattle.im_replies.specs.declared.reply.Reply.{Reply}
-use Rattle.im_shell.specs.Play.{Machine, state_in}
-use Rattle.im_shell.specs.Requests.{Request, Demand, Nothing, Told, Asks, demand_of, script_limits}
+use Rattle.im_shell.specs.Play.{Machine, alone_at, state_in}
+use Rattle.im_shell.specs.Requests.{BACKGROUND, Command, Request, Demand, Nothing, Told, Asks, Orders, demand_of, script_limits}
+use Rattle.im_statements.specs.Background.{Answered, command_amends, command_plan}
 use Rattle.im_statements.specs.Outcomes.{Effect, Replied, kept_after}
+use Rattle.im_statements.specs.Statements.{statement_plan}
+use Rattle.im_statements.specs.Turns.{amends}
 use Rattle.im_values.specs.declared.limits.TheConstants.{SESSIONS}
+use Rattle.im_worker.specs.Background as background
+use Rattle.im_worker.specs.Background.{tasks_of}
+use Rattle.im_worker.specs.Reads as builds
 
 -- ---- between two lines
 
--- sessions of rising numbers, from one on, each of which agrees with what is known
+-- sessions of rising numbers, from one on. Each but that of the number 0, which is the background's, agrees with what is known
 abbrev pub AreSessions : ℕ → List Kept → Known → Type 0
 AreSessions who [] now = ⊤
-AreSessions who (session ∷ sessions) now = (session.who ≡ who) × Agrees session now × AreSessions (suc who) sessions now
+AreSessions who (session ∷ sessions) now = (session.who ≡ who) × (1 ≤ who → Agrees session now) × AreSessions (suc who) sessions now
 
--- the store that a script is played over, and its sessions, between two lines
-pub record IsBetween (now : Known) (sessions : List Kept) : Type 0 where
+-- the side of the background, beside which the sessions are others
+abbrev pub background_side : StoreSide
+background_side = record { alone = false; number = Some BACKGROUND }
+
+-- the background agreed with what was known when its last line ended, and since then only sessions went on
+pub record IsHolding (kept : background.Kept) (now : Known) : Type 0 where
+  pub who : kept.who ≡ BACKGROUND
+  pub at : History
+  pub agrees : background.Agrees kept (record now { log = at })
+  pub after : After (AreOthers background_side) at now.log
+
+-- the store that a script is played over, its sessions and its background, between two lines
+pub record IsBetween (now : Known) (sessions : List Kept) (kept : background.Kept) : Type 0 where
   pub side : now.side ≡ sole
-  pub limits : now.limits ≡ script_limits
+  pub limits : now.limits ≡ script_limits now.limits.area
   pub count : length sessions ≡ SESSIONS + 1
   pub agree : AreSessions 0 sessions now
+  pub holding : IsHolding kept now
 
 -- the machine that they are
-abbrev pub machine_of : Known → List Kept → Machine
-machine_of now sessions = record { history = now.log; states = map (λ session. state_of session.cursors) sessions }
+abbrev pub machine_of : Known → List Kept → background.Kept → Machine
+machine_of now sessions kept = record {
+  history = now.log;
+  states = map (λ session. state_of session.cursors) sessions;
+  builds = tasks_of kept.builds;
+}
 
 -- a session that keeps nothing
 abbrev pub unused_session : ℕ → Kept
@@ -40,36 +65,74 @@ abbrev pub unused_from : ℕ → ℕ → List Kept
 unused_from who zero = []
 unused_from who (suc left) = unused_session who ∷ unused_from (suc who) left
 
+-- a background that holds no build
+abbrev pub unused_background : background.Kept
+unused_background = record { who = BACKGROUND; builds = [] }
+
+-- what is known of the store in which nothing has happened, and which nobody else has
+abbrev pub nothing_in : ℕ → Known
+nothing_in area = record { side = sole; limits = script_limits area; log = []; misses = 0 }
+
 -- ---- a line
 
--- a statement was played alone
-pub record IsAnswer (request : Request) (old : Machine) (reply : Reply) (new : Machine) : Type 0 where
+-- what the line of a session's statement asks for
+abbrev pub request_of : ℕ → ℕ → ℕ → Stmt → Request
+request_of area number who statement =
+    record { number = number; who = who; plan = λ state. statement_plan (script_limits area) who state statement; amends = amends who }
+
+-- what the line of a statement of the background asks for
+abbrev pub command_of : ℕ → ℕ → Stmt → Command
+command_of area number statement = record {
+  number = number;
+  plan = λ rounds builds. command_plan (script_limits area) BACKGROUND rounds builds statement;
+  amends = command_amends BACKGROUND;
+}
+
+-- a statement of a session was played alone, and the steps grew so
+pub record IsAnswer (area before after : ℕ) (request : Request) (old : Machine) (reply : Reply) (new : Machine) : Type 0 where
   pub effect : Effect
   pub line :
       Whole Nobody request.who request.amends old.history (request.plan (state_in old request.who)) (Replied reply effect) new.history
   pub states : new.states ≡ slice_set old.states request.who (kept_after effect (state_in old request.who))
+  pub builds_are : new.builds ≡ old.builds
+  pub counted : IsCounted request.who before after (alone_at area old.history) (alone_at area new.history)
+
+-- a statement of the background was played alone, in so many rounds where it goes by them, and the steps grew so
+pub record IsCommandAnswer (area before after : ℕ) (command : Command) (old : Machine) (reply : Reply) (new : Machine) : Type 0 where
+  pub rounds : ℕ
+  pub line :
+      Whole Nobody BACKGROUND (command.amends old.builds) old.history (command.plan rounds old.builds) (Answered reply new.builds) new.history
+  pub states_are : new.states ≡ old.states
+  pub counted : builds.IsCounted BACKGROUND before after (alone_at area old.history) (alone_at area new.history)
+
+-- nothing happened, and the steps did not grow
+pub record IsStill (before after : ℕ) (old new : Machine) : Type 0 where
+  pub machine : new ≡ old
+  pub steps : after ≡ before
 
 -- where nothing is asked for there is no reply, and the machine stays; it stays too where a line has its one reply
-abbrev pub IsAnswered : Demand → Machine → Option Reply → Machine → Type 0
-IsAnswered Nothing old None new = new ≡ old
-IsAnswered Nothing old (Some reply) new = ⊥
-IsAnswered (Told number told) old None new = ⊥
-IsAnswered (Told number told) old (Some reply) new = (reply ≡ told) × (new ≡ old)
-IsAnswered (Asks request) old None new = ⊥
-IsAnswered (Asks request) old (Some reply) new = IsAnswer request old reply new
+abbrev pub IsAnswered : ℕ → ℕ → ℕ → Demand → Machine → Option Reply → Machine → Type 0
+IsAnswered area before after Nothing old None new = IsStill before after old new
+IsAnswered area before after Nothing old (Some reply) new = ⊥
+IsAnswered area before after (Told number told) old None new = ⊥
+IsAnswered area before after (Told number told) old (Some reply) new = (reply ≡ told) × IsStill before after old new
+IsAnswered area before after (Asks request) old None new = ⊥
+IsAnswered area before after (Asks request) old (Some reply) new = IsAnswer area before after request old reply new
+IsAnswered area before after (Orders command) old None new = ⊥
+IsAnswered area before after (Orders command) old (Some reply) new = IsCommandAnswer area before after command old reply new
 
 -- a line was played to its reply, where it has one
-pub record Answers (line : Line) (old : Machine) (reply : Option Reply) (new : Machine) : Type 0 where
-  pub answered : IsAnswered (demand_of line) old reply new
+pub record Answers (area before after : ℕ) (line : Line) (old : Machine) (reply : Option Reply) (new : Machine) : Type 0 where
+  pub answered : IsAnswered area before after (demand_of area line) old reply new
 
--- a line that has a statement has one of the language, of a session
+-- a line that has a statement has one of the language, of a session or of the background
 abbrev pub HasStatement : LineKind → Type 0
 HasStatement line.Skip = Unit {0}
 HasStatement line.Race = Unit {0}
 HasStatement (line.Long length) = Unit {0}
 HasStatement (line.Bad byte) = Unit {0}
-HasStatement (line.Session who statement) = (who ≤ SESSIONS) × IsStmt statement
-HasStatement (line.Background statement) = Unit {0}
+HasStatement (line.Session who statement) = (1 ≤ who) × (who ≤ SESSIONS) × IsStmt statement
+HasStatement (line.Background statement) = IsStmt statement
 HasStatement line.NoMemory = Unit {0}
 
 pub record IsKnown (kind : LineKind) : Type 0 where

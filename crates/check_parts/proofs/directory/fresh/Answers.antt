@@ -3,10 +3,11 @@ use Rattle.im_history.specs.Commits.{scn}
 use Rattle.im_history.specs.Units.{Content}
 use Rattle.im_history.proofs.Laws.{scn-nil}
 use Rattle.im_directory.proofs.ForCallers.{Agrees-new, IsBefore-by}
+use Rattle.check_parts.specs.declared.directory.Plain.{Plain}
 use Rattle.check_parts.proofs.directory.fresh.Goals as goal
 
 -- what a unit holds counts nowhere here
-nothing : ℕ → Content
+nothing : Plain → Content
 nothing unit = record { scn = 0; first = 0; columns = 0; rows = [] }
 
 pub invariant_of-result : goal.invariant_of-result

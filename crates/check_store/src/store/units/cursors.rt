@@ -4,7 +4,7 @@ ghost use Rattle.im_core.specs.Answers.{cursor_view};
 ghost use Rattle.im_history.specs.Cursors.{opened};
 
 use crate::store::units::{Ended, begin_late, filled, switch, switch_dead, switch_late};
-use crate::store::{OUT_OF_PLACE, row, size_of, takes};
+use crate::store::{AMPLE, OUT_OF_PLACE, row, size_of, takes};
 use im_core::{Core, Pin};
 use im_history::{Refused, UnitLike};
 use im_unit::ColumnUnit;
@@ -131,7 +131,7 @@ fn played<L: Ledger>(
     requires some { 0 < blank.parts }
 {
     let mut steps = Steps::<L>::new(blank);
-    let mut store = filled(alloc)?;
+    let mut store = filled(alloc, AMPLE, 2, 2)?;
     let scn = open(alloc, &mut store)?;
     let first = first_round(alloc, &mut store, &mut steps)?;
     let later = later_rounds(alloc, &mut store, &mut steps)?;
@@ -144,14 +144,14 @@ fn a_cursor_sees_the_same_rows_whichever_unit_is_current(rt: HostRuntime) -> Res
     assert_eq!(rt; scn, 2);
     assert_eq!(rt;
         first,
-        ((None, 2, 2), Ended::Current(None), (Some(2), 0, 2))
+        ((None, 2, 2), Ended::Current(25, None), (Some(2), 0, 2))
     );
     assert_eq!(rt;
         later,
         [
-            (Ended::Current(Some(2)), (None, 2, 2)),
+            (Ended::Current(26, Some(2)), (None, 2, 2)),
             (Ended::Dead(18), (None, 2, 2)),
-            (Ended::Current(None), (None, 2, 2)),
+            (Ended::Current(26, None), (None, 2, 2)),
         ]
     );
     Ok(())

@@ -1,6 +1,6 @@
-use Rattle.im_history.specs.Commits.{scn}
 use Rattle.std.proofs.Common.{◌+◌, arith}
-use Rattle.im_directory.proofs.ForCallers.{Agrees-apart, Agrees-begin, Agrees-cancel, Agrees-commit, Agrees-drop, Agrees-new, Agrees-switch, Agrees-told, IsAlive-by, IsBefore-by, lives-by, living-by, numbered-by, stale-by}
+use Rattle.im_history.specs.Commits.{scn}
+use Rattle.im_directory.proofs.ForCallers.{Agrees-apart, Agrees-begin, Agrees-cancel, Agrees-commit, Agrees-drop, Agrees-new, Agrees-switch, Agrees-told, IsAlive-by, IsBefore-by, due-by, empty-by, is_stale-by, lives-by, living-by, numbered-by, stale-by, used-by}
 use Rattle.im_directory.proofs.agreement.agreement_is_kept.Goals as goal
 
 pub returns-clause-kept : goal.returns-clause-kept
@@ -24,4 +24,8 @@ returns-clause-read g c content h kept agrees = record {
   lives = λ id held is alive. lives-by content h kept id held agrees is alive;
   numbered = λ id held is. numbered-by content h kept id held agrees is;
   alive = λ id held is alive. IsAlive-by content h kept id held agrees is alive;
+  empty = λ table extent. empty-by content h kept table extent agrees;
+  due = λ table extent some. due-by content h kept table extent agrees some;
+  stale = λ table extent some. is_stale-by content h kept table extent agrees some;
+  used = λ of. used-by content h kept agrees of;
 }

@@ -11,5 +11,5 @@ invariant_of-self c =
     let long : length (set list (held.task.id - 1) None) ≡ length list = length-set list (held.task.id - 1) None in
     record {
       counted = ap (λ (b : List (Option Held)). length b) cancelled.builds ∙ (long ∙ c.args.self.now.counted);
-      before = IsBefore-cancelled _ _ held (c.args.self.now.scn + 1) cancelled c.args.self.now.before;
+      before = IsBefore-cancelled _ _ held c.args.full (c.args.self.now.scn + 1) cancelled c.args.self.now.before;
     }

@@ -15,3 +15,10 @@ returns-in-Cancelled g c = record {
       opened-switched _ c.args.store.now c.unit_of.new.store c.switch.new.self 0 3 c.args.task c.switch.result refl c.in_ok-unit.ensures.same
       c.switch.ensures;
 }
+
+pub returns-in-AreaFull : goal.returns-in-AreaFull
+returns-in-AreaFull g c = record {
+  stays =
+      opened-switched _ c.args.store.now c.unit_of.new.store c.switch.new.self 0 3 c.args.task c.switch.result refl c.in_ok-unit.ensures.same
+      c.switch.ensures;
+}

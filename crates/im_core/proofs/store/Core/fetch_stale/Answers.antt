@@ -1,6 +1,6 @@
 use Rattle.std.proofs.Common.{◌≡◌, Some, length, map, sym, subst, ap, ◌∙◌, arith}
 use Rattle.im_history.specs.Rows.{rows}
-use Rattle.im_history.specs.Units.{stale, unit}
+use Rattle.im_history.specs.Units.{unit}
 use Rattle.im_history.proofs.ShapeLaws.{per_at-some}
 use Rattle.im_blocks.proofs.ForCallers.{rows_among_kept}
 use Rattle.im_directory.proofs.ForCallers.{stale-of}

@@ -2,7 +2,7 @@ use Rattle.std.proofs.Common.{◌≡◌, ◌<◌, Some, None, length, refl, sym,
 use Rattle.std.specs.Option.{option_map}
 use Rattle.im_history.specs.Units.{content_at, unit}
 use Rattle.im_core.specs.Answers.{content_in, cursor_view}
-use Rattle.im_history.specs.Serving.{committed_in, fetched_in, not_newer, rows_in, serving_content}
+use Rattle.im_history.specs.Serving.{committed_in, fetched_in, not_newer, serving_content}
 use Rattle.im_core.specs.inner.Lending.{stale_in}
 use Rattle.im_core.specs.Seen.{Seen}
 use Rattle.im_core.proofs.FetchLemmas.{store_view, view_found}

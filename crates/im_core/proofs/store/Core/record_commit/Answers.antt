@@ -1,4 +1,4 @@
-use Rattle.std.proofs.Common.{◌≡◌, ◌+◌, ap, ◌∙◌, sym, arith}
+use Rattle.std.proofs.Common.{◌≡◌, ◌+◌, ap, ◌∙◌, arith}
 use Rattle.im_history.specs.Commits.{scn}
 use Rattle.im_history.specs.Stored.{Stored}
 use Rattle.im_blocks.proofs.ForCallers.{IsKept-same, ready_to_apply}

@@ -5,8 +5,8 @@ use Rattle.im_core.specs.Seen.{Seen}
 use Rattle.im_core.proofs.HoldsLemmas.{Holds-shut}
 use Rattle.im_core.proofs.store.Core.shut.Goals as goal
 
-pub append-requires : goal.append-requires
-append-requires g c =
+pub append-requires-clause-room : goal.append-requires-clause-room
+append-requires-clause-room g c =
     let opened = subst (λ (s : Seen). is_cursor_open s.log c.args.who c.args.cursor ≡ true) (sym c.self.view_is) c.requires.cursor in
     let owes = owed-cursor c.self.inside.history.entries c.self.inside.sessions c.args.who c.args.cursor c.self.invariant.sessions c.requires.session opened in
     let room = c.self.invariant.room in

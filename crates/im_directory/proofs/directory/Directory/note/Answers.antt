@@ -1,4 +1,6 @@
+use Rattle.std.proofs.Common.{refl}
 use Rattle.im_directory.proofs.EffectLemmas.{AreBefore-from, IsNoted-made}
+use Rattle.im_directory.proofs.PlacedLemmas.{IsPlaced-same}
 use Rattle.im_directory.proofs.SoundLemmas.{IsSound-noted}
 use Rattle.im_directory.proofs.directory.Directory.note.Goals as goal
 
@@ -7,5 +9,6 @@ note_all-requires-clause-later g c = rw (← c.self.view_is) at (AreBefore-from 
 
 pub invariant_of-self : goal.invariant_of-self
 invariant_of-self g c =
-    IsSound-noted _ _ c.args.tables.now c.args.scn c.args.changes.now
-    (IsNoted-made _ _ c.self.inside.builds c.args.tables.now c.args.scn c.args.changes.now c.note_all.ensures) c.self.invariant
+    IsPlaced-same _ _ _ refl c.note_all.ensures.room
+    (IsSound-noted _ _ c.args.tables.now c.args.scn c.args.changes.now
+    (IsNoted-made _ _ c.self.inside.builds c.args.tables.now c.args.scn c.args.changes.now c.note_all.ensures) c.self.invariant.sound) c.self.invariant

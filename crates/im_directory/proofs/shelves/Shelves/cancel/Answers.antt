@@ -1,20 +1,32 @@
-use Rattle.std.proofs.Common.{◌≡◌, Some, None, sym, ap, ◌∙◌}
+use Rattle.std.proofs.Common.{◌≡◌, Some, None, refl, sym, ap, ◌∙◌}
 use Rattle.std.specs.Option.{option_copied_mut}
 use Rattle.im_tables.specs.Table.{found_at}
+use Rattle.im_tables.proofs.ForCallers.{HasCell-found}
 use Rattle.im_directory.specs.Steps.{slot_cancelled, slots_with}
-use Rattle.im_directory.proofs.SlotLemmas.{slots_with-found, slots_with-none}
-use Rattle.im_directory.proofs.shelves.Shelves.cancel.Goals.{in-Some, in_default}
+use Rattle.im_directory.proofs.ListedLemmas.{AreListed-one}
+use Rattle.im_directory.proofs.SlotLemmas.{slot_at-found, slots_with-found, slots_with-none}
 use Rattle.im_directory.proofs.shelves.Shelves.cancel.Goals as goal
 
-pub returns : goal.returns
-returns g c =
-    let is = ap (slots_with (slot_cancelled c.args.id) c.args.table c.args.extent) c.self.view_is in
-    elim c.match-get_mut.branch [
-      | in-Some w ↦
-          let found : found_at c.self.inside.slots c.args.table c.args.extent ≡ Some _ = sym c.get_mut.ensures.value ∙ ap option_copied_mut w.in-Some.is in
-          ap (λ inside. inside.slots) w.self-inside-is
-          ∙ (slots_with-found (slot_cancelled c.args.id) c.self.inside.slots c.args.table c.args.extent _ _ found w.cancel.ensures ∙ is)
-      | in_default w ↦
-          let none : found_at c.self.inside.slots c.args.table c.args.extent ≡ None = sym c.get_mut.ensures.value ∙ ap option_copied_mut w.in_default.is in
-          ap (λ inside. inside.slots) w.self-inside-is ∙ (slots_with-none (slot_cancelled c.args.id) c.self.inside.slots c.args.table c.args.extent none ∙ is)
-    ]
+pub put-requires : goal.put-requires
+put-requires g c =
+    let found : found_at c.self.inside.slots c.args.table c.args.extent ≡ Some _ = sym c.get_mut.ensures.value ∙ ap option_copied_mut c.in-Some.is in
+    c.self.invariant.room c.args.table c.args.extent (HasCell-found c.self.inside.slots c.args.table c.args.extent _ found)
+
+pub invariant_of-self : goal.invariant_of-self
+invariant_of-self g c =
+    let found : found_at c.self.inside.slots c.args.table c.args.extent ≡ Some _ = sym c.get_mut.ensures.value ∙ ap option_copied_mut c.in-Some.is in
+    AreListed-one g.U.UnitLike.content (slot_cancelled c.args.id c.args.full) _ _ _ _ c.args.table c.args.extent _ _ _
+    (HasCell-found c.self.inside.slots c.args.table c.args.extent _ found) (slot_at-found c.self.inside.slots c.args.table c.args.extent _ found)
+    c.cancel.ensures c.marks.ensures c.put.ensures (λ s. refl) c.self.invariant
+
+pub returns-in-Some : goal.returns-in-Some
+returns-in-Some g c =
+    let found : found_at c.self.inside.slots c.args.table c.args.extent ≡ Some _ = sym c.get_mut.ensures.value ∙ ap option_copied_mut c.in-Some.is in
+    slots_with-found (slot_cancelled c.args.id c.args.full) c.self.inside.slots c.args.table c.args.extent _ _ found c.cancel.ensures
+    ∙ ap (slots_with (slot_cancelled c.args.id c.args.full) c.args.table c.args.extent) c.self.view_is
+
+pub returns-in_default : goal.returns-in_default
+returns-in_default g c =
+    let none : found_at c.self.inside.slots c.args.table c.args.extent ≡ None = sym c.get_mut.ensures.value ∙ ap option_copied_mut c.in_default.is in
+    slots_with-none (slot_cancelled c.args.id c.args.full) c.self.inside.slots c.args.table c.args.extent none
+    ∙ ap (slots_with (slot_cancelled c.args.id c.args.full) c.args.table c.args.extent) c.self.view_is

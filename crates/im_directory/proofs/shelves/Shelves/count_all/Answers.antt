@@ -12,3 +12,6 @@ loop-change-preserved g c = record {
       c.change-item.result refl c.loop-change.invariant.counted c.loop-change-test.true c.change-item.is c.extent_for-extent.ensures.extent
       c.in_ok-count.ensures.counted;
 }
+
+pub returns-in_err-count-clause-same : goal.returns-in_err-count-clause-same
+returns-in_err-count-clause-same g c = TellsAlike-trans _ _ _ c.loop-change.invariant.same c.count.ensures.same

@@ -1,8 +1,7 @@
 use Rattle.std.proofs.Common.{List, Option, ap, ◌∙◌}
 use Rattle.std.specs.Option.{unwrap_or}
 use Rattle.im_tables.proofs.ForCallers.{unwrap_or-found_at}
-use Rattle.im_directory.specs.declared.slot.Slot.{Slot}
-use Rattle.im_directory.specs.Slots.{nothing, slot_at}
+use Rattle.im_directory.specs.Slots.{Slot, nothing, slot_at}
 use Rattle.im_directory.proofs.shelves.Shelves.slot.Goals as goal
 
 pub returns : goal.returns

@@ -1,6 +1,6 @@
-use Rattle.std.proofs.Common.{◌≡◌, List, [], get_or, set, refl, sym, ap, ◌∙◌}
+use Rattle.std.proofs.Common.{List, [], set, refl, ap, ◌∙◌}
 use Rattle.std.proofs.lemmas.List.{get_or_read}
-use Rattle.im_tables.specs.Table.{HasCell, cell_at, row_of}
+use Rattle.im_tables.specs.Table.{HasCell}
 use Rattle.im_tables.proofs.ForCallers.{table_of}
 use Rattle.im_tables.proofs.GrowthLemmas.{cell_at-row}
 use Rattle.im_tables.proofs.cells.Cells.cell_mut.Goals as goal

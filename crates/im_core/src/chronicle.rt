@@ -1,0 +1,91 @@
+ghost use Rattle.std.specs.Prelude.{◌≡◌, ◌+◌, ◌-◌, ◌^◌, ◌<◌, [], ◌∷◌, ◌++◌, length, max, OnOk, OnErr};
+ghost use Rattle.im_history.specs.Commits.{scn};
+ghost use Rattle.im_queue.specs.Demand.{IsDemand, IsPaid};
+
+use im_history::{Entry, History};
+use im_queue::Demand;
+use im_values::NoMemory;
+use std::alloc::Global;
+use std::marker::Model;
+
+/// The history, and what is counted of it as it grows: credits, who left, and which tables were opened.
+///
+/// Contracts see the history.
+#[derive(Debug, Drop)]
+pub struct Chronicle {
+    history: History,
+    demand: Demand,
+}
+
+impl Model for Chronicle {
+    ghost use Rattle.im_history.specs.Stored.{Stored};
+
+    ghost Value = { Stored };
+
+    ghost use Rattle.std.specs.Prelude.{◌^◌, ◌<◌, length};
+    ghost use Rattle.im_queue.specs.Demand.{IsDemand};
+
+    ghost view = { λ c. c.history };
+
+    ghost invariant = { λ c. IsDemand c.history.entries c.demand × (length c.history.entries < 2 ^ 63) };
+}
+
+impl Chronicle {
+    /// A history without entries and without spare room. It takes no memory.
+    pub fn new(alloc: Global) -> Chronicle
+        ensures { result ≡ record { entries = []; spare = 0 } }
+    {
+        Chronicle {
+            history: History::new(alloc),
+            demand: Demand::new(),
+        }
+    }
+
+    /// Makes room for so many entries, unless there is as much.
+    pub fn reserve(&mut self, room: u64) -> Result<(), NoMemory>
+        ensures ok { OnOk result (self.new ≡ record self.old { spare = max self.old.spare room }) }
+        ensures err { OnErr result (self.new ≡ self.old) }
+    {
+        self.history.reserve(room)
+    }
+
+    /// Adds an entry at the end, and counts it. It takes no memory.
+    pub fn append(&mut self, entry: Entry)
+        requires room { 0 < self.old.spare }
+        requires paid { IsPaid self.old.entries entry.what }
+        ensures added { self.new ≡ record { entries = self.old.entries ++ entry ∷ []; spare = self.old.spare - 1 } }
+        ensures few { length self.new.entries < 2 ^ 63 }
+    {
+        self.demand.note(&entry.what);
+        self.history.append(entry);
+    }
+
+    /// The present SCN.
+    pub fn scn(&self) -> u64
+        ensures scn { result ≡ scn self.now.entries }
+        ensures few { result < 2 ^ 63 }
+    {
+        self.history.scn()
+    }
+
+    /// How many entries there are.
+    pub fn len(&self) -> u64
+        ensures { result ≡ length self.now.entries }
+    {
+        self.history.len()
+    }
+
+    /// What is counted of it.
+    pub fn demand(&self) -> &Demand
+        ensures { IsDemand self.now.entries result.now }
+    {
+        &self.demand
+    }
+
+    /// The history, handed out. It takes no memory.
+    pub fn into_history(self) -> History
+        ensures { result ≡ self }
+    {
+        self.history
+    }
+}

@@ -1,0 +1,4 @@
+mod NextLemmas
+mod QueueLemmas
+mod SearchLemmas
+pub mod ForCallers

@@ -1,0 +1,11 @@
+pub mod BeginLemmas
+pub mod CountLemmas
+pub mod EndLemmas
+pub mod EvictLemmas
+pub mod ForCallers
+pub mod GoodLemmas
+pub mod HoldingLaws
+pub mod RestLemmas
+pub mod RunLemmas
+pub mod StandingLaws
+pub mod UnitLemmas

@@ -1,0 +1,3 @@
+pub mod Background
+pub mod Reads
+pub mod inner

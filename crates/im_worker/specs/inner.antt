@@ -1,0 +1,5 @@
+pub mod Begun
+pub mod Good
+pub mod Rests
+pub mod Running
+pub mod Standing

@@ -1,0 +1,161 @@
+ghost use Rattle.std.specs.Prelude.{◌≡◌, ◌<◌, [], true};
+ghost use Rattle.im_reach.specs.Sides.{speaks};
+ghost use Rattle.im_syntax.specs.Rules.{IsStmt};
+ghost use Rattle.im_worker.specs.Background.{Agrees, IsDropped, IsPlayed};
+ghost use Rattle.im_worker.specs.Reads.{IsCounted};
+ghost use Rattle.im_worker.specs.inner.Running.{IsCommand, WereDropped};
+ghost use Rattle.im_worker.specs.inner.Standing.{Stands};
+
+use crate::ending::cancel_build;
+use crate::held::Build;
+use crate::running::run;
+use crate::statements::{begin, cancel, evict, switch, trickle};
+use im_edge::Gate;
+use im_reach::Reach;
+use im_replies::{Body, Reply};
+use im_syntax::Stmt;
+use im_unit::ColumnUnit;
+use im_values::Steps;
+use im_values::limits::NUMBERS;
+use std::alloc::Global;
+use std::collections::VecDeque;
+use std::marker::Model;
+use std::sync::Wait;
+use std::sync::ledger::Ledger;
+
+/// The background: its number, and the builds that it holds, the oldest first.
+#[derive(Drop)]
+pub struct Background {
+    alloc: Global,
+    who: u32,
+    held: VecDeque<Build>,
+}
+
+impl Model for Background {
+    ghost use Rattle.im_worker.specs.Background.{Kept};
+
+    ghost Value = { Kept };
+
+    ghost view = { λ b. record { who = b.who; builds = b.held.items } };
+}
+
+impl Background {
+    /// The background of a number, which holds no build. It takes no memory.
+    pub fn new(alloc: Global, who: u32) -> Background
+        ensures { result ≡ record { who = who; builds = [] } }
+    {
+        Background {
+            alloc,
+            who,
+            held: VecDeque::new(alloc),
+        }
+    }
+
+    /// Plays one statement, and answers it.
+    ///
+    /// A statement of a session is not the background's: it is answered that there is nothing, and nothing is done. The gate is
+    /// called before and after each switch, outside the store's turn. Each row number of the extent of a build that began is
+    /// one step at most, also where memory is out.
+    pub fn command<R: Wait, H: Reach<ColumnUnit>, G: Gate, L: Ledger>(
+        &mut self,
+        rt: &R,
+        reach: &mut H,
+        gate: &G,
+        statement: &Stmt,
+        steps: &mut Steps<L>,
+    ) -> Reply
+        requires session { self.old.who < NUMBERS }
+        requires speaks { speaks (H.known reach.old).side self.old.who ≡ true }
+        requires statement { IsStmt statement.now }
+        requires agrees { Agrees self.old (H.known reach.old) }
+        ensures played { IsPlayed statement.now self.old (H.known reach.old) result self.new (H.known reach.new) }
+        ensures agrees { Agrees self.new (H.known reach.new) }
+        ensures ticks { IsCounted self.old.who steps.old steps.new (H.known reach.old) (H.known reach.new) }
+    {
+        let (alloc, who) = (self.alloc, self.who);
+        play(
+            alloc,
+            rt,
+            reach,
+            gate,
+            who,
+            &mut self.held,
+            statement,
+            steps,
+        )
+    }
+
+    /// Ends all builds that are held without their units, the oldest first. It takes no memory.
+    pub fn drop_held<R: Wait, H: Reach<ColumnUnit>>(&mut self, rt: &R, reach: &mut H)
+        requires session { self.old.who < NUMBERS }
+        requires speaks { speaks (H.known reach.old).side self.old.who ≡ true }
+        requires agrees { Agrees self.old (H.known reach.old) }
+        ensures dropped { IsDropped self.old (H.known reach.old) self.new (H.known reach.new) }
+        ensures agrees { Agrees self.new (H.known reach.new) }
+    {
+        drop_builds(rt, reach, self.who, &mut self.held);
+    }
+}
+
+/// Plays one statement over the builds that are held.
+fn play<R: Wait, H: Reach<ColumnUnit>, G: Gate, L: Ledger>(
+    alloc: Global,
+    rt: &R,
+    reach: &mut H,
+    gate: &G,
+    who: u32,
+    held: &mut VecDeque<Build>,
+    statement: &Stmt,
+    steps: &mut Steps<L>,
+) -> Reply
+    requires session { who < NUMBERS }
+    requires speaks { speaks (H.known reach.old).side who ≡ true }
+    requires statement { IsStmt statement.now }
+    requires stands { Stands who held.old.items [] (H.known reach.old).log }
+    ensures command { IsCommand who statement.now held.old.items (H.known reach.old) result held.new.items (H.known reach.new) }
+    ensures ticks { IsCounted who steps.old steps.new (H.known reach.old) (H.known reach.new) }
+{
+    match statement {
+        Stmt::Run => run(alloc, rt, reach, gate, who, held, steps),
+        Stmt::Begin => begin(alloc, rt, reach, who, held, steps),
+        Stmt::Switch => switch(alloc, rt, reach, gate, who, held),
+        Stmt::Cancel => cancel(alloc, rt, reach, who, held),
+        Stmt::Trickle(count) => trickle(alloc, rt, reach, who, held, *count),
+        Stmt::Evict { .. } => evict(alloc, rt, reach, who, held, statement),
+        Stmt::Select(_)
+        | Stmt::Explain(_)
+        | Stmt::Create { .. }
+        | Stmt::AlterMemory { .. }
+        | Stmt::AlterNoMemory { .. }
+        | Stmt::Insert { .. }
+        | Stmt::Update { .. }
+        | Stmt::Delete { .. }
+        | Stmt::SetReadOnly
+        | Stmt::SetSerializable
+        | Stmt::SetCommitted
+        | Stmt::Commit
+        | Stmt::Rollback
+        | Stmt::OpenFor { .. }
+        | Stmt::Step(_)
+        | Stmt::Fetch(_)
+        | Stmt::Close(_) => Reply::plain(alloc, Body::Nothing),
+    }
+}
+
+/// Ends builds that are held without their units, the oldest first.
+fn drop_builds<R: Wait, H: Reach<ColumnUnit>>(
+    rt: &R,
+    reach: &mut H,
+    who: u32,
+    held: &mut VecDeque<Build>,
+)
+    requires session { who < NUMBERS }
+    requires speaks { speaks (H.known reach.old).side who ≡ true }
+    requires stands { Stands who held.old.items [] (H.known reach.old).log }
+    ensures dropped { WereDropped who held.old.items (H.known reach.old) (H.known reach.new) }
+    ensures none { held.new.items ≡ [] }
+{
+    while let Some(build) = held.pop_front() {
+        cancel_build(rt, reach, who, build);
+    }
+}

@@ -1,0 +1,108 @@
+ghost use Rattle.std.specs.Prelude.{◌≡◌, ◌+◌, ◌<◌, ◌≤◌, [], true, IfOk};
+ghost use Rattle.std.specs.Option.{ForSome};
+ghost use Rattle.im_core.specs.Answers.{task_rows};
+ghost use Rattle.im_history.specs.Legal.{IsLawful};
+ghost use Rattle.im_history.specs.Units.{task_content};
+ghost use Rattle.im_reach.specs.Sides.{speaks};
+ghost use Rattle.im_worker.specs.Reads.{IsCounted};
+ghost use Rattle.im_worker.specs.inner.Begun.{IsBegun, IsJust};
+ghost use Rattle.im_worker.specs.inner.Good.{content_from};
+ghost use Rattle.im_worker.specs.inner.Rests.{Went};
+ghost use Rattle.im_worker.specs.inner.Standing.{Stands};
+
+use crate::held::Build;
+use crate::rows::{padded, unit_of_rows};
+use im_core::{Fetched, Offer};
+use im_history::Task;
+use im_reach::Reach;
+use im_unit::ColumnUnit;
+use im_values::limits::NUMBERS;
+use im_values::{NoMemory, Steps};
+use std::alloc::Global;
+use std::collections::VecDeque;
+use std::sync::ledger::Ledger;
+use std::sync::{Arc, Wait};
+
+/// What comes of beginning the build that comes next.
+#[derive(Drop)]
+pub enum Begun {
+    /// It began, and its unit is ready.
+    Ready(Build),
+    /// There was none.
+    Idle,
+    /// Memory lacked, and none began.
+    Lacks,
+    /// Memory lacked when it had begun. It is cancelled.
+    Dropped,
+}
+
+/// The unit of a build, from what was read for it.
+fn unit_from(alloc: Global, task: &Task, fetched: Fetched) -> Result<Arc<ColumnUnit>, NoMemory>
+    ensures { IfOk result (λ unit. unit.value ≡ content_from task.now fetched) }
+{
+    let rows = padded(alloc, fetched, task.per)?;
+    let unit = unit_of_rows(alloc, task, rows.as_slice())?;
+    Ok(Arc::new(alloc, unit)?)
+}
+
+/// Reads what a build that just began is of, and makes its unit.
+///
+/// Each row number of the extent that was given is one step at most.
+fn unit_of<R: Wait, H: Reach<ColumnUnit>, L: Ledger>(
+    alloc: Global,
+    rt: &R,
+    reach: &mut H,
+    who: u32,
+    task: &Task,
+    steps: &mut Steps<L>,
+) -> Option<Arc<ColumnUnit>>
+    requires session { who < NUMBERS }
+    requires speaks { speaks (H.known reach.old).side who ≡ true }
+    requires just { IsJust who task.now (H.known reach.old) }
+    ensures went { Went (H.known reach.old) (H.known reach.new) }
+    ensures kept { H.known reach.new ≡ record (H.known reach.old) { log = (H.known reach.new).log } }
+    ensures unit { ForSome result (λ unit. unit.value ≡ task_content (H.known reach.new).log task.now) }
+    ensures steps { steps.new ≤ steps.old + task_rows (H.known reach.old).log task.now }
+    ensures lawful { IsLawful (H.known reach.new).limits (H.known reach.new).log }
+{
+    let Ok(pin) = reach.read_task(rt, who, task, steps) else {
+        return None;
+    };
+    match unit_from(alloc, task, pin.fetched) {
+        Ok(unit) => Some(unit),
+        Err(NoMemory) => None,
+    }
+}
+
+/// Begins the build that comes next, beside those that are held, and makes its unit ready.
+///
+/// Each row number of its extent that was given is one step at most.
+pub fn begin_next<R: Wait, H: Reach<ColumnUnit>, L: Ledger>(
+    alloc: Global,
+    rt: &R,
+    reach: &mut H,
+    who: u32,
+    held: &VecDeque<Build>,
+    steps: &mut Steps<L>,
+) -> Begun
+    requires session { who < NUMBERS }
+    requires speaks { speaks (H.known reach.old).side who ≡ true }
+    requires stands { Stands who held.now.items [] (H.known reach.old).log }
+    ensures begun { IsBegun who held.now.items (H.known reach.old) result (H.known reach.new) }
+    ensures lawful { IsLawful (H.known reach.new).limits (H.known reach.new).log }
+    ensures ticks { IsCounted who steps.old steps.new (H.known reach.old) (H.known reach.new) }
+{
+    let Ok(offer) = reach.build(rt, who) else {
+        return Begun::Lacks;
+    };
+    let Offer::Task(task) = offer else {
+        return Begun::Idle;
+    };
+    match unit_of(alloc, rt, reach, who, &task, steps) {
+        Some(unit) => Begun::Ready(Build { task, unit }),
+        None => {
+            reach.cancel(rt, who, task);
+            Begun::Dropped
+        }
+    }
+}

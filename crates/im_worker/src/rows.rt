@@ -1,0 +1,124 @@
+ghost use Rattle.std.specs.Prelude.{◌≡◌, ◌+◌, ◌-◌, ◌*◌, ◌<◌, ◌≤◌, ◌^◌, ◌++◌, map, length, nat_le, IfOk, OnOk, IfSome};
+ghost use Rattle.im_values.specs.declared.limits.TheConstants.{MOST_COLUMNS};
+ghost use Rattle.im_values.specs.Sizes.{value_bytes};
+ghost use Rattle.im_worker.specs.inner.Good as spec;
+
+use im_core::Fetched;
+use im_history::Task;
+use im_unit::ColumnUnit;
+use im_values::limits::MOST_COLUMNS;
+use im_values::{NoMemory, Row, Value};
+use std::alloc::Global;
+
+/// Whether a value is no text of more than 65,535 bytes.
+fn is_short(value: &Value) -> bool
+    ensures { result ≡ nat_le (value_bytes value.now) 65538 }
+{
+    match value {
+        Value::Text(text) => text.bytes().len() <= 65_535,
+        Value::Int(_) | Value::Null => true,
+    }
+}
+
+/// Whether no value is a text of more than 65,535 bytes.
+fn all_short(values: &[Value]) -> bool
+    ensures { result ≡ spec.all_short values.now }
+{
+    let mut short = true;
+    for value in values {
+        short = short && is_short(value);
+    }
+    short
+}
+
+/// Whether a row, where there is one, is one that a unit of so many columns takes.
+fn is_good(row: &Option<Row>, columns: u32) -> bool
+    ensures { result ≡ spec.is_good columns row.now }
+{
+    match row {
+        Some(row) => row.values().len() == columns as usize && all_short(row.values()),
+        None => true,
+    }
+}
+
+/// Whether all rows are such.
+fn all_good(rows: &[Option<Row>], columns: u32) -> bool
+    ensures { result ≡ spec.all_good columns rows.now }
+{
+    let mut good = true;
+    for row in rows {
+        good = good && is_good(row, columns);
+    }
+    good
+}
+
+/// The first row number of a build's extent, where a unit of so many rows from there on can be made.
+fn first_of(task: &Task, rows: usize) -> Option<u64>
+    ensures first { IfSome result (λ first. first ≡ task.now.extent * task.now.per) }
+    ensures within { IfSome result (λ first. first + rows < 2 ^ 64) }
+    ensures few { IfSome result (λ first. rows < 2 ^ 31) }
+    ensures columns { IfSome result (λ first. task.now.columns ≤ MOST_COLUMNS) }
+{
+    let first = task.extent.checked_mul(task.per)?;
+    first.checked_add(rows as u64)?;
+    if rows < 2_147_483_648 && task.columns as usize <= MOST_COLUMNS {
+        Some(first)
+    } else {
+        None
+    }
+}
+
+/// The unit of a build whose extent has these rows. Where they are more or wider than those of any unit, which are not, it
+/// counts as out of memory.
+pub fn unit_of_rows(
+    alloc: Global,
+    task: &Task,
+    rows: &[Option<Row>],
+) -> Result<ColumnUnit, NoMemory>
+    ensures { IfOk result (λ unit. unit ≡ record {
+      scn = task.now.scn;
+      first = task.now.extent * task.now.per;
+      columns = task.now.columns;
+      rows = rows.now;
+    }) }
+{
+    let Some(first) = first_of(task, rows.len()) else {
+        return Err(NoMemory);
+    };
+    if !all_good(rows, task.columns) {
+        return Err(NoMemory);
+    }
+    ColumnUnit::build(alloc, task.scn, first, task.columns, rows)
+}
+
+/// The rows that were fetched, without their numbers.
+fn rows_of(alloc: Global, fetched: Fetched) -> Result<Vec<Option<Row>>, NoMemory>
+    ensures { IfOk result (λ rows. rows.items ≡ map (λ found. found.1) fetched) }
+{
+    let mut rows = Vec::new(alloc);
+    for (_, row) in fetched.into_items() {
+        rows.push(row)?;
+    }
+    Ok(rows)
+}
+
+/// Puts so many row numbers without a row behind others.
+fn pad(rows: &mut Vec<Option<Row>>, count: u64) -> Result<(), NoMemory>
+    ensures { OnOk result (rows.new.items ≡ rows.old.items ++ spec.nones count) }
+{
+    for _ in 0..count {
+        rows.push(None)?;
+    }
+    Ok(())
+}
+
+/// The rows of an extent of so many row numbers: those that were fetched, and none at the row numbers behind them.
+pub fn padded(alloc: Global, fetched: Fetched, per: u64) -> Result<Vec<Option<Row>>, NoMemory>
+    ensures { IfOk result (λ rows.
+        rows.items ≡ map (λ found. found.1) fetched ++ spec.nones (per - length fetched)) }
+{
+    let count = fetched.items().len() as u64;
+    let mut rows = rows_of(alloc, fetched)?;
+    pad(&mut rows, per.saturating_sub(count))?;
+    Ok(rows)
+}
