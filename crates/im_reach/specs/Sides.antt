@@ -1,5 +1,5 @@
 -- One side of a store that several may share: whom it speaks for, and how it sees the history go on.
-use Rattle.std.specs.Prelude.{◌≡◌, ℕ, ◌+◌, ◌-◌, ◌<◌, ◌≤◌, ◌==◌, Bool, true, false, [], ◌∷◌, ◌++◌, length, All, Option, Some, None, if◌then◌else◌}
+use Rattle.std.specs.Prelude.{◌≡◌, ℕ, ◌+◌, ◌-◌, ◌<◌, ◌≤◌, ◌==◌, Bool, true, false, List, [], ◌∷◌, ◌++◌, length, All, Option, Some, None, if◌then◌else◌}
 use Rattle.im_core.specs.declared.answers.Offer.{Offer}
 use Rattle.im_core.specs.declared.answers.Offer.TheVariants.{Task, Idle}
 use Rattle.im_core.specs.declared.answers.Switched.{Switched}
@@ -16,15 +16,27 @@ use Rattle.im_history.specs.Leaves.{leaves}
 use Rattle.im_history.specs.Queue.{build_of, next, task_of}
 use Rattle.im_history.specs.Units.{Content, held_at, unit_content}
 use Rattle.im_plan.specs.Goes.{After}
+use Rattle.im_turn.specs.Turns.{TurnId}
 
--- a side of a store: whether nobody else has the store, and the number that it speaks for, if it is not every number
+-- what stays of a pass while its side calls: the turn that it is of, how long the history was when the turn was made, the passes
+-- that were joined into it with their entries, the numbers that it gave, and what is fixed in the value of the turn
+pub record Frame : Type 0 where
+  pub turn : TurnId
+  pub base : ℕ
+  pub olds : List (ℕ × History)
+  pub gave : List ℕ
+  pub fixed : List ℕ
+
+-- a side of a store, which no call changes: whether nobody else has the store; the number that it speaks for, if it is not every
+-- number; and the frame of its pass, if it has one
 pub record StoreSide : Type 0 where
   pub alone : Bool
   pub number : Option ℕ
+  pub frame : Option Frame
 
 -- the side of a store that nobody else has
 abbrev pub sole : StoreSide
-sole = record { alone = true; number = None }
+sole = record { alone = true; number = None; frame = None }
 
 -- a side that speaks for this number, or for each
 abbrev pub is_number : Option ℕ → ℕ → Bool
