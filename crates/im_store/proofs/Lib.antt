@@ -1,0 +1,4 @@
+mod CallLemmas
+pub mod ForCallers
+mod OtherLaws
+mod OwnLaws

@@ -1,0 +1,265 @@
+-- What entries of other numbers leave as it is of the builds that a number holds, and of what it sees by its cursors.
+use Rattle.std.proofs.Common.{◌≡◌, ℕ, ◌-◌, ◌*◌, ◌≤◌, ◌==◌, Bool, true, false, min, IsTrue, List, [], ◌∷◌, ◌++◌, take, drop, find, fold, length, map, is_some, All, Option, Some, None, if◌then◌else◌, refl, sym, ap, ap₂, ◌∙◌, subst, arith, take-append-drop}
+use Rattle.std.specs.Option.{option_map, option_or}
+use Rattle.std.proofs.lemmas.Bool.Decides.{nat_tests}
+use Rattle.std.proofs.lemmas.List.Elements.{All-append, All-cons, All-filter, All-head, All-nil, All-tail, All-weaker}
+use Rattle.im_values.specs.declared.schema.Column.{Column}
+use Rattle.im_core.specs.Answers.{cursor_view, given_of, task_rows, view_of}
+use Rattle.im_history.specs.declared.change.Change.{Change}
+use Rattle.im_history.specs.declared.entry.Entry.{Entry}
+use Rattle.im_history.specs.declared.entry.Mode.{Mode}
+use Rattle.im_history.specs.declared.entry.Mode.TheVariants as mode
+use Rattle.im_history.specs.declared.entry.What.{What}
+use Rattle.im_history.specs.declared.entry.What.TheVariants as what
+use Rattle.im_history.specs.declared.limits.Limits.{Limits}
+use Rattle.im_history.specs.declared.task.Held.{Held}
+use Rattle.im_history.specs.declared.task.Task.{Task}
+use Rattle.im_history.specs.Commits.{scn}
+use Rattle.im_history.specs.Cursors.{Opened, cursor_at, is_cursor, opened, opened_after}
+use Rattle.im_history.specs.History.{History, replay}
+use Rattle.im_history.specs.Legal.{IsAllowed, IsLegal, MayEnd, MayWrite, row_fits, still_seen}
+use Rattle.im_history.specs.Rows.{Row, row_after, rows, seen, snapshot_under}
+use Rattle.im_history.specs.Transactions.{begun}
+use Rattle.im_history.specs.Transactions as transactions
+use Rattle.im_history.specs.Units.{IsOwn, drops, held_at, killed_by, rows_of_extent, task_content}
+use Rattle.im_history.specs.Views.{seen_by, view_at}
+use Rattle.im_history.proofs.BuildLaws.{begun_at, held_at-build, held_at-cancel, held_at-plain, held_at-switch}
+use Rattle.im_history.proofs.HeldLaws.{held-within}
+use Rattle.im_history.proofs.Laws.{opened-push}
+use Rattle.im_history.proofs.RowLaws.{each_history, rows-append}
+use Rattle.im_history.proofs.UnitLaws.{is_plain}
+use Rattle.im_store.proofs.OtherLaws.{WentOn, legal-old, on-others, opened-on, pending-on, scn-longer, table-on}
+
+-- ---- builds
+
+-- a number's held build, of which so many row numbers were given when it began
+record Holds (who : ℕ) (task : Task) (given : ℕ) (h : History) : Type 0 where
+  held : Held
+  is : held_at h task.id ≡ Some held
+  mine : held.who ≡ who
+  same : held.task ≡ task
+  given_is : held.given ≡ given
+
+holds-plain : (h : History) (entry : Entry) (who : ℕ) (task : Task) (given : ℕ) → is_plain entry.what ≡ true → Holds who task given h
+    → Holds who task given (h ++ entry ∷ [])
+holds-plain h entry who task given plain own =
+    by (drops own.held.task.table own.held.task.extent entry.what) refl
+    (held_at-plain h entry task.id plain ∙ ap (option_map (killed_by (length h) entry.what)) own.is)
+  where
+    by : (b : Bool) → drops own.held.task.table own.held.task.extent entry.what ≡ b
+        → held_at (h ++ entry ∷ []) task.id ≡ Some (killed_by (length h) entry.what own.held) → Holds who task given (h ++ entry ∷ [])
+    by true is found = record {
+      held = killed_by (length h) entry.what own.held;
+      is = found;
+      mine = rw is own.mine;
+      same = rw is own.same;
+      given_is = rw is own.given_is;
+    }
+    by false is found = record {
+      held = killed_by (length h) entry.what own.held;
+      is = found;
+      mine = rw is own.mine;
+      same = rw is own.same;
+      given_is = rw is own.given_is;
+    }
+
+the_same : {a b : Held} → Some a ≡ Some b → a ≡ b
+the_same is = cc
+
+true_not_false : {b : Bool} → b ≡ true → b ≡ false → ⊥
+true_not_false is not_so = cc
+
+equal_tests : (a b : ℕ) → a ≡ b → (a == b) ≡ true
+equal_tests a b same = grind (arith, nat_tests, same)
+
+-- a build that another number ends is not this one's
+apart-id : (h : History) (maker who id : ℕ) (task : Task) (given : ℕ) → (maker == who) ≡ false → MayEnd h maker id → Holds who task given h
+    → (task.id == id) ≡ false
+apart-id h maker who id task given other may own = by (task.id == id) refl
+  where
+    by : (b : Bool) → (task.id == id) ≡ b → (task.id == id) ≡ false
+    by false is = is
+    by true is =
+        let same : task.id ≡ id = grind (arith, nat_tests, is) in
+        let one : own.held ≡ may.held = the_same (sym own.is ∙ (ap (held_at h) same ∙ may.is)) in
+        absurd (true_not_false (equal_tests maker who (sym may.mine ∙ (sym (ap (λ (held : Held). held.who) one) ∙ own.mine))) other)
+
+holds-push : (limits : Limits) (who : ℕ) (task : Task) (given : ℕ) (h : History) (entry : Entry) → (entry.who == who) ≡ false → IsLegal limits h
+    → IsAllowed limits h entry.who entry.what → Holds who task given h → Holds who task given (h ++ entry ∷ [])
+holds-push limits who task given h entry other legal allowed own = by entry.what refl allowed
+  where
+    after : What → History
+    after w = h ++ record { who = entry.who; what = w } ∷ []
+
+    found : (w : What) → entry.what ≡ w → held_at (after w) task.id ≡ Some own.held → Holds who task given (h ++ entry ∷ [])
+    found w same is = record {
+      held = own.held;
+      is = ap (λ (w : What). held_at (after w) task.id) same ∙ is;
+      mine = own.mine;
+      same = own.same;
+      given_is = own.given_is;
+    }
+
+    by : (w : What) → entry.what ≡ w → IsAllowed limits h entry.who w → Holds who task given (h ++ entry ∷ [])
+    by (what.Build id table extent trickle) same may =
+        found (what.Build id table extent trickle) same
+        (held_at-build h entry.who id table extent trickle task.id
+        ∙ ap (λ (o : Option Held). option_or o (if id == task.id then Some (begun_at h entry.who id table extent trickle) else None)) own.is)
+    by (what.Switch id) same may =
+        found (what.Switch id) same
+        (held_at-switch h entry.who id task.id
+        ∙ (ap (λ (b : Bool). if b then None else held_at h task.id) (apart-id h entry.who who id task given other may.may own) ∙ own.is))
+    by (what.Cancel id full) same may =
+        found (what.Cancel id full) same
+        (held_at-cancel h entry.who id full task.id
+        ∙ (ap (λ (b : Bool). if b then None else held_at h task.id) (apart-id h entry.who who id task given other may.may own) ∙ own.is))
+    by w same may = holds-plain h entry who task given (ap is_plain same) own
+
+map_same : {X : Type 0} (f g : ℕ → X) → ((k : ℕ) → f k ≡ g k) → (ks : List ℕ) → map f ks ≡ map g ks
+map_same f g same [] = refl
+map_same f g same (k ∷ ks) = ap₂ (λ x xs. x ∷ xs) (same k) (map_same f g same ks)
+
+module _ (limits : Limits) (who : ℕ) (old at : History) (went : WentOn limits who old at) (task : Task) (own : IsOwn old who task) where
+  holds-on : Holds who task own.held.given at
+  holds-on =
+      on-others limits who (Holds who task own.held.given) (holds-push limits who task own.held.given) old at went
+      (record { held = own.held; is = own.is; mine = own.mine; same = own.same; given_is = refl })
+
+  pub IsOwn-on : IsOwn at who task
+  IsOwn-on = let now = holds-on in record { held = now.held; is = now.is; mine = now.mine; same = now.same }
+
+  pub task_rows-on : task_rows at task ≡ task_rows old task
+  task_rows-on =
+      let now = holds-on in
+      ap (λ (n : ℕ). min task.per (n - task.extent * task.per))
+      (ap given_of now.is ∙ (now.given_is ∙ sym (ap given_of own.is)))
+
+  scn-own : task.scn ≤ scn old
+  scn-own =
+      subst (λ (t : Task). t.scn ≤ scn old) own.same
+      (held-within limits old task.id own.held (legal-old limits who old at went) own.is).scn
+
+  rows-own : (rid : ℕ) → rows at task.table task.scn rid ≡ rows old task.table task.scn rid
+  rows-own rid =
+      ap (λ (h : History). rows h task.table task.scn rid) went.is ∙ rows-append old went.between task.table task.scn rid scn-own
+
+  pub task_content-on : task_content at task ≡ task_content old task
+  task_content-on =
+      ap (λ (list : List (Option Row)). record { scn = task.scn; first = task.extent * task.per; columns = task.columns; rows = list })
+      (map_same (rows at task.table task.scn) (rows old task.table task.scn) rows-own (rows_of_extent task.per task.extent))
+
+-- ---- what a cursor sees
+
+earlier : (h : History) (place : ℕ) → scn (take place h) ≤ scn h
+earlier h place =
+    subst (λ (log : History). scn (take place h) ≤ scn log) (take-append-drop place h) (scn-longer (take place h) (drop place h))
+
+snapshot-under : (h : History) (m : Mode) (began : Option ℕ) → snapshot_under h m began ≤ scn h
+snapshot-under h mode.Committed began = omega arith
+snapshot-under h mode.Serializable None = omega arith
+snapshot-under h mode.Serializable (Some place) = earlier h place
+snapshot-under h mode.ReadOnly None = omega arith
+snapshot-under h mode.ReadOnly (Some place) = earlier h place
+
+-- each open cursor reads at an SCN that there was
+record AreReached (who : ℕ) (h : History) : Type 0 where
+  all : All (λ o. o.view.scn ≤ scn h) (opened h who)
+
+abbrev Reached : History → Opened → Type 0
+Reached h o = o.view.scn ≤ scn h
+
+module _ (who : ℕ) where
+  later : (h : History) (entry : Entry) (list : List Opened) → All (Reached h) list → All (Reached (h ++ entry ∷ [])) list
+  later h entry list all =
+      All-weaker (Reached h) (Reached (h ++ entry ∷ []))
+      (λ o below. let more = scn-longer h (entry ∷ []) in omega (arith, below, more)) list all
+
+  after-own : (h : History) (entry : Entry) (w : What) → All (Reached (h ++ entry ∷ [])) (opened h who)
+      → All (Reached (h ++ entry ∷ [])) (opened_after h who (opened h who) w)
+  after-own h entry (what.Open cursor table) all =
+      All-append (Reached (h ++ entry ∷ [])) (opened h who) _ all
+      (All-cons (Reached (h ++ entry ∷ [])) (record { cursor = cursor; view = view_at h who table }) []
+      (let below = snapshot-under h (transactions.mode h who) (begun h who) in let more = scn-longer h (entry ∷ []) in omega (arith, below, more))
+      (All-nil (Reached (h ++ entry ∷ []))))
+  after-own h entry (what.Shut cursor) all = All-filter _ (Reached (h ++ entry ∷ [])) (opened h who) all
+  after-own h entry w all = all
+
+  reached-push : (h : History) (entry : Entry) → AreReached who h → AreReached who (h ++ entry ∷ [])
+  reached-push h entry before = record { all = by (entry.who == who) refl }
+    where
+      now : All (Reached (h ++ entry ∷ [])) (opened h who)
+      now = later h entry (opened h who) before.all
+
+      by : (b : Bool) → (entry.who == who) ≡ b → All (Reached (h ++ entry ∷ [])) (opened (h ++ entry ∷ []) who)
+      by true is =
+          subst (All (Reached (h ++ entry ∷ []))) (sym (opened-push h entry who ∙ rw is refl)) (after-own h entry entry.what now)
+      by false is = subst (All (Reached (h ++ entry ∷ []))) (sym (opened-push h entry who ∙ rw is refl)) now
+
+  reached-nil : AreReached who []
+  unfolding opened replay
+  reached-nil = record { all = All-nil (λ (o : Opened). o.view.scn ≤ scn []) }
+
+  reached : (h : History) → AreReached who h
+  reached = each_history (AreReached who) reached-nil reached-push
+
+the_first : {a b : Opened} → Some a ≡ Some b → a ≡ b
+the_first same = cc
+
+find-holds : (P : Opened → Type 0) (p : Opened → Bool) (list : List Opened) (o : Opened) → All P list → find p list ≡ Some o → P o
+find-holds P p [] o all is = absurd cc
+find-holds P p (first ∷ rest) o all is =
+    by (p first) refl (λ found. find-holds P p rest o (All-tail P first rest all) found)
+  where
+    by : (b : Bool) → p first ≡ b → (find p rest ≡ Some o → P o) → P o
+    by true it_is later_on = subst P (the_first (sym (ap (λ (b : Bool). if b then Some first else find p rest) it_is) ∙ is)) (All-head P first rest all)
+    by false it_is later_on = later_on (sym (ap (λ (b : Bool). if b then Some first else find p rest) it_is) ∙ is)
+
+seen-same : (h more : History) (table n : ℕ) (own : List Change) (rid : ℕ) → n ≤ scn h → seen (h ++ more) table n own rid ≡ seen h table n own rid
+unfolding seen
+seen-same h more table n own rid within = ap (λ (row : Option Row). fold (row_after table rid) row own) (rows-append h more table n rid within)
+
+module _ (limits : Limits) (who : ℕ) (old at : History) (went : WentOn limits who old at) (cursor : ℕ) where
+  cursor_at-on : cursor_at at who cursor ≡ cursor_at old who cursor
+  cursor_at-on = ap (find (is_cursor cursor)) (opened-on limits who old at went)
+
+  pub cursor_view-on : cursor_view at who cursor ≡ cursor_view old who cursor
+  cursor_view-on = ap view_of cursor_at-on
+
+  module _ (changes : List Change) (may : MayWrite old who cursor changes) where
+    abbrev opening : Opened
+    opening = may.opened
+
+    known : opening.view.scn ≤ scn old
+    known = find-holds (λ (o : Opened). o.view.scn ≤ scn old) (is_cursor cursor) (opened old who) opening (reached who old).all may.is
+
+    seen-on : (rid : ℕ) → seen_by at opening.view rid ≡ seen_by old opening.view rid
+    seen-on rid =
+        ap (λ (h : History). seen_by h opening.view rid) went.is
+        ∙ seen-same old went.between opening.view.table opening.view.scn opening.view.own rid known
+
+    still-on : (rid : ℕ) → still_seen at who opening rid ≡ still_seen old who opening rid
+    still-on rid =
+        ap (fold (row_after opening.view.table rid) (seen_by at opening.view rid)) (pending-on limits who old at went)
+        ∙ ap (λ (row : Option Row). fold (row_after opening.view.table rid) row (transactions.pending old who)) (seen-on rid)
+
+    pub MayWrite-on : MayWrite at who cursor changes
+    MayWrite-on =
+        let now = table-on limits who old at went opening.view.table may.exists in
+        record {
+          opened = opening;
+          is = cursor_at-on ∙ may.is;
+          exists = record { made = now.made; is = now.is };
+          some = may.some;
+          same = may.same;
+          rising = may.rising;
+          inside = may.inside;
+          saw =
+              All-weaker (λ (c : Change). IsTrue (is_some (seen_by old opening.view c.rid)))
+              (λ (c : Change). IsTrue (is_some (seen_by at opening.view c.rid)))
+              (λ c saw. subst (λ (row : Option Row). IsTrue (is_some row)) (sym (seen-on c.rid)) saw) changes may.saw;
+          stands =
+              All-weaker (λ (c : Change). IsTrue (is_some (still_seen old who opening c.rid)))
+              (λ (c : Change). IsTrue (is_some (still_seen at who opening c.rid)))
+              (λ c stands. subst (λ (row : Option Row). IsTrue (is_some row)) (sym (still-on c.rid)) stands) changes may.stands;
+          fit = subst (λ (columns : List Column). All (λ change. IsTrue (row_fits columns change.row)) changes) (sym now.schema) may.fit;
+        }
