@@ -18,5 +18,7 @@ mod replies;
 mod rows;
 mod running;
 mod statements;
+mod work;
 
 pub use background::Background;
+pub use work::Ended;
