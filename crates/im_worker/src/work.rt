@@ -100,19 +100,27 @@ fn round<R: Wait, H: Reach<ColumnUnit>, G: Gate, L: Ledger>(
         Begun::Ready(build) => {
             end_build(rt, reach, gate, who, build);
             tally.note_build();
-            return None;
+            None
         }
         Begun::Idle { place, left } => {
             if left == sessions {
                 return Some(place);
             }
             tally.note_idle(place);
+            pause(rt);
+            None
         }
-        Begun::Lacks => tally.note_lack(),
-        Begun::Dropped => tally.note_build(),
+        Begun::Lacks => {
+            tally.note_lack();
+            pause(rt);
+            None
+        }
+        Begun::Dropped => {
+            tally.note_build();
+            pause(rt);
+            None
+        }
     }
-    pause(rt);
-    None
 }
 
 /// Does a worker's job beside builds that are held.

@@ -1,5 +1,5 @@
 -- A worker's job on its way.
-use Rattle.std.specs.Prelude.{◌≡◌, ℕ, ◌+◌, ◌-◌, ◌≤◌, false, List, [], ◌∷◌, length, Option, Some, None, IfSome}
+use Rattle.std.specs.Prelude.{◌≡◌, ℕ, ◌+◌, ◌-◌, ◌≤◌, false, List, [], ◌∷◌, length, Option, Some, None, IfSome, ⊤}
 use Rattle.std.specs.List.{list_any}
 use Rattle.im_history.specs.History.{History}
 use Rattle.im_history.specs.Leaves.{leaves}
@@ -8,7 +8,7 @@ use Rattle.im_reach.specs.Sides.{Known, missed, speaks}
 use Rattle.im_worker.specs.declared.work.Ended.{Ended}
 use Rattle.im_worker.specs.declared.work.Tally.{Tally}
 use Rattle.im_worker.specs.Background.{Ready}
-use Rattle.im_worker.specs.Work.{Built, HasWorked, Idled, IfOver, IfSpent, IsIdleAt, IsOverAt, IsRise, IsSpent, Lacked, Piece, Round, Worked, builds_begun, is_over, total_of}
+use Rattle.im_worker.specs.Work.{Built, HasWorked, Idled, IfOver, IfSpent, IsIdleAt, IsOverAt, IsRise, IsSpent, Lacked, Round, Worked, builds_begun, is_over, total_of}
 use Rattle.im_worker.specs.inner.Standing.{Stands}
 
 -- the tally behind a round
