@@ -1,4 +1,5 @@
 pub mod AgreementLaws
 mod KeptLaws
 pub mod OtherLaws
+pub mod RoundLaws
 pub mod TransactionLaws

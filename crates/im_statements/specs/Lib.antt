@@ -4,6 +4,7 @@ pub mod Background
 pub mod Cursors
 pub mod Definitions
 pub mod Outcomes
+pub mod Rounds
 pub mod Scans
 pub mod Statements
 pub mod Transaction

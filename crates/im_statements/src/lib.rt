@@ -6,12 +6,15 @@
 //! before them.
 //!
 //! [`lines_keep_agreement`] is the law that what a session keeps agrees with its history (`specs/Agreement.antt`), and that replies say
-//! whether a transaction is open (`specs/Transaction.antt`). Beside it the crate has definitions, and the one enum that they and the
-//! sessions share. Start with `specs/Turns.antt`, then `specs/Statements.antt`.
+//! whether a transaction is open (`specs/Transaction.antt`). [`rounds_do_not_matter`] is the law that a RUN comes to the same in all
+//! numbers of rounds that are enough for it (`specs/Rounds.antt`). Beside these the crate has definitions, and the one enum that they
+//! and the sessions share. Start with `specs/Turns.antt`, then `specs/Statements.antt`.
 #![tactic(auto)]
 
 mod agreement;
 mod rewriting;
+mod rounds;
 
 pub use agreement::lines_keep_agreement;
 pub use rewriting::Rewriting;
+pub use rounds::rounds_do_not_matter;

@@ -1,5 +1,5 @@
 -- A build that began, and what the line goes on to.
-use Rattle.std.proofs.Common.{◌≡◌, ℕ, ◌+◌, ◌≤◌, ◌==◌, false, true, List, [], ◌∷◌, ◌++◌, Some, None, refl, sym, ap, ap₂, ◌∙◌, subst, append_assoc}
+use Rattle.std.proofs.Common.{◌≡◌, ℕ, ◌+◌, ◌≤◌, ◌==◌, false, true, List, [], ◌∷◌, ◌++◌, length, Some, None, refl, sym, ap, ap₂, ◌∙◌, subst, append_assoc}
 use Rattle.std.proofs.lemmas.List.Elements.{All-append}
 use Rattle.im_history.specs.declared.entry.Entry.{Entry}
 use Rattle.im_worker.proofs.HoldingLaws.{same_number}
@@ -8,13 +8,14 @@ use Rattle.im_history.specs.declared.entry.What.TheVariants.{Cancel}
 use Rattle.im_history.specs.declared.task.Choice.{Choice}
 use Rattle.im_history.specs.declared.task.Task.{Task}
 use Rattle.im_history.specs.History.{History, behind}
+use Rattle.im_history.specs.Leaves.{leaves}
 use Rattle.im_history.specs.Legal.{IsLawful, IsLegal}
 use Rattle.im_history.specs.Queue.{build_of, next, task_of}
 use Rattle.im_history.specs.Units.{task_content}
 use Rattle.im_history.proofs.Laws.{IsLegal-pop}
 use Rattle.im_plan.specs.Goes.{After}
 use Rattle.im_plan.specs.Plan.{Plan}
-use Rattle.im_reach.specs.Sides.{Added, AreOthers, Known, Missed, StoreSide, speaks}
+use Rattle.im_reach.specs.Sides.{Added, AreOthers, Known, Missed, StoreSide, missed, speaks}
 use Rattle.im_statements.specs.Background.{Answered, Outcome, begin_next, with_choice}
 use Rattle.im_statements.specs.Turns.{memory_reply}
 use Rattle.im_worker.specs.Background.{Ready, tasks_of}
@@ -95,22 +96,31 @@ ready-of who builds old mid new ready choice mine lawful after stands added went
   content = content;
 }
 
-pub idle-of : (who : ℕ) (builds : List Ready) (old new : Known) (P : History → Type 0) → speaks old.side who ≡ true → IsLawful new.limits new.log
-    → Stands who builds [] old.log → (missed : Missed old new P) → next missed.at ≡ None → IsIdle who builds old new
-idle-of who builds old new P mine lawful stands missed none = record {
-  went = went-missed old new P missed;
-  none = ap (λ (s : Known). next s.log) missed.now ∙ none;
-  stands = stands-went old new who builds [] mine lawful (went-missed old new P missed) stands;
+-- what is known after a miss
+misses-of : (old new : Known) (P : History → Type 0) → Missed old new P → new.misses ≡ missed old.misses
+misses-of old new P miss = ap (λ (s : Known). s.misses) miss.now
+
+pub idle-of : (who : ℕ) (builds : List Ready) (place left : ℕ) (old new : Known) → speaks old.side who ≡ true → IsLawful new.limits new.log
+    → Stands who builds [] old.log → Missed old new (λ at. (next at ≡ None) × (place ≡ length at) × (left ≡ leaves at))
+    → IsIdle who builds place left old new
+idle-of who builds place left old new mine lawful stands miss = record {
+  went = went-missed old new _ miss;
+  misses = misses-of old new _ miss;
+  none = ap (λ (s : Known). next s.log) miss.now ∙ miss.fact.0;
+  place_is = miss.fact.1 ∙ sym (ap (λ (s : Known). length s.log) miss.now);
+  left_is = miss.fact.2 ∙ sym (ap (λ (s : Known). leaves s.log) miss.now);
+  stands = stands-went old new who builds [] mine lawful (went-missed old new _ miss) stands;
 }
 
 pub lacked-of : (who : ℕ) (builds : List Ready) (old new : Known) (P : History → Type 0) → speaks old.side who ≡ true → IsLawful new.limits new.log
     → Stands who builds [] old.log → Missed old new P → Lacked who builds old new
-lacked-of who builds old new P mine lawful stands missed = record {
-  went = went-missed old new P missed;
-  stands = stands-went old new who builds [] mine lawful (went-missed old new P missed) stands;
+lacked-of who builds old new P mine lawful stands miss = record {
+  went = went-missed old new P miss;
+  misses = misses-of old new P miss;
+  stands = stands-went old new who builds [] mine lawful (went-missed old new P miss) stands;
 }
 
-after-both : {side : StoreSide} {old at new : History} → After (AreOthers side) old at → After (AreOthers side) at new → After (AreOthers side) old new
+pub after-both : {side : StoreSide} {old at new : History} → After (AreOthers side) old at → After (AreOthers side) at new → After (AreOthers side) old new
 after-both {side} {old} {at} {new} first second = record {
   between = first.between ++ second.between;
   lawful = record {
@@ -185,8 +195,8 @@ next-ready who k builds old new last ready on idle outcome is rest =
     mid = record old { log = behind at who (build_of at choice) }
 
 -- there was none
-pub next-idle : (who k : ℕ) (builds : List Ready) (old new last : Known) (on : Task → Plan Outcome) (idle : Plan Outcome) (outcome : Outcome)
-    → IsIdle who builds old new → IsRest who k (tasks_of builds) new idle outcome last → IsRest who k (tasks_of builds) old (begin_next on idle) outcome last
+pub next-idle : {place left : ℕ} (who k : ℕ) (builds : List Ready) (old new last : Known) (on : Task → Plan Outcome) (idle : Plan Outcome)
+    (outcome : Outcome) → IsIdle who builds place left old new → IsRest who k (tasks_of builds) new idle outcome last → IsRest who k (tasks_of builds) old (begin_next on idle) outcome last
 next-idle who k builds old new last on idle outcome is rest =
     rest-nothing who k (tasks_of builds) old new last false (λ at. option_map (build_of at) (next at)) (λ at. with_choice on idle at (next at)) outcome is.went
     (ap (option_map (build_of new.log)) is.none)

@@ -9,3 +9,4 @@ pub mod RestLemmas
 pub mod RunLemmas
 pub mod StandingLaws
 pub mod UnitLemmas
+pub mod WorkLaws

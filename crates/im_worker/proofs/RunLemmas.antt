@@ -224,7 +224,7 @@ begin-ready who builds old new ready lawful is = record {
     of_tasks [] = refl
     of_tasks (first ∷ rest) = ap (λ (tasks : List Task). first.task ∷ tasks) (of_tasks rest)
 
-pub begin-idle : (who : ℕ) (builds : List Ready) (old new : Known) → IsIdle who builds old new
+pub begin-idle : {place left : ℕ} (who : ℕ) (builds : List Ready) (old new : Known) → IsIdle who builds place left old new
     → IsRun who (begin (tasks_of builds)) builds old (said body.Idle) builds new
 begin-idle who builds old new is = record {
   rest = next-idle who 0 builds old new new (λ task. answer_with (tasks_of builds ++ task ∷ []) (body.Build (built_of task)))
@@ -255,6 +255,22 @@ length-more : (so_far : List (Built × Ending)) (one : Built × Ending) → leng
 length-more [] one = refl
 length-more (first ∷ rest) one = let more = length-more rest one in omega (arith, more)
 
+-- a build ended whose unit was ready, beside those that are held
+pub stands-ended : (who : ℕ) (builds : List Ready) (mid new : Known) (task : Task) (ending : Ending) → speaks mid.side who ≡ true
+    → IsLawful new.limits new.log → Stands who builds (task ∷ []) mid.log → IsEnded who mid task ending new → Stands who builds [] new.log
+stands-ended who builds mid new task ending mine lawful stands ended =
+    subst (Stands who builds []) (sym log_is)
+    (stands-finished new.limits ended.at who (ended_by mid.limits task ended.at) builds task legal
+    (ends-by task.id (killed_of (held_at ended.at task.id)) (fits mid.limits ended.at task))
+    (stands-after new.limits mid.side who builds (task ∷ []) mid.log ended.at mine
+    (IsLegal-pop new.limits ended.at (record { who = who; what = ended_by mid.limits task ended.at }) legal).0 ended.after stands))
+  where
+    log_is : new.log ≡ behind ended.at who (ended_by mid.limits task ended.at)
+    log_is = ap (λ (s : Known). s.log) ended.now
+
+    legal : IsLegal new.limits (behind ended.at who (ended_by mid.limits task ended.at))
+    legal = subst (IsLegal new.limits) log_is lawful.legal
+
 pub round-goes : (who : ℕ) (builds : List Ready) (so_far : List (Built × Ending)) (old mid new : Known) (ready : Ready) (ending : Ending)
     → speaks old.side who ≡ true → IsLawful new.limits new.log → IsReady who builds old ready mid → IsEnded who mid ready.task ending new
     → IsRound who builds so_far (so_far ++ (built_of ready.task, ending) ∷ []) old new
@@ -276,7 +292,7 @@ round-goes who builds so_far old mid new ready ending mine lawful is ended = rec
       (run old.limits who (tasks_of builds) rounds (so_far ++ (built_of ready.task, e) ∷ [])) outcome last) told_is rest)));
   kept = kept-kept old mid new (kept-log old mid is.now) kept_mid;
   longer = length-more so_far (built_of ready.task, ending);
-  stands = now;
+  stands = stands-ended who builds mid new ready.task ending (subst (λ (side : StoreSide). speaks side who ≡ true) (sym side_is) mine) lawful is.stands ended;
 }
   where
     limits_are : mid.limits ≡ old.limits
@@ -297,20 +313,8 @@ round-goes who builds so_far old mid new ready ending mine lawful is ended = rec
     kept_mid : new ≡ record mid { log = new.log; misses = new.misses }
     kept_mid = subst (λ (s : Known). s ≡ record mid { log = s.log; misses = s.misses }) (sym ended.now) refl
 
-    log_is : new.log ≡ behind ended.at who (ended_by mid.limits ready.task ended.at)
-    log_is = ap (λ (s : Known). s.log) ended.now
-
-    legal : IsLegal new.limits (behind ended.at who (ended_by mid.limits ready.task ended.at))
-    legal = subst (IsLegal new.limits) log_is lawful.legal
-
-    now : Stands who builds [] new.log
-    now = subst (Stands who builds []) (sym log_is)
-        (stands-finished new.limits ended.at who (ended_by mid.limits ready.task ended.at) builds ready.task legal
-        (ends-by ready.task.id (killed_of (held_at ended.at ready.task.id)) (fits mid.limits ended.at ready.task))
-        (stands-after new.limits mid.side who builds (ready.task ∷ []) mid.log ended.at (subst (λ (side : StoreSide). speaks side who ≡ true) (sym side_is) mine)
-        (IsLegal-pop new.limits ended.at (record { who = who; what = ended_by mid.limits ready.task ended.at }) legal).0 ended.after is.stands))
-
-pub round-idle : (who : ℕ) (builds : List Ready) (so_far : List (Built × Ending)) (old new : Known) → IsIdle who builds old new
+pub round-idle : {place left : ℕ} (who : ℕ) (builds : List Ready) (so_far : List (Built × Ending)) (old new : Known)
+    → IsIdle who builds place left old new
     → IsLast who builds so_far old (said (body.Ran so_far)) new
 round-idle who builds so_far old new is = record {
   rest = next-idle who (2 * length so_far) builds old new new (on_end old.limits who (tasks_of builds) 0 so_far)
@@ -319,19 +323,23 @@ round-idle who builds so_far old new is = record {
   stands = is.stands;
 }
 
-pub round-lacks : (who k : ℕ) (builds : List Ready) (so_far : List (Built × Ending)) (old new : Known) → k ≡ 2 * length so_far → Lacked who builds old new
-    → IsLast who builds so_far old (memory_reply k) new
-round-lacks who k builds so_far old new is lacked = record {
+-- memory was out, others having gone on
+last-lacks : (who k : ℕ) (builds : List Ready) (so_far : List (Built × Ending)) (old new : Known) → k ≡ 2 * length so_far → Went old new
+    → Stands who builds [] new.log → IsLast who builds so_far old (memory_reply k) new
+last-lacks who k builds so_far old new is went stands = record {
   rest = subst (λ (n : ℕ). IsRest who (2 * length so_far) (tasks_of builds) old (run old.limits who (tasks_of builds) 1 so_far)
       (Answered (memory_reply n) (tasks_of builds)) new) (sym is)
-      (next-lacks who (2 * length so_far) builds old new (run old.limits who (tasks_of builds) 1 so_far) lacked);
-  stands = lacked.stands;
+      (rest-lacks who (2 * length so_far) builds old new (run old.limits who (tasks_of builds) 1 so_far) went stands);
+  stands = stands;
 }
+
+pub round-lacks : (who k : ℕ) (builds : List Ready) (so_far : List (Built × Ending)) (old new : Known) → k ≡ 2 * length so_far → Lacked who builds old new
+    → IsLast who builds so_far old (memory_reply k) new
+round-lacks who k builds so_far old new is lacked = last-lacks who k builds so_far old new is lacked.went lacked.stands
 
 pub round-lacks_here : (who k : ℕ) (builds : List Ready) (so_far : List (Built × Ending)) (old : Known) → k ≡ 2 * length so_far → Stands who builds [] old.log
     → IsLast who builds so_far old (memory_reply k) old
-round-lacks_here who k builds so_far old is stands =
-    round-lacks who k builds so_far old old is (record { went = went-here old; stands = stands })
+round-lacks_here who k builds so_far old is stands = last-lacks who k builds so_far old old is (went-here old) stands
 
 pub round-dropped : (who k : ℕ) (builds : List Ready) (so_far : List (Built × Ending)) (old new : Known) → k ≡ 2 * length so_far + 1
     → IsLawful new.limits new.log → WasDropped who builds old new → IsLast who builds so_far old (memory_reply k) new

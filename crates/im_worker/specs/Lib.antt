@@ -1,3 +1,4 @@
 pub mod Background
 pub mod Reads
+pub mod Work
 pub mod inner

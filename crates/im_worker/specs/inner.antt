@@ -3,3 +3,4 @@ pub mod Good
 pub mod Rests
 pub mod Running
 pub mod Standing
+pub mod Working

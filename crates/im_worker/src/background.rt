@@ -1,8 +1,9 @@
-ghost use Rattle.std.specs.Prelude.{◌≡◌, ◌<◌, [], true};
+ghost use Rattle.std.specs.Prelude.{◌≡◌, ◌<◌, [], true, IfSome};
 ghost use Rattle.im_reach.specs.Sides.{speaks};
 ghost use Rattle.im_syntax.specs.Rules.{IsStmt};
 ghost use Rattle.im_worker.specs.Background.{Agrees, IsDropped, IsPlayed};
 ghost use Rattle.im_worker.specs.Reads.{IsCounted};
+ghost use Rattle.im_worker.specs.Work.{HasWorked, IfOver, IfSpent, IsIdleAt, IsOverAt, IsSpent};
 ghost use Rattle.im_worker.specs.inner.Running.{IsCommand, WereDropped};
 ghost use Rattle.im_worker.specs.inner.Standing.{Stands};
 
@@ -10,6 +11,7 @@ use crate::ending::cancel_build;
 use crate::held::Build;
 use crate::running::run;
 use crate::statements::{begin, cancel, evict, switch, trickle};
+use crate::work::{Ended, job};
 use im_edge::Gate;
 use im_reach::Reach;
 use im_replies::{Body, Reply};
@@ -82,6 +84,43 @@ impl Background {
             &mut self.held,
             statement,
             steps,
+        )
+    }
+
+    /// Does a worker's job: begins the build that comes next, makes its unit and switches to it, again and again, until so many
+    /// turns are made, or until no build comes next and so many sessions have left.
+    ///
+    /// A turn is one call of the store: a build that begins takes three, and so a job up to two more than `turns`. A build whose
+    /// rows could not be read or whose unit could not be made for want of memory is cancelled, and each other one is switched to.
+    /// Where a round makes no unit current, since no build comes next or memory is out, the worker sleeps for about a millisecond
+    /// before it goes on, so that its turns last while others are at work: an idle job takes some `turns` milliseconds. The gate is
+    /// called before and after each switch, outside the store's turn.
+    pub fn work<R: Wait, H: Reach<ColumnUnit>, G: Gate, L: Ledger>(
+        &mut self,
+        rt: &R,
+        reach: &mut H,
+        gate: &G,
+        turns: u64,
+        sessions: u32,
+        steps: &mut Steps<L>,
+    ) -> Ended
+        requires session { self.old.who < NUMBERS }
+        requires speaks { speaks (H.known reach.old).side self.old.who ≡ true }
+        requires agrees { Agrees self.old (H.known reach.old) }
+        requires none { self.old.builds ≡ [] }
+        ensures worked { HasWorked self.old.who turns sessions (H.known reach.old) result (H.known reach.new) }
+        ensures over { IfOver result (λ place.
+            IsOverAt self.old.who sessions place (H.known reach.old).log (H.known reach.new).log) }
+        ensures spent { IfSpent result (λ lacks idle. IsSpent self.old.who turns lacks idle (H.known reach.old) (H.known reach.new)) }
+        ensures idle { IfSpent result (λ lacks idle. IfSome idle (λ place.
+            IsIdleAt self.old.who place (H.known reach.old).log (H.known reach.new).log)) }
+        ensures same { self.new ≡ self.old }
+        ensures agrees { Agrees self.new (H.known reach.new) }
+        ensures ticks { IsCounted self.old.who steps.old steps.new (H.known reach.old) (H.known reach.new) }
+    {
+        let (alloc, who) = (self.alloc, self.who);
+        job(
+            alloc, rt, reach, gate, who, &self.held, turns, sessions, steps,
         )
     }
 

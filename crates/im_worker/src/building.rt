@@ -29,7 +29,12 @@ pub enum Begun {
     /// It began, and its unit is ready.
     Ready(Build),
     /// There was none.
-    Idle,
+    Idle {
+        /// The place of the reading.
+        place: u64,
+        /// How many sessions had left.
+        left: u32,
+    },
     /// Memory lacked, and none began.
     Lacks,
     /// Memory lacked when it had begun. It is cancelled.
@@ -95,8 +100,9 @@ pub fn begin_next<R: Wait, H: Reach<ColumnUnit>, L: Ledger>(
     let Ok(offer) = reach.build(rt, who) else {
         return Begun::Lacks;
     };
-    let Offer::Task(task) = offer else {
-        return Begun::Idle;
+    let task = match offer {
+        Offer::Task(task) => task,
+        Offer::Idle { place, left } => return Begun::Idle { place, left },
     };
     match unit_of(alloc, rt, reach, who, &task, steps) {
         Some(unit) => Begun::Ready(Build { task, unit }),

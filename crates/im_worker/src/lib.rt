@@ -7,7 +7,9 @@
 //! [`Background::command`] plays one statement: it goes by its plan, or runs out of memory on the way and is amended, and the
 //! builds that are held agree with the history before and after (`specs/Background.antt`).
 //!
-//! Start with `background.rt`, then `building.rt`, which makes one unit ready, and `running.rt`.
+//! [`Background::work`] is the job of a worker, which builds beside sessions until they have left (`specs/Work.antt`).
+//!
+//! Start with `background.rt`, then `building.rt`, which makes one unit ready, `running.rt` and `work.rt`.
 #![tactic(auto)]
 
 mod background;
@@ -18,5 +20,7 @@ mod replies;
 mod rows;
 mod running;
 mod statements;
+mod work;
 
 pub use background::Background;
+pub use work::Ended;

@@ -57,7 +57,7 @@ fn round<R: Wait, H: Reach<ColumnUnit>, G: Gate, L: Ledger>(
             ran.push_reserved((built, ending));
             None
         }
-        Begun::Idle => {
+        Begun::Idle { .. } => {
             let all = replace(ran, Vec::new(alloc));
             Some(Reply::plain(alloc, Body::Ran(List::of(all))))
         }

@@ -51,7 +51,7 @@ pub fn begin<R: Wait, H: Reach<ColumnUnit>, L: Ledger>(
             held.push_back_reserved(build);
             Reply::plain(alloc, Body::Build(built))
         }
-        Begun::Idle => Reply::plain(alloc, Body::Idle),
+        Begun::Idle { .. } => Reply::plain(alloc, Body::Idle),
         Begun::Lacks => out_of_memory(alloc, 0),
         Begun::Dropped => out_of_memory(alloc, 1),
     }

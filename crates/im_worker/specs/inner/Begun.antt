@@ -1,15 +1,16 @@
 -- What comes of beginning the build that comes next and making its unit ready.
-use Rattle.std.specs.Prelude.{◌≡◌, ℕ, false, List, [], ◌∷◌, Some, None}
+use Rattle.std.specs.Prelude.{◌≡◌, ℕ, false, List, [], ◌∷◌, length, Some, None}
 use Rattle.im_history.specs.declared.entry.What.TheVariants.{Cancel}
 use Rattle.im_history.specs.declared.task.Choice.{Choice}
 use Rattle.im_history.specs.declared.task.Held.{Held}
 use Rattle.im_history.specs.declared.task.Task.{Task}
 use Rattle.im_history.specs.History.{History, behind}
+use Rattle.im_history.specs.Leaves.{leaves}
 use Rattle.im_history.specs.Legal.{IsLawful}
 use Rattle.im_history.specs.Queue.{build_of, next, task_of}
 use Rattle.im_history.specs.Units.{held_at, task_content}
 use Rattle.im_plan.specs.Goes.{After}
-use Rattle.im_reach.specs.Sides.{AreOthers, Known}
+use Rattle.im_reach.specs.Sides.{AreOthers, Known, missed}
 use Rattle.im_worker.specs.declared.building.Begun.{Begun}
 use Rattle.im_worker.specs.declared.building.Begun.TheVariants as begun
 use Rattle.im_worker.specs.Background.{Ready}
@@ -40,15 +41,19 @@ pub record IsReady (who : ℕ) (builds : List Ready) (old : Known) (ready : Read
   pub stands : Stands who builds (ready.task ∷ []) new.log
   pub content : ready.content ≡ task_content new.log ready.task
 
--- there was none
-pub record IsIdle (who : ℕ) (builds : List Ready) (old new : Known) : Type 0 where
+-- there was none, at this place, where so many sessions had left
+pub record IsIdle (who : ℕ) (builds : List Ready) (place left : ℕ) (old new : Known) : Type 0 where
   pub went : Went old new
+  pub misses : new.misses ≡ missed old.misses
   pub none : next new.log ≡ None
+  pub place_is : place ≡ length new.log
+  pub left_is : left ≡ leaves new.log
   pub stands : Stands who builds [] new.log
 
 -- memory lacked before one began
 pub record Lacked (who : ℕ) (builds : List Ready) (old new : Known) : Type 0 where
   pub went : Went old new
+  pub misses : new.misses ≡ missed old.misses
   pub stands : Stands who builds [] new.log
 
 -- memory lacked before its unit was ready, and it was cancelled
@@ -62,7 +67,7 @@ pub record WasDropped (who : ℕ) (builds : List Ready) (old new : Known) : Type
 
 abbrev pub IsBegun : ℕ → List Ready → Known → Begun → Known → Type 0
 IsBegun who builds old (begun.Ready ready) new = IsReady who builds old ready new
-IsBegun who builds old begun.Idle new = IsIdle who builds old new
+IsBegun who builds old (begun.Idle place left) new = IsIdle who builds place left old new
 IsBegun who builds old begun.Lacks new = Lacked who builds old new
 IsBegun who builds old begun.Dropped new = WasDropped who builds old new
 

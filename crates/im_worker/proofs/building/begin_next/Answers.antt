@@ -38,12 +38,12 @@ returns-in_default-clause-begun g c =
     lacked-of c.args.who c.args.held.now.items (g.H.Reach.known c.args.reach.now) (g.H.Reach.known c.build.new.self) _ c.requires.speaks
     c.in_default.ensures.lawful c.requires.stands c.in_default.ensures.err
 
-pub returns-in_default-offer-clause-begun : goal.returns-in_default-offer-clause-begun
-returns-in_default-offer-clause-begun g c =
+pub returns-in-Idle-clause-begun : goal.returns-in-Idle-clause-begun
+returns-in-Idle-clause-begun g c =
     let old = g.H.Reach.known c.args.reach.now in
     let new = g.H.Reach.known c.build.new.self in
-    let missed = subst (Offered old new c.args.who) c.in_default-offer.is c.in-Ok.ensures.ok in
-    idle-of c.args.who c.args.held.now.items old new _ c.requires.speaks c.in-Ok.ensures.lawful c.requires.stands missed missed.fact.0
+    let missed = subst (Offered old new c.args.who) c.in-Idle.is c.in-Ok.ensures.ok in
+    idle-of c.args.who c.args.held.now.items c.in-Idle.place c.in-Idle.left old new c.requires.speaks c.in-Ok.ensures.lawful c.requires.stands missed
 
 pub cancel-requires-clause-own : goal.cancel-requires-clause-own
 cancel-requires-clause-own g c =

@@ -1,0 +1,160 @@
+ghost use Rattle.std.specs.Prelude.{◌≡◌, ◌+◌, ◌-◌, ◌<◌, ◌≤◌, ◌^◌, [], Some, true};
+ghost use Rattle.im_reach.specs.Sides.{speaks};
+ghost use Rattle.im_worker.specs.Reads.{IsCounted};
+ghost use Rattle.im_worker.specs.inner.Standing.{Stands};
+ghost use Rattle.im_worker.specs.inner.Working.{HasEnded, IsAround};
+
+use crate::building::{Begun, begin_next};
+use crate::ending::end_build;
+use crate::held::Build;
+use im_edge::Gate;
+use im_reach::Reach;
+use im_unit::ColumnUnit;
+use im_values::Steps;
+use im_values::limits::NUMBERS;
+use std::alloc::Global;
+use std::collections::VecDeque;
+use std::sync::Wait;
+use std::sync::atomic::AtomicU64;
+use std::sync::ledger::Ledger;
+use std::time::Duration;
+
+/// How a worker's job ended.
+#[derive(Clone, Copy, Debug, PartialEq, Eq)]
+pub enum Ended {
+    /// All its turns were made.
+    Spent {
+        /// In how many of them memory was out and no build began.
+        lacks: u64,
+        /// The last place at which no build came next.
+        idle: Option<u64>,
+    },
+    /// No build came next, and all sessions had left.
+    Over {
+        /// The place at which that was so.
+        place: u64,
+    },
+}
+
+/// How many turns of a job are left, and what was met in those that were made.
+#[derive(Clone, Copy, Debug)]
+pub struct Tally {
+    pub left: u64,
+    pub lacks: u64,
+    pub idle: Option<u64>,
+}
+
+impl Tally {
+    /// A build began and ended: three turns, or those that were left.
+    fn note_build(&mut self)
+        ensures { self.new ≡ record self.old { left = self.old.left - 3 } }
+    {
+        self.left = self.left.saturating_sub(3);
+    }
+
+    /// No build came next at this place.
+    fn note_idle(&mut self, place: u64)
+        ensures { self.new ≡ record self.old { left = self.old.left - 1; idle = Some place } }
+    {
+        self.left = self.left.saturating_sub(1);
+        self.idle = Some(place);
+    }
+
+    /// Memory was out, and no build began.
+    fn note_lack(&mut self)
+        requires room { self.old.lacks + 1 < 2 ^ 64 }
+        ensures { self.new ≡ record self.old { left = self.old.left - 1; lacks = self.old.lacks + 1 } }
+    {
+        self.left = self.left.saturating_sub(1);
+        self.lacks += 1;
+    }
+}
+
+/// Sleeps for a millisecond, or less.
+fn pause<R: Wait>(rt: &R) {
+    AtomicU64::new(0).park_timeout(rt, 0, Duration::from_millis(1));
+}
+
+/// One round of a worker: a build begins and ends, or none comes next, or memory is out. The place, where the job is over with it.
+///
+/// Where no unit became ready the round ends with a pause.
+fn round<R: Wait, H: Reach<ColumnUnit>, G: Gate, L: Ledger>(
+    alloc: Global,
+    rt: &R,
+    reach: &mut H,
+    gate: &G,
+    who: u32,
+    held: &VecDeque<Build>,
+    sessions: u32,
+    tally: &mut Tally,
+    steps: &mut Steps<L>,
+) -> Option<u64>
+    requires session { who < NUMBERS }
+    requires speaks { speaks (H.known reach.old).side who ≡ true }
+    requires stands { Stands who held.now.items [] (H.known reach.old).log }
+    requires room { tally.old.lacks + 1 < 2 ^ 64 }
+    ensures round { IsAround who sessions held.now.items tally.old tally.new (H.known reach.old) result (H.known reach.new) }
+    ensures ticks { IsCounted who steps.old steps.new (H.known reach.old) (H.known reach.new) }
+{
+    match begin_next(alloc, rt, reach, who, held, steps) {
+        Begun::Ready(build) => {
+            end_build(rt, reach, gate, who, build);
+            tally.note_build();
+            None
+        }
+        Begun::Idle { place, left } => {
+            if left == sessions {
+                return Some(place);
+            }
+            tally.note_idle(place);
+            pause(rt);
+            None
+        }
+        Begun::Lacks => {
+            tally.note_lack();
+            pause(rt);
+            None
+        }
+        Begun::Dropped => {
+            tally.note_build();
+            pause(rt);
+            None
+        }
+    }
+}
+
+/// Does a worker's job beside builds that are held.
+pub fn job<R: Wait, H: Reach<ColumnUnit>, G: Gate, L: Ledger>(
+    alloc: Global,
+    rt: &R,
+    reach: &mut H,
+    gate: &G,
+    who: u32,
+    held: &VecDeque<Build>,
+    turns: u64,
+    sessions: u32,
+    steps: &mut Steps<L>,
+) -> Ended
+    requires session { who < NUMBERS }
+    requires speaks { speaks (H.known reach.old).side who ≡ true }
+    requires stands { Stands who held.now.items [] (H.known reach.old).log }
+    ensures ended { HasEnded who turns sessions held.now.items (H.known reach.old) result (H.known reach.new) }
+    ensures ticks { IsCounted who steps.old steps.new (H.known reach.old) (H.known reach.new) }
+{
+    let mut tally = Tally {
+        left: turns,
+        lacks: 0,
+        idle: None,
+    };
+    while tally.left > 0 {
+        if let Some(place) = round(
+            alloc, rt, reach, gate, who, held, sessions, &mut tally, steps,
+        ) {
+            return Ended::Over { place };
+        }
+    }
+    Ended::Spent {
+        lacks: tally.lacks,
+        idle: tally.idle,
+    }
+}
