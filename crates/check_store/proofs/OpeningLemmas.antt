@@ -184,28 +184,17 @@ pub record Opens (before h : Seen) (who : ℕ) (view : View) : Type 0 where
 pub opening-of : (before h : Seen) (who : ℕ) (view : View) → Opens before h who view → IsOpening before.log h.log who 0 1
 opening-of before h who view o = record { is = ap (λ (s : Seen). s.log) o.added; shut = open_shut before.log who 0 o.allowed }
 
--- a cursor that was opened just now has the extents that its view has
-extents-opened : (before h : Seen) (who cursor : ℕ) (view : View) → Adds before who (Open cursor 1) h → open_refusal before.log who cursor ≡ None
-    → view ≡ view_at before.log who 1 → (cursor_view h.log who cursor).extents ≡ view.extents
-extents-opened before h who cursor view added allowed view_is =
-    ap (λ (v : View). v.extents) (view-opening before.log h.log who cursor 1 opening ∙ sym view_is)
-  where
-    opening : IsOpening before.log h.log who cursor 1
-    opening = record { is = ap (λ (s : Seen). s.log) added; shut = open_shut before.log who cursor allowed }
-
--- so it has a first one, where its view has one
+-- a cursor that was opened just now has an extent, where its view has one
 pub opens-extent : (before h : Seen) (who cursor : ℕ) (view : View) → Adds before who (Open cursor 1) h → open_refusal before.log who cursor ≡ None
     → view ≡ view_at before.log who 1 → (view.extents ≡ 0 → ⊥) → 0 < (cursor_view h.log who cursor).extents
 opens-extent before h who cursor view added allowed view_is some =
-    rw (extents-opened before h who cursor view added allowed view_is) (omega (arith, some))
+    let opening : IsOpening before.log h.log who cursor 1 =
+    record { is = ap (λ (s : Seen). s.log) added; shut = open_shut before.log who cursor allowed } in
+    let same : cursor_view h.log who cursor ≡ view = view-opening before.log h.log who cursor 1 opening ∙ sym view_is in
+    rw same (omega (arith, some))
 
 pub has-extent : (before h : Seen) (who : ℕ) (view : View) → Opens before h who view → (view.extents ≡ 0 → ⊥) → 0 < (cursor_view h.log who 0).extents
 has-extent before h who view o some = opens-extent before h who 0 view o.added o.allowed o.view_is some
-
--- and each of those that its view has
-pub has-extents : (before h : Seen) (who extent : ℕ) (view : View) → Opens before h who view → extent < view.extents
-    → extent < (cursor_view h.log who 0).extents
-has-extents before h who extent view o within = rw (extents-opened before h who 0 view o.added o.allowed o.view_is) within
 
 pub is-open : (before h late : Seen) (who : ℕ) (view : View) → Opens before h who view → late ≡ h → is_cursor_open late.log who 0 ≡ true
 is-open before h late who view o same =

@@ -41,11 +41,12 @@ own-plain h entry who task plain own = record {
     of_task true is = rw is refl
     of_task false is = rw is refl
 
--- an extent all of whose row numbers were given
+-- the first extent, of two rows that were given
 pub whole-unit : (h : History) (task : Task) (found : List (Option Row)) → found ≡ map (λ (f : ℕ × Option Row). f.1) (task_fetched h task)
-    → length found ≡ task.per → task.columns ≡ 1
-    → ◌≡◌ {A = Content} (record { scn = task.scn; first = task.extent * task.per; columns = 1; rows = found }) (task_content h task)
-whole-unit h task found is full columns = rw (columns, rows_are) refl
+    → length found ≡ 2 → task.extent ≡ 0 → task.per ≡ 2 → task.columns ≡ 1
+    → ◌≡◌ {A = Content} (record { scn = task.scn; first = 0; columns = 1; rows = found }) (task_content h task)
+whole-unit h task found is two extent per columns =
+    rw (columns, rows_are, extent, per) refl
   where
     row_at : ℕ → Option Row
     row_at rid = rows h task.table task.scn rid
@@ -53,10 +54,10 @@ whole-unit h task found is full columns = rw (columns, rows_are) refl
     mapped : found ≡ map row_at (range_with_len (task.extent * task.per) (task_rows h task))
     mapped = is ∙ map-map (λ (f : ℕ × Option Row). f.1) (λ rid. (rid, row_at rid)) (range_with_len (task.extent * task.per) (task_rows h task))
 
-    count : task_rows h task ≡ task.per
-    count = sym (length-map-range_with_len row_at (task.extent * task.per) (task_rows h task)) ∙ (ap length (sym mapped) ∙ full)
+    count : task_rows h task ≡ 2
+    count = sym (length-map-range_with_len row_at (task.extent * task.per) (task_rows h task)) ∙ (ap length (sym mapped) ∙ two)
 
-    rows_are : found ≡ map row_at (range_with_len (task.extent * task.per) task.per)
+    rows_are : found ≡ map row_at (range_with_len (task.extent * task.per) 2)
     rows_are = mapped ∙ ap (λ (n : ℕ). map row_at (range_with_len (task.extent * task.per) n)) count
 
 -- so does one that a call added

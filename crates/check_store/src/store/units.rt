@@ -1,9 +1,8 @@
-//! Column units of extents of two or six rows: built while a row is updated, made current, evicted, and built again.
-ghost use Rattle.std.specs.Prelude.{◌≡◌, ◌*◌, ◌<◌, ◌≤◌, [], ◌∷◌, All, map, length, OnOk, IfOk};
+//! Column units of an extent of two rows: built while a row is updated, made current, evicted, and built again.
+ghost use Rattle.std.specs.Prelude.{◌≡◌, ◌<◌, All, map, length, OnOk, IfOk};
 ghost use Rattle.std.specs.Bool.{OnTrue};
 ghost use Rattle.std.specs.Option.{ForSome};
 ghost use Rattle.im_history.specs.declared.task.Task.{Task as TaskInfo};
-ghost use Rattle.im_history.specs.Grid.{IsInRange};
 ghost use Rattle.im_history.specs.Cursors.{opened};
 ghost use Rattle.im_history.specs.Units.{IsOwn, task_content};
 ghost use Rattle.im_column.specs.Forms.{IsShort};
@@ -13,7 +12,7 @@ mod cursors;
 
 use crate::store::{AMPLE, OUT_OF_PLACE, insert, row, set_memory, stocked, sum_of, takes, update};
 use im_core::{Core, Fetched, Offer, Switched};
-use im_history::{Limits, Priority, Refused, Shape, Task, UnitLike};
+use im_history::{Priority, Refused, Shape, Task, UnitLike};
 use im_unit::ColumnUnit;
 use im_values::{NoMemory, Row, Steps, Value};
 use std::alloc::Global;
@@ -74,42 +73,25 @@ fn is_single(row: &Option<Row>) -> bool
     }
 }
 
-/// Whether three rows are single.
-fn are_three(one: &Option<Row>, two: &Option<Row>, three: &Option<Row>) -> bool
-    ensures width { OnTrue result (HaveWidth 1 (one.now ∷ two.now ∷ three.now ∷ [])) }
-    ensures short { OnTrue result (AreShort (one.now ∷ two.now ∷ three.now ∷ [])) }
-{
-    is_single(one) && is_single(two) && is_single(three)
-}
-
-/// Whether these are rows of one number, two or six of them.
-fn are_single(rows: &[Option<Row>]) -> bool
+/// Whether these are the rows of a build of the first extent, of two rows of one number.
+fn are_whole(task: &Task, rows: &[Option<Row>]) -> bool
     ensures width { OnTrue result (HaveWidth 1 rows.now) }
     ensures short { OnTrue result (AreShort rows.now) }
-    ensures few { OnTrue result (length rows.now ≤ 6) }
+    ensures two { OnTrue result (length rows.now ≡ 2) }
+    ensures extent { OnTrue result (task.now.extent ≡ 0) }
+    ensures per { OnTrue result (task.now.per ≡ 2) }
+    ensures columns { OnTrue result (task.now.columns ≡ 1) }
 {
+    if task.extent != 0 || task.per != 2 || task.columns != 1 {
+        return false;
+    }
     match rows {
-        [one, two] => is_single(one) && is_single(two),
-        [one, two, three, four, five, six] => {
-            are_three(one, two, three) && are_three(four, five, six)
-        }
+        [first, second] => is_single(first) && is_single(second),
         _ => false,
     }
 }
 
-/// Whether these are the rows of a build of one of the first eight extents, all of whose row numbers were given.
-fn are_whole(task: &Task, rows: &[Option<Row>]) -> bool
-    ensures width { OnTrue result (HaveWidth 1 rows.now) }
-    ensures short { OnTrue result (AreShort rows.now) }
-    ensures few { OnTrue result (length rows.now ≤ 6) }
-    ensures full { OnTrue result (length rows.now ≡ task.now.per) }
-    ensures within { OnTrue result (task.now.extent * task.now.per < 64) }
-    ensures columns { OnTrue result (task.now.columns ≡ 1) }
-{
-    task.extent < 8 && task.columns == 1 && rows.len() as u64 == task.per && are_single(rows)
-}
-
-/// The unit of a build of an extent, all rows of which were given.
+/// The unit of a build of the extent, both rows of which were given.
 fn unit_of<L: Ledger>(
     alloc: Global,
     store: &mut Core<ColumnUnit>,
@@ -127,8 +109,7 @@ fn unit_of<L: Ledger>(
     if !are_whole(task, rows.as_slice()) {
         return Err(OUT_OF_PLACE);
     }
-    let first = task.extent * task.per;
-    let Ok(unit) = ColumnUnit::build(alloc, task.scn, first, 1, rows.as_slice()) else {
+    let Ok(unit) = ColumnUnit::build(alloc, task.scn, 0, 1, rows.as_slice()) else {
         return Err(OUT_OF_PLACE);
     };
     match Arc::new(alloc, unit) {
@@ -273,15 +254,11 @@ fn rounds<L: Ledger>(
     Ok([first, second, third, last])
 }
 
-/// A store whose table of so many rows of 1, in extents of so many, has joined the column store.
-fn filled(alloc: Global, limits: Limits, per: u32, count: u64) -> Result<Core<ColumnUnit>, Refused>
-    requires store { limits.store ≤ 536870912 }
-    requires changes { limits.changes ≤ 65536 }
-    requires per { IsInRange per }
-{
-    let (mut store, _made) = stocked(alloc, limits, Shape::of(1, per))?;
+/// A store whose table of two rows of 1 has joined the column store.
+fn filled(alloc: Global) -> Result<Core<ColumnUnit>, Refused> {
+    let (mut store, _made) = stocked(alloc, AMPLE, Shape::of(1, 2))?;
     let _joined = set_memory(alloc, &mut store, 1, Some(Priority::High))?;
-    let _wrote = insert(alloc, &mut store, 1, count)?;
+    let _wrote = insert(alloc, &mut store, 1, 2)?;
     let _committed = store.commit(1)?;
     Ok(store)
 }
@@ -293,7 +270,7 @@ fn met<L: Ledger>(alloc: Global, blank: Blank) -> Result<[(Ended, Met); 4], Refu
     requires some { 0 < blank.parts }
 {
     let mut steps = Steps::<L>::new(blank);
-    let mut store = filled(alloc, AMPLE, 2, 2)?;
+    let mut store = filled(alloc)?;
     rounds(alloc, &mut store, &mut steps)
 }
 

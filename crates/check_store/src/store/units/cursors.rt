@@ -4,7 +4,7 @@ ghost use Rattle.im_core.specs.Answers.{cursor_view};
 ghost use Rattle.im_history.specs.Cursors.{opened};
 
 use crate::store::units::{Ended, begin_late, filled, switch, switch_dead, switch_late};
-use crate::store::{AMPLE, OUT_OF_PLACE, row, size_of, takes};
+use crate::store::{OUT_OF_PLACE, row, size_of, takes};
 use im_core::{Core, Pin};
 use im_history::{Refused, UnitLike};
 use im_unit::ColumnUnit;
@@ -131,7 +131,7 @@ fn played<L: Ledger>(
     requires some { 0 < blank.parts }
 {
     let mut steps = Steps::<L>::new(blank);
-    let mut store = filled(alloc, AMPLE, 2, 2)?;
+    let mut store = filled(alloc)?;
     let scn = open(alloc, &mut store)?;
     let first = first_round(alloc, &mut store, &mut steps)?;
     let later = later_rounds(alloc, &mut store, &mut steps)?;
