@@ -1,3 +1,4 @@
 mod FieldLemmas
 mod PageLemmas
+mod ReadLemmas
 pub mod Inserted

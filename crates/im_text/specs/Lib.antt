@@ -6,4 +6,6 @@ pub mod Tasks
 pub mod Faults
 pub mod Bodies
 pub mod Replies
+pub mod Entries
+pub mod Report
 pub mod inner

@@ -14,3 +14,7 @@ record_text (first ∷ rest) = field_text first ++ (further rest ++ 10 ∷ [])
 -- records, each of which begins with the number of a line
 abbrev pub numbered : ℕ → List (List (List ℕ)) → List ℕ
 numbered line records = flat_map (λ fields. record_text (decimal line ∷ fields)) records
+
+-- records, one behind another
+abbrev pub records_text : List (List (List ℕ)) → List ℕ
+records_text records = flat_map record_text records

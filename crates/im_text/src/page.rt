@@ -1,4 +1,4 @@
-ghost use Rattle.std.specs.Prelude.{◌≡◌, ◌∷◌, ◌++◌, [], OnOk, map, codes, decimal};
+ghost use Rattle.std.specs.Prelude.{◌≡◌, ◌<◌, ◌∷◌, ◌++◌, [], OnOk, map, length, codes, decimal};
 ghost use Rattle.im_text.specs.Fields.{field_text};
 ghost use Rattle.im_text.specs.Records.{further};
 ghost use Rattle.im_text.specs.inner.Pages as spec;
@@ -57,7 +57,7 @@ impl Page {
     }
 
     /// Begins a record with the number of the line.
-    fn begin(&mut self) -> Result<(), NoMemory>
+    pub fn begin(&mut self) -> Result<(), NoMemory>
         requires { spec.IsBetween self.old }
         ensures { OnOk result (spec.Adds self.old self.new (field_text (decimal self.old.line))) }
     {
@@ -68,8 +68,20 @@ impl Page {
         }
     }
 
+    /// Begins a record with a word.
+    pub fn begin_with(&mut self, word: &str) -> Result<(), NoMemory>
+        requires between { spec.IsBetween self.old }
+        requires some { 0 < length word.now }
+        ensures { OnOk result (spec.Adds self.old self.new (field_text word.now)) }
+    {
+        match self.writer.write_field(word.as_bytes()) {
+            Ok(()) => Ok(()),
+            Err(_) => Err(NoMemory),
+        }
+    }
+
     /// Puts a further field.
-    fn put(&mut self, field: &[u8]) -> Result<(), NoMemory>
+    pub fn put(&mut self, field: &[u8]) -> Result<(), NoMemory>
         requires { spec.IsInside self.old }
         ensures { OnOk result (spec.Adds self.old self.new (44 ∷ field_text field.now)) }
     {
@@ -80,7 +92,7 @@ impl Page {
     }
 
     /// Puts a further field.
-    fn put_field(&mut self, field: Field) -> Result<(), NoMemory>
+    pub fn put_field(&mut self, field: Field) -> Result<(), NoMemory>
         requires { spec.IsInside self.old }
         ensures { OnOk result (spec.Adds self.old self.new (44 ∷ field_text (shown field.entry))) }
     {
@@ -105,7 +117,7 @@ impl Page {
     }
 
     /// Ends the record.
-    fn end(&mut self) -> Result<(), NoMemory>
+    pub fn end(&mut self) -> Result<(), NoMemory>
         requires { spec.IsInside self.old }
         ensures { OnOk result (spec.Ends self.old self.new (10 ∷ [])) }
     {
@@ -116,7 +128,7 @@ impl Page {
     }
 
     /// Puts further fields.
-    fn put_fields(&mut self, fields: &[Field]) -> Result<(), NoMemory>
+    pub fn put_fields(&mut self, fields: &[Field]) -> Result<(), NoMemory>
         requires { spec.IsInside self.old }
         ensures { OnOk result (spec.Adds self.old self.new (further (map shown fields.now))) }
     {
@@ -127,7 +139,7 @@ impl Page {
     }
 
     /// Puts numbers as further fields.
-    fn put_each_number(&mut self, numbers: &[u64]) -> Result<(), NoMemory>
+    pub fn put_each_number(&mut self, numbers: &[u64]) -> Result<(), NoMemory>
         requires { spec.IsInside self.old }
         ensures { OnOk result (spec.Adds self.old self.new (further (map decimal numbers.now))) }
     {
@@ -135,6 +147,15 @@ impl Page {
             self.put_field(Field::Number(*number))?;
         }
         Ok(())
+    }
+
+    /// Puts a word and numbers as further fields.
+    pub fn put_phrase(&mut self, word: &str, numbers: &[u64]) -> Result<(), NoMemory>
+        requires { spec.IsInside self.old }
+        ensures { OnOk result (spec.Adds self.old self.new (further (word.now ∷ map decimal numbers.now))) }
+    {
+        self.put(word.as_bytes())?;
+        self.put_each_number(numbers)
     }
 
     /// Puts cells as further fields.
@@ -164,8 +185,7 @@ impl Page {
         ensures { OnOk result (spec.Puts self.old self.new ((word.now ∷ map decimal numbers.now) ∷ [])) }
     {
         self.begin()?;
-        self.put(word.as_bytes())?;
-        self.put_each_number(numbers)?;
+        self.put_phrase(word, numbers)?;
         self.end()
     }
 

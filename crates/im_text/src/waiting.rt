@@ -1,11 +1,14 @@
 ghost use Rattle.std.specs.Prelude.{◌≡◌, ◌++◌, [], IfOk, OnOk, OnErr};
 ghost use Rattle.im_replies.specs.declared.body.Body.TheVariants.{Inserted};
 ghost use Rattle.im_text.specs.Replies.{reply_text};
-ghost use Rattle.im_text.specs.inner.Pages.{IsReady, Says};
+ghost use Rattle.im_text.specs.Report.{entry_text, history_text, line_text, worker_text};
+ghost use Rattle.im_text.specs.inner.Pages.{IsReady};
+ghost use Rattle.im_text.specs.inner.Passages.{passage_text};
 
-use crate::bodies::put_body;
 use crate::page::Page;
-use im_replies::Body;
+use crate::passage::{Passage, put_on_page};
+use im_history::Entry;
+use im_replies::{Body, Reply};
 use im_values::NoMemory;
 use itoa::Buffer;
 use std::alloc::Global;
@@ -42,16 +45,6 @@ impl Model for Waiting {
     ghost invariant = { λ waiting. IsReady waiting.page };
 }
 
-/// Puts the reply to a line at the end of a page.
-fn put_on_page(page: &mut Page, line: u64, body: &Body) -> Result<(), NoMemory>
-    requires { IsReady page.old }
-    ensures { OnOk result (Says page.old page.new (reply_text line body.now)) }
-{
-    page.turn_to(line);
-    put_body(page, body)?;
-    page.flush()
-}
-
 /// Puts the record of rows that were inserted at the end of a text, by no page: none of its fields calls for quotes.
 fn put_inserted(text: &mut Vec<u8>, line: u64, rows: u64, first: u64) -> Result<(), NoMemory>
     ensures { OnOk result (text.new.items ≡ text.old.items ++ reply_text line (Inserted rows first)) }
@@ -83,15 +76,15 @@ fn put_inserted_behind(
     Ok(())
 }
 
-/// Puts the reply to a line at the end of a page, and its text behind what waits.
-fn put_behind(page: &mut Page, line: u64, body: &Body, text: &mut Vec<u8>) -> Result<(), NoMemory>
+/// Puts a passage at the end of a page, and its text behind what waits.
+fn put_behind(page: &mut Page, passage: Passage<'_>, text: &mut Vec<u8>) -> Result<(), NoMemory>
     requires { IsReady page.old }
     ensures ready { OnOk result (IsReady page.new) }
-    ensures ok { OnOk result (text.new.items ≡ text.old.items ++ reply_text line body.now) }
+    ensures ok { OnOk result (text.new.items ≡ text.old.items ++ passage_text passage.entry) }
     ensures err { OnErr result (text.new.items ≡ text.old.items) }
 {
     let start = page.bytes().len();
-    put_on_page(page, line, body)?;
+    put_on_page(page, passage)?;
     text.extend_from_slice(&page.bytes()[start..])?;
     Ok(())
 }
@@ -133,12 +126,12 @@ impl Waiting {
         self.text.as_slice()
     }
 
-    /// Puts the reply to a line behind what waits, by the page.
-    fn put_by_page(&mut self, alloc: Global, line: u64, body: &Body) -> Result<(), NoMemory>
-        ensures ok { OnOk result (self.new ≡ self.old ++ reply_text line body.now) }
+    /// Puts a passage behind what waits, by the page.
+    fn put_by_page(&mut self, alloc: Global, passage: Passage<'_>) -> Result<(), NoMemory>
+        ensures ok { OnOk result (self.new ≡ self.old ++ passage_text passage.entry) }
         ensures err { OnErr result (self.new ≡ self.old) }
     {
-        let put = put_behind(&mut self.page, line, body, &mut self.text);
+        let put = put_behind(&mut self.page, passage, &mut self.text);
         if put.is_err() || self.page.bytes().len() >= self.piece {
             renew(&mut self.page, alloc, room_for(self.piece));
         }
@@ -154,8 +147,55 @@ impl Waiting {
             Body::Inserted { rows, first } => {
                 put_inserted_behind(&mut self.text, line, *rows, *first, &mut self.record)
             }
-            _ => self.put_by_page(alloc, line, body),
+            _ => self.put_by_page(alloc, Passage::Reply(line, body)),
         }
+    }
+
+    /// Puts how many entries the history of a race has behind what waits. It fails out of memory alone.
+    pub fn put_history(&mut self, alloc: Global, count: u64) -> Result<(), NoMemory>
+        ensures ok { OnOk result (self.new ≡ self.old ++ history_text count) }
+        ensures err { OnErr result (self.new ≡ self.old) }
+    {
+        self.put_by_page(alloc, Passage::History(count))
+    }
+
+    /// Puts the entry at a place of the history behind what waits. It fails out of memory alone.
+    pub fn put_entry(&mut self, alloc: Global, place: u64, entry: &Entry) -> Result<(), NoMemory>
+        ensures ok { OnOk result (self.new ≡ self.old ++ entry_text place entry.now) }
+        ensures err { OnErr result (self.new ≡ self.old) }
+    {
+        self.put_by_page(alloc, Passage::Entry(place, entry))
+    }
+
+    /// Puts how the worker of a number ended behind what waits. It was over at the place; or its turns were spent, `lacks` of
+    /// them for lack of memory, and the place is the last at which it had nothing to do, if there was one. It fails out of
+    /// memory alone.
+    pub fn put_worker_end(
+        &mut self,
+        alloc: Global,
+        who: u32,
+        over: bool,
+        lacks: u64,
+        place: Option<u64>,
+    ) -> Result<(), NoMemory>
+        ensures ok { OnOk result (self.new ≡ self.old ++ worker_text who over lacks place) }
+        ensures err { OnErr result (self.new ≡ self.old) }
+    {
+        self.put_by_page(alloc, Passage::Worker(who, over, lacks, place))
+    }
+
+    /// Puts a line of a race behind what waits: the place at which it was answered, its marks, and its reply. A reply that was
+    /// settled at no place has neither. It fails out of memory alone.
+    pub fn put_report_line(
+        &mut self,
+        alloc: Global,
+        line: u64,
+        reply: &Reply,
+    ) -> Result<(), NoMemory>
+        ensures ok { OnOk result (self.new ≡ self.old ++ line_text line reply.now) }
+        ensures err { OnErr result (self.new ≡ self.old) }
+    {
+        self.put_by_page(alloc, Passage::Line(line, reply))
     }
 
     /// Lets go of all that waits, and of room past a piece and a short text.

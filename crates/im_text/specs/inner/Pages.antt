@@ -52,7 +52,12 @@ pub record Puts (old new : Page) (records : List (List (List ℕ))) : Type 0 whe
   pub line : new.line ≡ old.line
   pub text : written new ≡ written old ++ numbered old.line records
 
--- a whole reply was put and written out
+-- a text was put behind all that was written out, and the page ends with a whole record
+pub record Shows (old new : Page) (shown : List ℕ) : Type 0 where
+  pub between : IsBetween new
+  pub text : written new ≡ bytes_of old ++ shown
+
+-- a text was put and written out
 pub record Says (old new : Page) (text : List ℕ) : Type 0 where
   pub ready : IsReady new
   pub bytes : bytes_of new ≡ bytes_of old ++ text

@@ -1,4 +1,4 @@
-use Rattle.std.proofs.Common.{◌++◌, ◌∙◌, List, ℕ, sym, ap, arith}
+use Rattle.std.proofs.Common.{◌++◌, ◌∙◌, List, ℕ, sym, ap}
 use Rattle.im_text.proofs.Inserted.{inserted_text, by_pieces}
 use Rattle.im_text.proofs.waiting.put_inserted.Goals as goal
 

@@ -1,0 +1,109 @@
+-- The records of an entry of the history: what happened, and each change that was written.
+use Rattle.std.specs.Prelude.{ℕ, Bool, List, [], ◌∷◌, Option, Some, None, map, flat_map, length, codes, decimal, if◌then◌else◌}
+use Rattle.std.specs.Fmt.{signed_decimal}
+use Rattle.im_values.specs.declared.value.Value.{Value}
+use Rattle.im_values.specs.declared.value.Value.TheVariants as value
+use Rattle.im_values.specs.declared.schema.Kind.{Kind}
+use Rattle.im_values.specs.declared.schema.Kind.TheVariants as kind
+use Rattle.im_values.specs.declared.schema.Column.{Column}
+use Rattle.im_values.specs.declared.priority.Priority.{Priority}
+use Rattle.im_values.specs.declared.priority.Priority.TheVariants as priority
+use Rattle.im_history.specs.Grid.{Grid}
+use Rattle.im_history.specs.declared.change.Change.{Change}
+use Rattle.im_history.specs.declared.entry.Entry.{Entry}
+use Rattle.im_history.specs.declared.entry.Mode.{Mode}
+use Rattle.im_history.specs.declared.entry.Mode.TheVariants as mode
+use Rattle.im_history.specs.declared.entry.What.{What}
+use Rattle.im_history.specs.declared.entry.What.TheVariants.{Create, Memory, Begin, Open, Shut, Write, Commit, Rollback, Build, Switch, Cancel, Trickle, Evict, Leave}
+
+-- how soon a table's units are built, or that the table left the column store
+abbrev pub priority_word : Option Priority → List ℕ
+priority_word (Some priority.Critical) = codes "critical"
+priority_word (Some priority.High) = codes "high"
+priority_word (Some priority.Medium) = codes "medium"
+priority_word (Some priority.Low) = codes "low"
+priority_word (Some priority.None) = codes "none"
+priority_word None = codes "off"
+
+-- the isolation of a transaction
+abbrev pub mode_word : Mode → List ℕ
+mode_word mode.Committed = codes "committed"
+mode_word mode.Serializable = codes "serializable"
+mode_word mode.ReadOnly = codes "readonly"
+
+-- the most bytes of a column's texts, or 0 where it has numbers
+abbrev pub text_limit : Kind → ℕ
+text_limit kind.Int = 0
+text_limit (kind.Text limit) = limit
+
+-- a column of a table that was created
+abbrev pub column_fields : Column → List (List ℕ)
+column_fields column = column.name ∷ decimal (text_limit column.kind) ∷ []
+
+-- 1 where something is so, and else 0
+abbrev pub flag : Bool → ℕ
+flag so = if so then 1 else 0
+
+-- a table that was created: its name, its shape, its columns
+abbrev pub create_fields : List ℕ → List Column → Grid → List (List ℕ)
+create_fields name schema shape =
+    codes "create" ∷ name ∷ decimal shape.block ∷ decimal shape.extent ∷ flat_map column_fields schema
+
+-- what happened
+abbrev pub what_fields : What → List (List ℕ)
+what_fields (Create name schema shape) = create_fields name schema shape
+what_fields (Memory table priority) = codes "memory" ∷ decimal table ∷ priority_word priority ∷ []
+what_fields (Begin mode) = codes "begin" ∷ mode_word mode ∷ []
+what_fields (Open cursor table) = codes "open" ∷ decimal cursor ∷ decimal table ∷ []
+what_fields (Shut cursor) = codes "shut" ∷ decimal cursor ∷ []
+what_fields (Write changes) = codes "write" ∷ decimal (length changes) ∷ []
+what_fields Commit = codes "commit" ∷ []
+what_fields Rollback = codes "rollback" ∷ []
+what_fields (Build id table extent trickle) =
+    codes "build" ∷ decimal id ∷ decimal table ∷ decimal extent ∷ decimal (flag trickle) ∷ []
+what_fields (Switch id) = codes "switch" ∷ decimal id ∷ []
+what_fields (Cancel id full) = codes "cancel" ∷ decimal id ∷ decimal (flag full) ∷ []
+what_fields (Trickle n) = codes "trickle" ∷ decimal n ∷ []
+what_fields (Evict table extent) = codes "evict" ∷ decimal table ∷ decimal extent ∷ []
+what_fields Leave = codes "leave" ∷ []
+
+-- the changes that were written
+abbrev pub changes_of : What → List Change
+changes_of (Write changes) = changes
+changes_of (Create name schema shape) = []
+changes_of (Memory table priority) = []
+changes_of (Begin mode) = []
+changes_of (Open cursor table) = []
+changes_of (Shut cursor) = []
+changes_of Commit = []
+changes_of Rollback = []
+changes_of (Build id table extent trickle) = []
+changes_of (Switch id) = []
+changes_of (Cancel id full) = []
+changes_of (Trickle n) = []
+changes_of (Evict table extent) = []
+changes_of Leave = []
+
+-- a value: a number in decimal, a text as it is, NULL as nothing
+abbrev pub value_field : Value → List ℕ
+value_field (value.Int number) = signed_decimal number
+value_field (value.Text text) = text
+value_field value.Null = []
+
+-- the row that is put, or that the row is taken away
+abbrev pub row_fields : Option (List Value) → List (List ℕ)
+row_fields (Some values) = codes "put" ∷ map value_field values
+row_fields None = codes "out" ∷ []
+
+-- a change of the entry at a place
+abbrev pub change_record : ℕ → Change → List (List ℕ)
+change_record place change =
+    codes "c" ∷ decimal place ∷ decimal change.table ∷ decimal change.rid ∷ row_fields change.row
+
+-- an entry at a place: who did what
+abbrev pub head_record : ℕ → Entry → List (List ℕ)
+head_record place entry = codes "h" ∷ decimal place ∷ decimal entry.who ∷ what_fields entry.what
+
+-- it, and then each change
+abbrev pub entry_records : ℕ → Entry → List (List (List ℕ))
+entry_records place entry = head_record place entry ∷ map (change_record place) (changes_of entry.what)
