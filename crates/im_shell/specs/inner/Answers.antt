@@ -31,7 +31,7 @@ AreSessions who (session ∷ sessions) now = (session.who ≡ who) × (1 ≤ who
 
 -- the side of the background, beside which the sessions are others
 abbrev pub background_side : StoreSide
-background_side = record { alone = false; number = Some BACKGROUND }
+background_side = record { alone = false; number = Some BACKGROUND; frame = None }
 
 -- the background agreed with what was known when its last line ended, and since then only sessions went on
 pub record IsHolding (kept : background.Kept) (now : Known) : Type 0 where
