@@ -1,3 +1,4 @@
 mod SizeLemmas
 mod SummaryLemmas
 mod ColumnLemmas
+mod LendLemmas

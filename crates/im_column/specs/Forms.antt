@@ -1,8 +1,9 @@
 -- The forms of a column.
-use Rattle.std.specs.Prelude.{◌≡◌, ℕ, ◌≤◌, List, length}
+use Rattle.std.specs.Prelude.{◌≡◌, ℕ, ◌<◌, ◌≤◌, List, length, get_or}
 use Rattle.im_values.specs.declared.value.Value.{Value}
+use Rattle.im_values.specs.declared.value.Value.TheVariants.{Null}
 use Rattle.im_values.specs.Sizes.{Plain, Coded, Runs, value_bytes, shape_of, dictionary, width_for}
-use Rattle.im_codes.specs.Dictionary.{AreCodesOf, coded, values_at}
+use Rattle.im_codes.specs.Dictionary.{AreCodesOf}
 use Rattle.im_column.specs.declared.form.Form.{Form}
 use Rattle.im_column.specs.declared.form.Form.TheVariants as lent
 
@@ -21,3 +22,7 @@ IsFormOf values (lent.Plain kept) = (shape_of values ≡ Plain) × (kept.now ≡
 IsFormOf values (lent.Coded dict bits) =
     (shape_of values ≡ Coded) × AreKeptFor values dict.now bits.now.codes × (bits.now.width ≡ width_for (length dict.now))
 IsFormOf values (lent.Runs dict runs) = (shape_of values ≡ Runs) × AreKeptFor values dict.now runs.now
+
+-- a list begins with so many of the values that places have
+abbrev pub AreLent : (ℕ → Value) → ℕ → List Value → Type 0
+AreLent value_at count list = (k : ℕ) → k < count → get_or list k Null ≡ value_at k

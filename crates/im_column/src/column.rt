@@ -1,9 +1,10 @@
-ghost use Rattle.std.specs.Prelude.{◌≡◌, ◌==◌, ◌^◌, ◌<◌, ◌≤◌, Some, All, IfOk, length, slice_get};
+ghost use Rattle.std.specs.Prelude.{◌≡◌, ◌==◌, ◌+◌, ◌^◌, ◌<◌, ◌≤◌, ℕ, Some, All, IfOk, length, slice_get, slice_index, get_or};
 ghost use Rattle.im_values.specs.declared.value.Value.TheVariants.{Null};
 ghost use Rattle.im_values.specs.Sizes.{column_bytes, plain_bytes, shape_of};
 ghost use Rattle.im_values.specs.Sizes as spec;
-ghost use Rattle.im_codes.specs.Dictionary.{AreCodesOf, IsDictionaryOf, coded};
-ghost use Rattle.im_column.specs.Forms.{AreKeptFor, IsFormOf, IsShort};
+ghost use Rattle.im_codes.specs.Dictionary.{AreCodesOf, IsDictionaryOf, coded, lent};
+ghost use Rattle.im_column.specs.Forms.{AreKeptFor, AreLent, IsFormOf, IsShort};
+ghost use Rattle.im_bits.specs.Packed.{HasCodesFrom};
 ghost use Rattle.im_column.specs.Summaries.{bounds_of, bounds_with, sum_of};
 ghost use Rattle.im_column.specs.inner.Sized.{IsCountedFor, IsSummary};
 
@@ -113,6 +114,25 @@ impl Column {
         }
     }
 
+    /// Lends the values at 64 places from one on, and NULL past the last one. Codes are unpacked 64 at a time.
+    pub fn lend_from<'a>(&'a self, first: u64, out: &mut [&'a Value; 64])
+        requires { first ≤ length self.now }
+        ensures { AreLent (λ k. get_or self.now (first + k) Null) 64 (lent out.new) }
+    {
+        let mut codes = [0; 64];
+        match &self.kept {
+            Kept::Plain(values) => lend_plain(values.as_slice(), &self.null, first as usize, out),
+            Kept::Coded(dict, bits) => {
+                bits.codes_from(first, &mut codes);
+                lend_coded(dict, &self.null, &codes, out);
+            }
+            Kept::Runs(dict, runs) => {
+                codes_behind(runs, first, &mut codes);
+                lend_coded(dict, &self.null, &codes, out);
+            }
+        }
+    }
+
     /// The bytes that it counts for.
     pub fn bytes(&self) -> u64
         ensures { result ≡ column_bytes self.now }
@@ -142,6 +162,63 @@ fn value_of<'a>(dict: &'a Dict, null: &'a Value, code: u32) -> &'a Value
     ensures { slice_get (coded dict.now) code ≡ Some result.now }
 {
     if code == 0 { null } else { dict.value(code) }
+}
+
+/// The values of 64 codes, lent.
+fn lend_coded<'a>(dict: &'a Dict, null: &'a Value, codes: &[u32; 64], out: &mut [&'a Value; 64])
+    requires codes { (k : ℕ) → slice_index codes.now k < length (coded dict.now) }
+    requires null { null.now ≡ Null }
+    ensures { AreLent (λ k. get_or (coded dict.now) (slice_index codes.now k) Null) 64 (lent out.new) }
+{
+    for k in 0..64 {
+        out[k] = value_of(dict, null, codes[k]);
+    }
+}
+
+/// The values at 64 places from one on, lent, and NULL past the last one.
+fn lend_plain<'a>(values: &'a [Value], null: &'a Value, first: usize, out: &mut [&'a Value; 64])
+    requires first { first ≤ length values.now }
+    requires null { null.now ≡ Null }
+    ensures { AreLent (λ k. get_or values.now (first + k) Null) 64 (lent out.new) }
+{
+    for k in 0..64 {
+        out[k] = value_behind(values, null, first, k);
+    }
+}
+
+/// The value so many behind a place, and NULL past the last one.
+fn value_behind<'a>(values: &'a [Value], null: &'a Value, first: usize, k: usize) -> &'a Value
+    requires first { first ≤ length values.now }
+    requires null { null.now ≡ Null }
+    ensures { result.now ≡ get_or values.now (first + k) Null }
+{
+    if k < values.len() - first {
+        &values[first + k]
+    } else {
+        null
+    }
+}
+
+/// The codes at 64 places of runs from one on, and 0 past the last one.
+fn codes_behind(runs: &Runs, first: u64, out: &mut [u32; 64])
+    requires { first ≤ length runs.now }
+    ensures { HasCodesFrom runs.now first out.new }
+{
+    for k in 0..64 {
+        out[k] = code_behind(runs, first, k as u64);
+    }
+}
+
+/// The code so many behind a place, and 0 past the last one.
+fn code_behind(runs: &Runs, first: u64, k: u64) -> u32
+    requires first { first ≤ length runs.now }
+    requires k { k < 64 }
+    ensures { result ≡ slice_index runs.now (first + k) }
+{
+    if k >= runs.len() - first {
+        return 0;
+    }
+    runs.get(first + k)
 }
 
 /// The value at a place once more, or none.

@@ -2,3 +2,4 @@ mod KeptLemmas
 mod BuildLemmas
 mod ReadLemmas
 mod UnitLemmas
+mod PieceLemmas

@@ -1,8 +1,8 @@
 -- Rows that are read back from columns.
-use Rattle.std.proofs.Common.{refl, drop, ◌≡◌, ◌≢◌, ℕ, zero, suc, ◌+◌, ◌*◌, ◌^◌, ◌<◌, ◌≤◌, Bool, true, false, if◌then◌else◌, List, [], ◌∷◌, ◌++◌, length, take, map, get_or, Option, sym, ap, ◌∙◌, append_assoc, arith}
+use Rattle.std.proofs.Common.{refl, drop, ◌≡◌, ◌≢◌, ℕ, zero, suc, ◌+◌, ◌*◌, ◌<◌, ◌≤◌, Bool, true, false, if◌then◌else◌, List, [], ◌∷◌, ◌++◌, length, take, map, get_or, Option, Some, sym, ap, ◌∙◌, append_assoc, arith}
 use Rattle.std.specs.Prelude.{nat_lt}
 use Rattle.std.proofs.lemmas.List.{get_or-map, length-map, map_more, map_push, length-append, append-nil, drop_all}
-use Rattle.std.proofs.Math.Nat.{mul-le-mul_left, lt_irrefl}
+use Rattle.std.proofs.Math.Nat.{lt_irrefl}
 use Rattle.std.proofs.Math.Seq.{drop-cons}
 use Rattle.std.proofs.lemmas.Bool.Decides.{nat_tests}
 use Rattle.std.proofs.lemmas.List.FromFn.{map-range_with_len_more}
@@ -72,12 +72,6 @@ block-more columns spot width values longer wide many so_far more =
     grow : (a b spot width : ℕ) → a ≡ spot * width → b ≡ width → a + b ≡ (spot + 1) * width
     grow a b spot width e f = grind arith
 
--- the block fits
-pub block-fits : (count width : ℕ) → count < 2 ^ 31 → width ≤ 16 → count * width < 2 ^ 36
-block-fits count width few narrow =
-    let most = mul-le-mul_left count narrow in
-    omega (arith, most)
-
 -- ---- rows, put where a flag is set
 
 -- one place more has its row, or none
@@ -111,6 +105,14 @@ full-before [] (suc i) all inside = elim inside [ ]
 full-before (true ∷ flags) (suc i) all inside =
     omega (arith, full-before flags i (omega (arith, all, set-more flags)) (omega (arith, inside)), set-more (take i flags))
 full-before (false ∷ flags) (suc i) all inside = absurd (lt_irrefl (length flags) (omega (arith, all, count_by-le-length (λ (flag : Bool). flag) flags)))
+
+pub spread-full : (flags : List Bool) (rows : List Row) → count_set flags ≡ length flags → length rows ≡ count_set flags → map Some rows ≡ spread flags rows
+spread-full [] [] all many = refl
+spread-full [] (row ∷ rows) all many = absurd (omega (arith, many))
+spread-full (true ∷ flags) [] all many = absurd (omega (arith, many, set-more flags))
+spread-full (true ∷ flags) (row ∷ rows) all many =
+    ap (λ (l : List (Option Row)). Some row ∷ l) (spread-full flags rows (omega (arith, all, set-more flags)) (omega (arith, many, set-more flags)))
+spread-full (false ∷ flags) rows all many = absurd (lt_irrefl (length flags) (omega (arith, all, count_by-le-length (λ (flag : Bool). flag) flags)))
 
 -- ---- bits that are counted
 

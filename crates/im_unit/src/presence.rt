@@ -89,7 +89,7 @@ impl Presence {
     }
 
     /// Whether every row is present.
-    fn is_full(&self) -> bool
+    pub fn is_full(&self) -> bool
         ensures { OnTrue result (count_set self.now ≡ length self.now) }
     {
         self.count == self.bits.len()

@@ -6,7 +6,7 @@ ghost use Rattle.im_unit.specs.inner.Kept.{AreBounded};
 
 use crate::building::{columns_of, rows_present};
 use crate::presence::Presence;
-use crate::reading::{row_at, rows_of, spread_rows};
+use crate::reading::{row_at, rows_of, slots_of, spread_rows};
 use im_column::Column;
 use im_history::UnitLike;
 use im_values::limits::MOST_COLUMNS;
@@ -107,11 +107,17 @@ impl ColumnUnit {
         Ok(Some(row))
     }
 
-    /// The rows by row number, from the first one on, read back. Their values are copied, into one block that they share.
+    /// The rows by row number, from the first one on, read back. Their values are copied, 64 rows at a time into one block that
+    /// these share.
     pub fn rows(&self, alloc: Global) -> Result<Vec<Option<Row>>, NoMemory>
         ensures { IfOk result (λ rows. rows.items ≡ self.now.rows) }
     {
-        let rows = rows_of(alloc, self.columns.as_slice(), self.presence.count())?;
+        let columns = self.columns.as_slice();
+        let count = self.presence.count();
+        if self.presence.is_full() {
+            return slots_of(alloc, columns, count);
+        }
+        let rows = rows_of(alloc, columns, count)?;
         spread_rows(alloc, &self.presence, rows)
     }
 

@@ -4,7 +4,7 @@ use Rattle.std.specs.List.Sorted.{IsStrictlySortedBy}
 use Rattle.std.specs.declared.cmp.Ordering.TheVariants.{Less}
 use Rattle.im_values.specs.declared.value.Value.{Value}
 use Rattle.im_values.specs.Order.{order, is_null}
-use Rattle.im_values.specs.Sizes.{Shape, Plain, Coded, Runs, shape_of, width_for, column_bytes, plain_bytes}
+use Rattle.im_values.specs.Sizes.{Plain, Coded, Runs, shape_of, width_for, column_bytes, plain_bytes}
 use Rattle.im_codes.specs.Dictionary.{coded, values_at}
 use Rattle.im_column.specs.Forms.{AreKeptFor}
 use Rattle.im_column.specs.Summaries.{bounds_of, sum_of}

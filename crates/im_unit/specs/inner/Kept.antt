@@ -1,11 +1,11 @@
 -- How the rows of a unit are kept: which are present, and the columns of those.
-use Rattle.std.specs.Prelude.{◌≡◌, ℕ, ◌^◌, ◌<◌, Bool, true, false, List, [], ◌∷◌, length, map, get_or, count_by, Option, Some, None}
+use Rattle.std.specs.Prelude.{◌≡◌, ℕ, ◌+◌, ◌^◌, ◌<◌, Bool, true, false, List, [], ◌∷◌, length, map, get_or, count_by, Option, Some, None}
 use Rattle.std.specs.List.{All, range_with_len}
 use denote.Ref.{Bor}
 use Rattle.im_values.specs.declared.value.Value.{Value}
 use Rattle.im_values.specs.declared.value.Value.TheVariants.{Null}
 use Rattle.im_values.specs.Sizes.{column_bytes}
-use Rattle.im_column.specs.Forms.{IsShort}
+use Rattle.im_column.specs.Forms.{AreLent, IsShort}
 use Rattle.im_history.specs.Rows.{Row}
 use Rattle.im_history.specs.Units.{Content}
 
@@ -31,6 +31,19 @@ row_across columns spot = map (λ column. get_or column spot Null) columns
 -- so many rows across columns
 abbrev pub rows_across : List (List Value) → ℕ → List Row
 rows_across columns count = map (row_across columns) (range_with_len 0 count)
+
+-- so many rows across columns, from a place on
+abbrev pub rows_from : List (List Value) → ℕ → ℕ → List Row
+rows_from columns first count = map (row_across columns) (range_with_len first count)
+
+-- the values that are lent
+abbrev pub lent_values : List (Bor Value) → List Value
+lent_values values = map (λ value. value.now) values
+
+-- columns lend their values at 64 places from one on
+pub record IsPiece (columns : List (List Value)) (first : ℕ) (piece : List (List (Bor Value))) : Type 0 where
+  pub many : length piece ≡ length columns
+  pub lends : (i : ℕ) → i < length columns → AreLent (λ k. get_or (get_or columns i []) (first + k) Null) 64 (lent_values (get_or piece i []))
 
 -- the rows that flags and columns stand for
 unfoldable pub rows_kept : List Bool → List (List Value) → List (Option Row)

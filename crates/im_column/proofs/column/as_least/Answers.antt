@@ -1,4 +1,4 @@
-use Rattle.std.proofs.Common.{◌≡◌, ◌≤◌, ◌<◌, min, arith}
+use Rattle.std.proofs.Common.{◌≤◌, ◌<◌, min, arith}
 use Rattle.im_codes.proofs.ForCallers.{dictionary-is, length-codes}
 use Rattle.im_column.proofs.SizeLemmas.{sized, short-dictionary, least-plain, least-coded, least-runs}
 use Rattle.im_column.proofs.column.as_least.Goals as goal

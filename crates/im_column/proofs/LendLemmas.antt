@@ -1,0 +1,26 @@
+-- Values that are lent one after another.
+use Rattle.std.proofs.Common.{◌≡◌, ◌≢◌, ℕ, zero, suc, ◌+◌, ◌<◌, ◌≤◌, List, [], ◌∷◌, length, map, set, get_or, refl, sym, ap, ◌∙◌, ⊎_elim, arith}
+use Rattle.std.proofs.lemmas.Bool.{cases_lt}
+use Rattle.std.proofs.lemmas.List.{get_or-set_same, get_or-set_other, length-map}
+use Rattle.std.specs.Borrow.{Bor}
+use Rattle.im_values.specs.declared.value.Value.{Value}
+use Rattle.im_values.specs.declared.value.Value.TheVariants.{Null}
+use Rattle.im_codes.specs.Dictionary.{lent}
+use Rattle.im_column.specs.Forms.{AreLent}
+
+map-set : {A B : Type 0} (f : A → B) (xs : List A) (i : ℕ) (x : A) → map f (set xs i x) ≡ set (map f xs) i (f x)
+map-set f [] i x = refl
+map-set f (y ∷ xs) zero x = refl
+map-set f (y ∷ xs) (suc i) x = ap (λ l. f y ∷ l) (map-set f xs i x)
+
+-- one value more is lent
+pub lent-more : (value_at : ℕ → Value) (out : List (Bor Value)) (k : ℕ) (value : Bor Value) → k < length out → value.now ≡ value_at k →
+    AreLent value_at k (lent out) → AreLent value_at (k + 1) (lent (set out k value))
+lent-more value_at out k value inside is before j below =
+    let put = map-set (λ (v : Bor Value). v.now) out k value in
+    ap (λ (l : List Value). get_or l j Null) put
+    ∙ ⊎_elim (λ (under : j < k). let ne : j ≢ k = omega arith in get_or-set_other (lent out) k j value.now Null ne ∙ before j under)
+    (λ (at : k ≤ j). let e : j ≡ k = omega arith in
+    ap (λ n. get_or (set (lent out) k value.now) n Null) e
+    ∙ (get_or-set_same (lent out) k value.now Null (omega (arith, length-map out (λ (v : Bor Value). v.now), inside)) ∙ (is ∙ ap value_at (sym e))))
+    (cases_lt j k)

@@ -1,0 +1,15 @@
+use Rattle.std.proofs.Common.{◌*◌, ◌<◌, map, refl, arith}
+use Rattle.std.specs.Arc.{arc_value}
+use Rattle.im_unit.proofs.PieceLemmas.{slots-more}
+use Rattle.im_unit.proofs.reading.slots_of.Goals as goal
+
+pub loop-i-preserved : goal.loop-i-preserved
+loop-i-preserved c =
+    let inside : c.loop-i.i * 64 < c.args.count = omega (arith, c.loop-i-test.true, c.div_ceil-i-end.ensures) in
+    record {
+      slots =
+          slots-more (map arc_value c.args.columns.now) c.loop-i.i c.args.count (c.loop-i.i * 64) c.min-many.result c.loop-i.slots.items
+          c.put_rows.new.slots.items c.in_ok-rows_at.field-0.items inside refl c.min-many.ensures c.loop-i.invariant.slots c.in_ok-rows_at.ensures.rows
+          c.in_ok-put_rows.ensures;
+      many = c.rows_at.ensures.many;
+    }
