@@ -5,6 +5,7 @@ pub mod EvictLemmas
 pub mod ForCallers
 pub mod GoodLemmas
 pub mod HoldingLaws
+pub mod JudgingLaws
 pub mod RestLemmas
 pub mod RunLemmas
 pub mod StandingLaws

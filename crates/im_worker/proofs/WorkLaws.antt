@@ -83,32 +83,32 @@ module _ (others more : History → Type 0) (wider : (h : History) → others h 
 
 -- ---- the builds that a number began
 
-abbrev begins : ℕ → Entry → Bool
+abbrev pub begins : ℕ → Entry → Bool
 begins who entry = (entry.who == who) && is_build entry.what
 
-begun-append : (h more : History) (who : ℕ) → builds_begun (h ++ more) who ≡ builds_begun h who + count_by (begins who) more
+pub begun-append : (h more : History) (who : ℕ) → builds_begun (h ++ more) who ≡ builds_begun h who + count_by (begins who) more
 unfolding builds_begun
 begun-append h more who = sum_by-append (λ entry. cond (begins who entry) 1 0) h more
 
--- others begin none of this number
-begun-apart : (side : StoreSide) (who : ℕ) (between : History) → speaks side who ≡ true → All (λ (entry : Entry). speaks side entry.who ≡ false) between
+-- entries of others begin no build of this number
+pub begun-apart : (mine : ℕ → Bool) (who : ℕ) (between : History) → mine who ≡ true → All (λ (entry : Entry). mine entry.who ≡ false) between
     → count_by (begins who) between ≡ 0
-begun-apart side who [] mine apart = refl
-begun-apart side who (entry ∷ between) mine apart =
+begun-apart mine who [] own apart = refl
+begun-apart mine who (entry ∷ between) own apart =
     sum_by-cons (λ entry. cond (begins who entry) 1 0) entry between
     ∙ ap₂ (λ (b : Bool) (n : ℕ). cond (b && is_build entry.what) 1 0 + n) other
-    (begun-apart side who between mine (All-tail (λ (e : Entry). speaks side e.who ≡ false) entry between apart))
+    (begun-apart mine who between own (All-tail (λ (e : Entry). mine e.who ≡ false) entry between apart))
   where
     other : (entry.who == who) ≡ false
     other = elim (cases_Bool (entry.who == who)) [
-      | inl same ↦ absurd (clash (same_is same) (All-head (λ (e : Entry). speaks side e.who ≡ false) entry between apart))
+      | inl same ↦ absurd (clash (same_is same) (All-head (λ (e : Entry). mine e.who ≡ false) entry between apart))
       | inr differs ↦ differs
     ]
       where
         same_is : (entry.who == who) ≡ true → entry.who ≡ who
         same_is same = grind (arith, nat_tests)
 
-        clash : entry.who ≡ who → speaks side entry.who ≡ false → ⊥
+        clash : entry.who ≡ who → mine entry.who ≡ false → ⊥
         clash same none = absurd cc
 
 begun-after : (side : StoreSide) (who : ℕ) (old new : History) → speaks side who ≡ true → After (AreOthers side) old new
@@ -116,7 +116,7 @@ begun-after : (side : StoreSide) (who : ℕ) (old new : History) → speaks side
 begun-after side who old new mine after =
     ap (λ (h : History). builds_begun h who) after.log
     ∙ (begun-append old after.between who
-    ∙ (ap (λ (n : ℕ). builds_begun old who + n) (begun-apart side who after.between mine after.lawful.apart) ∙ add-zero _))
+    ∙ (ap (λ (n : ℕ). builds_begun old who + n) (begun-apart (speaks side) who after.between mine after.lawful.apart) ∙ add-zero _))
 
 -- one entry of this number
 begun-one : (h : History) (who : ℕ) (what : What) (b : Bool) → is_build what ≡ b → builds_begun (behind h who what) who ≡ builds_begun h who + cond b 1 0

@@ -1,5 +1,5 @@
 -- A worker's job: builds that it began and ended among the entries of others, and what it answers.
-use Rattle.std.specs.Prelude.{◌≡◌, ℕ, ◌+◌, ◌*◌, ◌<◌, ◌≤◌, ◌==◌, ◌&&◌, ◌⊎◌, Bool, true, false, List, [], ◌∷◌, ◌++◌, count_by, fold, length, take, Option, Some, None, ⊤}
+use Rattle.std.specs.Prelude.{◌≡◌, ℕ, ◌+◌, ◌*◌, ◌<◌, ◌≤◌, ◌==◌, ◌&&◌, ◌⊎◌, Bool, true, false, All, List, [], ◌∷◌, ◌++◌, count_by, fold, length, take, Option, Some, None, ⊤}
 use Rattle.std.specs.List.{list_any}
 use Rattle.im_history.specs.declared.entry.What.{What}
 use Rattle.im_history.specs.declared.entry.What.TheVariants.{Create, Memory, Begin, Open, Shut, Write, Commit, Rollback, Build, Switch, Cancel, Trickle, Evict, Leave}
@@ -154,3 +154,32 @@ IfOver (ended.Over place) says = says place
 abbrev pub IfSpent : Ended → (ℕ → Option ℕ → Type 0) → Type 0
 IfSpent (ended.Spent lacks idle) says = says lacks idle
 IfSpent (ended.Over place) says = ⊤
+
+-- ---- what follows for the whole history
+
+-- the entry begins a build or ends one
+abbrev pub is_building : What → Bool
+is_building (Create name schema grid) = false
+is_building (Memory table priority) = false
+is_building (Begin mode) = false
+is_building (Open cursor table) = false
+is_building (Shut cursor) = false
+is_building (Write changes) = false
+is_building Commit = false
+is_building Rollback = false
+is_building (Build id table extent trickle) = true
+is_building (Switch id) = true
+is_building (Cancel id full) = true
+is_building (Trickle count) = false
+is_building (Evict table extent) = false
+is_building Leave = false
+
+-- the history went on, by entries of others and by beginnings and ends of builds of this number
+pub record AddsBuilds (mine : ℕ → Bool) (who : ℕ) (old new : History) : Type 0 where
+  pub between : History
+  pub log : new ≡ old ++ between
+  pub own : All (λ entry. (mine entry.who ≡ false) ⊎ ((entry.who ≡ who) × (is_building entry.what ≡ true))) between
+
+-- all that others may have added has other numbers
+abbrev pub Apart : ℕ → History → History → Type 0
+Apart who old new = After (Others (λ number. number == who)) old new

@@ -7,7 +7,8 @@
 //! [`Background::command`] plays one statement: it goes by its plan, or runs out of memory on the way and is amended, and the
 //! builds that are held agree with the history before and after (`specs/Background.antt`).
 //!
-//! [`Background::work`] is the job of a worker, which builds beside sessions until they have left (`specs/Work.antt`).
+//! [`Background::work`] is the job of a worker, which builds beside sessions until they have left (`specs/Work.antt`). What its clauses
+//! say of the history that the worker knew holds of any that others went on to: [`a_worker_is_judged_by_the_whole_history`].
 //!
 //! Start with `background.rt`, then `building.rt`, which makes one unit ready, `running.rt` and `work.rt`.
 #![tactic(auto)]
@@ -16,6 +17,7 @@ mod background;
 mod building;
 mod ending;
 mod held;
+mod judging;
 mod replies;
 mod rows;
 mod running;
@@ -23,4 +25,5 @@ mod statements;
 mod work;
 
 pub use background::Background;
+pub use judging::a_worker_is_judged_by_the_whole_history;
 pub use work::Ended;

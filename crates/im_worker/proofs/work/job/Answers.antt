@@ -19,7 +19,8 @@ loop-tally-preserved g c =
     record {
       working = working-next c.args.who c.args.turns c.args.sessions c.args.held.now.items old mid new c.loop-tally.tally c.round.new.tally
           c.loop-tally-test.true c.loop-tally.invariant.working c.in_default.ensures.round;
-      ticks = counted-counted c.args.who c.args.steps.now c.loop-tally.steps c.round.new.steps old mid new c.loop-tally.invariant.ticks c.in_default.ensures.ticks;
+      ticks = counted-counted c.args.who c.args.steps.now c.loop-tally.steps c.round.new.steps old mid new c.loop-tally.invariant.ticks
+          c.in_default.ensures.ticks;
     }
 
 pub returns-in-Some-clause-ended : goal.returns-in-Some-clause-ended

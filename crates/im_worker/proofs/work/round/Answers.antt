@@ -32,7 +32,8 @@ returns-then-left-sessions-clause-round g c =
 pub returns-else-left-sessions-clause-round : goal.returns-else-left-sessions-clause-round
 returns-else-left-sessions-clause-round g c =
     round-idle c.args.who c.args.sessions c.args.held.now.items c.args.tally.now c.note_idle.new.self c.in-Idle.place c.in-Idle.left
-    (g.H.Reach.known c.args.reach.now) (g.H.Reach.known c.begin_next.new.reach) c.requires.speaks c.if-left-sessions.false c.note_idle.ensures c.in-Idle.ensures.begun
+    (g.H.Reach.known c.args.reach.now) (g.H.Reach.known c.begin_next.new.reach) c.requires.speaks c.if-left-sessions.false c.note_idle.ensures
+    c.in-Idle.ensures.begun
 
 pub returns-in-Lacks-clause-round : goal.returns-in-Lacks-clause-round
 returns-in-Lacks-clause-round g c =
