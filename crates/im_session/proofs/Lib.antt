@@ -1,6 +1,7 @@
 mod AssignLemmas
 mod CursorLemmas
 mod DefinitionLemmas
+mod EndLemmas
 pub mod ForCallers
 mod KeptLemmas
 mod NameLemmas

@@ -1,14 +1,16 @@
 -- What others leave as it is: the cursors and the transaction of each number that a side speaks for.
-use Rattle.std.proofs.Common.{◌≡◌, ℕ, ◌==◌, Bool, true, false, if◌then◌else◌, [], ◌∷◌, ◌++◌, length, is_some, All, refl, sym, ap, ◌∙◌, arith, append-nil, append_assoc}
+use Rattle.std.proofs.Common.{◌≡◌, ℕ, ◌==◌, ◌&&◌, ◌||◌, Bool, true, false, if◌then◌else◌, [], ◌∷◌, ◌++◌, length, is_some, All, refl, sym, ap, ◌∙◌, arith, append-nil, append_assoc}
 use Rattle.std.specs.List.{list_any}
 use Rattle.std.proofs.lemmas.Bool.Decides.{nat_tests}
 use Rattle.std.proofs.lemmas.List.Elements.{All-nil, All-head, All-tail, All-weaker}
 use Rattle.im_history.specs.declared.entry.Entry.{Entry}
 use Rattle.im_history.specs.Cursors.{opened, opened_after, is_cursor, is_cursor_open}
 use Rattle.im_history.specs.History.{History}
+use Rattle.im_history.specs.Leaves.{has_left, is_leave}
 use Rattle.im_history.specs.Transactions.{begun, begun_after, is_open, pending}
 use Rattle.im_history.specs.Transactions as transactions
 use Rattle.im_history.proofs.Laws.{begun-push, opened-push, pending-push}
+use Rattle.im_history.proofs.LeaveLaws.{has_left-push}
 use Rattle.im_plan.specs.Goes.{After, Others}
 use Rattle.im_reach.specs.Sides.{AreOthers, Found, Known, StoreSide, speaks}
 
@@ -86,6 +88,19 @@ pending-after side who =
     (λ h entry other.
     pending-push h entry who
     ∙ ap (λ (b : Bool). if b then transactions.pending_after (pending h who) entry.what else pending h who) other) side
+
+-- whether it left
+pub left-after : (side : StoreSide) (who : ℕ) (old at : History) → speaks side who ≡ true → After (AreOthers side) old at
+    → has_left at who ≡ has_left old who
+left-after side who =
+    stays-after (λ h. has_left h who) who
+    (λ h entry other.
+    has_left-push h entry who
+    ∙ (ap (λ (b : Bool). has_left h who || (b && is_leave entry.what)) other ∙ or-no (has_left h who))) side
+  where
+    or-no : (b : Bool) → (b || false) ≡ b
+    or-no true = refl
+    or-no false = refl
 
 -- a session with no transaction open has none once others went on
 pub idle-found : (who : ℕ) (old new : Known) (P : History → Type 0) {b : Bool} → speaks old.side who ≡ true → Found old new P

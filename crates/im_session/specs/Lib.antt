@@ -1,4 +1,5 @@
 pub mod Cursors
+pub mod Ends
 pub mod Reads
 pub mod Sessions
 pub mod inner

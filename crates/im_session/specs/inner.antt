@@ -1,5 +1,6 @@
 pub mod Cursors
 pub mod Definitions
+pub mod Ends
 pub mod Names
 pub mod Rests
 pub mod Running

@@ -1,4 +1,4 @@
-ghost use Rattle.std.specs.Prelude.{◌≡◌, ◌<◌, ◌+◌, [], ◌∷◌, Some, true, false, IfOk};
+ghost use Rattle.std.specs.Prelude.{◌≡◌, ◌<◌, ◌+◌, [], ◌∷◌, Some, true, false, not, filter, IfOk};
 ghost use Rattle.std.specs.Option.{ForSome};
 ghost use Rattle.im_group.specs.Partials.{CanMerge};
 ghost use Rattle.im_history.specs.Cursors.{is_cursor_open};
@@ -10,6 +10,7 @@ ghost use Rattle.im_session.specs.Cursors.{query_of};
 ghost use Rattle.im_session.specs.Reads.{IsCounted};
 ghost use Rattle.im_session.specs.inner.Cursors as inner;
 ghost use Rattle.im_session.specs.inner.Rests.{IsRest};
+ghost use Rattle.im_session.specs.inner.Running.{is_number};
 ghost use Rattle.im_statements.specs.Cursors as plan;
 ghost use Rattle.im_statements.specs.Outcomes.{Closes, Replied};
 
@@ -301,4 +302,11 @@ fn single(alloc: Global, mark: Served) -> Result<List<Served>, NoMemory>
     let mut marks = Vec::with_capacity(alloc, 1)?;
     marks.push(mark)?;
     Ok(List::of(marks))
+}
+
+/// Keeps the cursor of a number no longer. The others stay in order.
+pub fn forget(cursors: &mut Vec<Cursor>, number: u32)
+    ensures { cursors.new.items ≡ filter (λ kept. not (is_number number kept)) cursors.old.items }
+{
+    cursors.retain(|kept| kept.number != number);
 }

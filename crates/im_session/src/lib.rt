@@ -6,6 +6,7 @@
 //!
 //! [`Session::execute`] plays one statement: it goes by its plan, or runs out of memory on the way and is amended, and what the
 //! session keeps of its cursors agrees with the history before and after (`specs/Sessions.antt`, `specs/Cursors.antt`).
+//! [`Session::end`] closes all that the session has open, and leaves (`specs/Ends.antt`).
 //!
 //! The contract of each inner function says what is left of its line (`specs/inner/Rests.antt`). A statement that scans opens
 //! cursor 0 and serves its extents each at a turn of its own (`specs/inner/Scans.antt`).
@@ -17,6 +18,7 @@
 mod changes;
 mod cursor;
 mod definition;
+mod ending;
 mod inserts;
 mod query;
 mod refusals;

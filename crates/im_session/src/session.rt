@@ -1,12 +1,14 @@
-ghost use Rattle.std.specs.Prelude.{◌≡◌, ◌<◌, [], true, false, not, filter};
+ghost use Rattle.std.specs.Prelude.{◌≡◌, ◌<◌, [], true, false, OnOk, OnErr};
 ghost use Rattle.std.specs.List.{position};
 ghost use Rattle.im_history.specs.Cursors.{is_cursor_open};
+ghost use Rattle.im_history.specs.Leaves.{has_left};
 ghost use Rattle.im_history.specs.Tables.{tables};
 ghost use Rattle.im_history.specs.Views.{look_at};
 ghost use Rattle.im_names.specs.Fitting.{OfTable, QueryServes, Serves};
 ghost use Rattle.im_reach.specs.Sides.{speaks};
 ghost use Rattle.im_replies.specs.declared.body.Body.TheVariants.{Error};
 ghost use Rattle.im_replies.specs.declared.fault.Fault.TheVariants as fault;
+ghost use Rattle.im_session.specs.Ends.{IsEnded, end_plan, end_without_leave};
 ghost use Rattle.im_session.specs.Reads.{IsCounted};
 ghost use Rattle.im_session.specs.Sessions.{Agrees, IsPlayed, state_of};
 ghost use Rattle.im_session.specs.inner.Names.{defines};
@@ -16,7 +18,8 @@ ghost use Rattle.im_statements.specs.Statements as plan;
 ghost use Rattle.im_statements.specs.Turns.{settled_reply};
 ghost use Rattle.im_syntax.specs.Rules.{IsStmt};
 
-use crate::cursor::{Cursor, OpenOutcome, close, fetch, open_query, step};
+use crate::cursor::{Cursor, OpenOutcome, close, fetch, forget, open_query, step};
+use crate::ending::{close_each, leave, roll_back_open};
 use crate::inserts::insert;
 use crate::query::{explain, select};
 use crate::refusals::{name_reply, out_of_memory};
@@ -31,8 +34,8 @@ use im_replies::{Body, Fault, Reply};
 use im_statements::Rewriting;
 use im_syntax::{Bound, Stmt};
 use im_unit::ColumnUnit;
-use im_values::Steps;
 use im_values::limits::NUMBERS;
+use im_values::{NoMemory, Steps};
 use std::alloc::Global;
 use std::marker::Model;
 use std::sync::Wait;
@@ -101,6 +104,31 @@ impl Session {
         let reply = self.run(rt, reach, gate, statement, steps);
         self.in_transaction = is_open_after(statement, &reply, before);
         reply
+    }
+
+    /// Ends the session: its cursors are closed in rising order, its transaction is rolled back where one is open, and it leaves.
+    /// Then it keeps no cursor and no transaction.
+    ///
+    /// Only leaving takes memory. Where that is out, all else is done, and the session may be ended again.
+    pub fn end<R: Wait, H: Reach<ColumnUnit>>(
+        &mut self,
+        rt: &R,
+        reach: &mut H,
+    ) -> Result<(), NoMemory>
+        requires session { self.old.who < NUMBERS }
+        requires speaks { speaks (H.known reach.old).side self.old.who ≡ true }
+        requires agrees { Agrees self.old (H.known reach.old) }
+        requires stays { has_left (H.known reach.old).log self.old.who ≡ false }
+        ensures ok { OnOk result (IsEnded self.old.who (H.known reach.old) (end_plan self.old.who) (H.known reach.new)) }
+        ensures err { OnErr result (IsEnded self.old.who (H.known reach.old) (end_without_leave self.old.who) (H.known reach.new)) }
+        ensures stays { OnErr result (has_left (H.known reach.new).log self.old.who ≡ false) }
+        ensures kept { self.new ≡ record { who = self.old.who; cursors = []; in_transaction = false } }
+        ensures agrees { Agrees self.new (H.known reach.new) }
+    {
+        close_each(rt, reach, self.who, &mut self.cursors);
+        roll_back_open(rt, reach, self.who, self.in_transaction);
+        self.in_transaction = false;
+        leave(rt, reach, self.who)
     }
 
     /// Plays one statement, and does not look what becomes of the transaction.
@@ -322,13 +350,6 @@ fn place_of(cursors: &[Cursor], number: u32) -> Option<usize>
     ensures { result ≡ position (is_number number) cursors.now }
 {
     cursors.iter().position(|kept| kept.number == number)
-}
-
-/// Keeps the cursor of a number no longer. The others stay in order.
-fn forget(cursors: &mut Vec<Cursor>, number: u32)
-    ensures { cursors.new.items ≡ filter (λ kept. not (is_number number kept)) cursors.old.items }
-{
-    cursors.retain(|kept| kept.number != number);
 }
 
 /// The reply of a line over a cursor that was not open at this look.
