@@ -3,3 +3,5 @@ pub mod Cuts
 pub mod Once
 pub mod Sessions
 pub mod Feeds
+mod Generating
+mod Lengths

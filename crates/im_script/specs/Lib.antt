@@ -1,3 +1,4 @@
 pub mod Forms
 pub mod Lines
+pub mod Generated
 pub mod inner

@@ -6,17 +6,21 @@
 //! order; a caller that goes line by line cuts by [`first_line`] and reads by [`line_of`]. A line for which memory ran out
 //! says so by its kind, which no line without a statement part does.
 //!
+//! [`generate`] makes a large script of a seed and a number of rows. `specs/Generated.antt` has its lines.
+//!
 //! Start with `line.rt`, then `specs/Forms.antt` and `specs/Lines.antt`.
 #![tactic(auto)]
 
 mod cut;
 mod form;
 mod forms;
+mod generated;
 mod line;
 mod reading;
 mod script;
 
 pub use cut::first_line;
+pub use generated::generate;
 pub use line::{Line, LineKind};
 pub use reading::line_of;
 pub use script::{lines, one_kind};

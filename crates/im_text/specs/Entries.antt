@@ -2,39 +2,39 @@
 use Rattle.std.specs.Prelude.{ℕ, Bool, List, [], ◌∷◌, Option, Some, None, map, flat_map, length, codes, decimal, if◌then◌else◌}
 use Rattle.std.specs.Fmt.{signed_decimal}
 use Rattle.im_values.specs.declared.value.Value.{Value}
-use Rattle.im_values.specs.declared.value.Value.TheVariants as value
+use Rattle.im_values.specs.declared.value.Value.TheVariants as values
 use Rattle.im_values.specs.declared.schema.Kind.{Kind}
-use Rattle.im_values.specs.declared.schema.Kind.TheVariants as kind
+use Rattle.im_values.specs.declared.schema.Kind.TheVariants as kinds
 use Rattle.im_values.specs.declared.schema.Column.{Column}
 use Rattle.im_values.specs.declared.priority.Priority.{Priority}
-use Rattle.im_values.specs.declared.priority.Priority.TheVariants as priority
+use Rattle.im_values.specs.declared.priority.Priority.TheVariants as priorities
 use Rattle.im_history.specs.Grid.{Grid}
 use Rattle.im_history.specs.declared.change.Change.{Change}
 use Rattle.im_history.specs.declared.entry.Entry.{Entry}
 use Rattle.im_history.specs.declared.entry.Mode.{Mode}
-use Rattle.im_history.specs.declared.entry.Mode.TheVariants as mode
+use Rattle.im_history.specs.declared.entry.Mode.TheVariants as modes
 use Rattle.im_history.specs.declared.entry.What.{What}
 use Rattle.im_history.specs.declared.entry.What.TheVariants.{Create, Memory, Begin, Open, Shut, Write, Commit, Rollback, Build, Switch, Cancel, Trickle, Evict, Leave}
 
 -- how soon a table's units are built, or that the table left the column store
 abbrev pub priority_word : Option Priority → List ℕ
-priority_word (Some priority.Critical) = codes "critical"
-priority_word (Some priority.High) = codes "high"
-priority_word (Some priority.Medium) = codes "medium"
-priority_word (Some priority.Low) = codes "low"
-priority_word (Some priority.None) = codes "none"
+priority_word (Some priorities.Critical) = codes "critical"
+priority_word (Some priorities.High) = codes "high"
+priority_word (Some priorities.Medium) = codes "medium"
+priority_word (Some priorities.Low) = codes "low"
+priority_word (Some priorities.None) = codes "none"
 priority_word None = codes "off"
 
 -- the isolation of a transaction
 abbrev pub mode_word : Mode → List ℕ
-mode_word mode.Committed = codes "committed"
-mode_word mode.Serializable = codes "serializable"
-mode_word mode.ReadOnly = codes "readonly"
+mode_word modes.Committed = codes "committed"
+mode_word modes.Serializable = codes "serializable"
+mode_word modes.ReadOnly = codes "readonly"
 
 -- the most bytes of a column's texts, or 0 where it has numbers
 abbrev pub text_limit : Kind → ℕ
-text_limit kind.Int = 0
-text_limit (kind.Text limit) = limit
+text_limit kinds.Int = 0
+text_limit (kinds.Text limit) = limit
 
 -- a column of a table that was created
 abbrev pub column_fields : Column → List (List ℕ)
@@ -86,13 +86,13 @@ changes_of Leave = []
 
 -- a value: a number in decimal, a text as it is, NULL as nothing
 abbrev pub value_field : Value → List ℕ
-value_field (value.Int number) = signed_decimal number
-value_field (value.Text text) = text
-value_field value.Null = []
+value_field (values.Int number) = signed_decimal number
+value_field (values.Text text) = text
+value_field values.Null = []
 
 -- the row that is put, or that the row is taken away
 abbrev pub row_fields : Option (List Value) → List (List ℕ)
-row_fields (Some values) = codes "put" ∷ map value_field values
+row_fields (Some row) = codes "put" ∷ map value_field row
 row_fields None = codes "out" ∷ []
 
 -- a change of the entry at a place
