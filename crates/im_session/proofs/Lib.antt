@@ -7,7 +7,9 @@ mod KeptLemmas
 mod NameLemmas
 mod OpeningLemmas
 mod OtherLemmas
+mod PurposeLemmas
 mod ReadsLemmas
+mod RefusalLemmas
 mod RestLemmas
 mod ScanLemmas
 mod ServingLemmas

@@ -1,16 +1,16 @@
 -- The opening of a cursor over a side of a store, and what it sees.
-use Rattle.std.proofs.Common.{◌≡◌, ℕ, zero, suc, ◌+◌, ◌≤◌, ◌==◌, ◌||◌, Bool, true, false, if◌then◌else◌, List, [], ◌∷◌, ◌++◌, length, take, drop, Option, Some, None, refl, sym, ap, ◌∙◌, subst, arith}
+use Rattle.std.proofs.Common.{◌≡◌, ℕ, zero, suc, ◌+◌, ◌≤◌, ◌==◌, ◌||◌, Bool, true, false, if◌then◌else◌, List, [], ◌∷◌, ◌++◌, length, take, drop, Option, Some, None, refl, sym, ap, ◌∙◌, subst, inl, inr, arith}
 use Rattle.std.specs.List.{cons_option, find, list_any}
 use Rattle.std.specs.Option.{option_map}
 use Rattle.std.proofs.lemmas.Bool.Decides.{nat_tests}
 use Rattle.std.proofs.lemmas.List.{take-append-drop}
-use Rattle.im_core.specs.Answers.{IsRefusal}
 use Rattle.im_values.specs.declared.limits.TheConstants.{MOST_ROWS}
 use Rattle.im_values.specs.declared.value.Value.{Value}
 use Rattle.im_history.specs.declared.entry.Mode.{Mode}
 use Rattle.im_history.specs.declared.entry.Mode.TheVariants as mode
 use Rattle.im_history.specs.declared.entry.What.TheVariants.{Open}
 use Rattle.im_history.specs.declared.refused.Refused.{Refused}
+use Rattle.im_history.specs.declared.refused.Why.{Why}
 use Rattle.im_history.specs.declared.refused.Why.TheVariants.{CursorOpen}
 use Rattle.im_history.specs.declared.view.View.{View}
 use Rattle.im_history.specs.Commits.{scn}
@@ -25,21 +25,23 @@ use Rattle.im_history.specs.Views.{per_at, seen_by, view_at}
 use Rattle.im_history.proofs.Laws.{IsLegal-pop, opened-push}
 use Rattle.im_names.specs.Fitting.{OfTable, QueryServes}
 use Rattle.im_plan.specs.Goes.{After}
-use Rattle.im_plan.specs.Plan.{Plan}
-use Rattle.im_reach.specs.Sides.{Added, AreOthers, Found, Known, speaks}
+use Rattle.im_plan.specs.Plan.{Plan, Turn}
+use Rattle.im_reach.specs.Sides.{Added, AreOthers, Known, speaks}
+use Rattle.im_replies.specs.declared.fault.Fault.{Fault}
 use Rattle.im_replies.specs.declared.served.Served.{Served}
 use Rattle.im_replies.specs.Causes.{fault_of}
 use Rattle.im_scan.specs.Pinned.{seen_all}
 use Rattle.im_scan.proofs.ForCallers.{seen_by-later}
+use Rattle.im_session.specs.inner.Cursors.{IsUnopened}
 use Rattle.im_session.specs.inner.Rests.{IsRest}
 use Rattle.im_session.specs.inner.Scans.{IsScan}
 use Rattle.im_session.specs.Cursors.{MayAskIn}
 use Rattle.im_session.proofs.OtherLemmas.{cursor-after}
-use Rattle.im_session.proofs.RestLemmas.{Onward, attempt-done, rest-refused}
+use Rattle.im_session.proofs.RestLemmas.{Onward, attempt-done, rest-lacks_here, rest-refused}
 use Rattle.im_session.proofs.TableLemmas.{asks-own, exists-longer, of_table-longer, per-longer, scn-longer}
 use Rattle.im_statements.specs.Outcomes.{Outcome, said}
 use Rattle.im_statements.specs.Scans.{rows_seen, scan, serve_from}
-use Rattle.im_statements.specs.Turns.{refused_reply}
+use Rattle.im_statements.specs.Turns.{memory_reply, or_refused, refused_reply, unless_refused}
 use Rattle.im_syntax.specs.declared.bound.Bound.{Bound}
 use Rattle.im_syntax.specs.Condition.{CondOf}
 
@@ -213,11 +215,21 @@ scan-opened who k table old middle new view filter tail outcome added rest =
         (opening-seen who 0 table old middle at view o.after o.now o.fact.1)
         ∙ ap (λ (v : View). serve_from v filter 0 (tail v.place v (rows_seen at (view_at at who table)))) o.fact.1
 
--- it was not opened
-pub scan-refused : (who k table : ℕ) (old new : Known) (filter : Option (CondOf ℕ Value)) (on : History → View → List Served → Plan Outcome)
-    (told : Refused) → speaks old.side who ≡ true → is_cursor_open old.log who 0 ≡ false
-    → Found old new (λ at. IsRefusal at (open_refusal at who 0) told)
-    → IsRest who k old (scan who table filter on) (said (refused_reply fault_of k told.place told.why)) new
-scan-refused who k table old new filter on told mine shut found =
-    rest-refused who k old new false fault_of (λ at. open_refusal at who 0) (λ at. Open 0 table)
-    (λ at. serve_from (view_at at who table) filter 0 (on at (view_at at who table))) told mine shut found
+-- a cursor of this number was not opened
+pub unopened-rest : (who k number table : ℕ) (old new : Known) (decides : Bool) (tells : Why → Fault) (on : History → Plan Outcome) (refused : Refused)
+    → speaks old.side who ≡ true → is_cursor_open old.log who 0 ≡ false → IsUnopened who number refused old new
+    → IsRest who k old
+    (Turn decides (λ at. unless_refused (open_refusal at who number) (Open number table)) (λ at. or_refused tells at (open_refusal at who number) (on at)))
+    (said (refused_reply tells k refused.place refused.why)) new
+unopened-rest who k number table old new decides tells on refused mine shut unopened = elim unopened.cause [
+  | inl lacks ↦
+      subst (λ (w : Why). IsRest who k old plan (said (refused_reply tells k refused.place w)) new) (sym lacks.0)
+      (subst (λ (s : Known). IsRest who k old plan (said (memory_reply k)) s) (sym lacks.1) (rest-lacks_here who k old plan mine shut))
+  | inr found ↦
+      rest-refused who k old new decides tells (λ at. open_refusal at who number) (λ at. Open number table) on refused mine shut found
+]
+  where
+    plan : Plan Outcome
+    plan =
+        Turn decides (λ at. unless_refused (open_refusal at who number) (Open number table))
+        (λ at. or_refused tells at (open_refusal at who number) (on at))

@@ -1,26 +1,36 @@
 -- What is read of an extent for a scan, and what the parts of the extents so far are.
-use Rattle.std.proofs.Common.{◌≡◌, ℕ, ◌+◌, ◌<◌, ◌≤◌, ◌^◌, true, List, length, Option, Result, Ok, Err, sym, ap, ◌∙◌}
+use Rattle.std.proofs.Common.{◌≡◌, ℕ, ◌+◌, ◌<◌, ◌≤◌, ◌^◌, true, List, [], length, Option, Some, None, Result, Ok, Err, refl, sym, ap, ◌∙◌, arith}
 use Rattle.std.specs.List.{AllByRecursion}
-use Rattle.std.specs.Option.{ForSome}
+use Rattle.std.specs.Option.{ForSome, option_map}
+use Rattle.std.proofs.lemmas.List.{length-map}
 use Rattle.std.specs.Result.{IfErr}
 use Rattle.im_core.specs.Answers.{cursor_view}
-use Rattle.im_group.specs.Partials.{CanMerge, Parts, merged, partial}
+use Rattle.im_group.specs.Partials.{CanMerge, Numbered, Parts, merged, partial}
+use Rattle.im_group.proofs.ForCallers.{CanMerge-partial, merged-partial}
 use Rattle.im_history.specs.declared.view.View.{View}
 use Rattle.im_history.specs.Commits.{scn}
 use Rattle.im_history.specs.History.{History}
 use Rattle.im_history.specs.Legal.{IsLawful}
 use Rattle.im_history.specs.Rows.{Row}
-use Rattle.im_history.specs.Serving.{fetched_in, serving_content}
-use Rattle.im_history.specs.Units.{Content}
+use Rattle.im_history.specs.Serving.{fetched_by, fetched_in, serving, serving_content}
+use Rattle.im_history.specs.Units.{Content, content_at, stale}
 use Rattle.im_reach.specs.Sides.{Known, speaks}
+use Rattle.im_replies.specs.declared.served.How.TheVariants.{Unit as ByUnit}
+use Rattle.im_replies.specs.Mixes.{mix, mix_by}
+use Rattle.im_scan.specs.Faces.{how_of}
 use Rattle.im_scan.specs.Parts.{MayAsk}
 use Rattle.im_scan.specs.Pinned.{IsPinned, seen_all, seen_in, seen_to}
-use Rattle.im_scan.proofs.ForCallers.{MayAskOf, can-merge-seen, fetched-may, merged-seen, pinned-serving, seen_in-later, seen_to-all, unit-may}
+use Rattle.im_scan.proofs.ForCallers.{MayAskOf, can-merge-seen, fetched-may, merged-seen, pinned-serving, seen_in-later, seen_to-all, seen_to-none, unit-may}
+use Rattle.im_session.specs.declared.serving.Wanted.{Wanted}
+use Rattle.im_session.specs.declared.serving.Wanted.TheVariants.{Parts as AllParts, Marks}
 use Rattle.im_session.specs.inner.Scans.{IsRead, IsScan, Went}
+use Rattle.im_session.specs.inner.Serving.{wanted_of}
 use Rattle.im_session.specs.Cursors.{MayAskIn}
 use Rattle.im_session.proofs.ScanLemmas.{asks-went, scan-went, view-scan}
 use Rattle.im_session.proofs.TableLemmas.{asks-of}
 use Rattle.im_syntax.specs.declared.bound.Bound.{Bound}
+use Rattle.im_syntax.specs.Condition.{CondOf}
+use Rattle.im_values.specs.declared.value.Value.{Value}
 
 -- ---- errors
 
@@ -69,6 +79,15 @@ may-read who cursor extent place bound view unit fetched old new mine scan asks 
     may-part who cursor extent place bound view unit fetched new (scan-went who cursor view old new mine went scan)
     (asks-went bound view old new went asks) lawful read
 
+-- how it was served
+pub how-read : (h : History) (view : View) (extent : ℕ) (filter : Option (CondOf ℕ Value))
+    → how_of (serving_content h view extent) (fetched_in h view extent) ≡ mix h view extent filter
+how-read h view extent filter = by (serving h view extent)
+  where
+    by : (unit : Option ℕ) → how_of (option_map (content_at h view.table extent) unit) (fetched_by h view extent unit) ≡ mix_by h view extent unit
+    by None = refl
+    by (Some unit_scn) = ap (ByUnit unit_scn) (length-map (stale h view.table extent unit_scn view.scn) _)
+
 -- ---- parts
 
 pub seen_in-went : (old new : Known) (view : View) (extent : ℕ) → view.scn ≤ scn old.log → Went old new
@@ -76,20 +95,40 @@ pub seen_in-went : (old new : Known) (view : View) (extent : ℕ) → view.scn �
 seen_in-went old new view extent known went =
     ap (λ (log : History). seen_in log view extent) went.after.log ∙ seen_in-later old.log went.after.between view extent known
 
--- the part of the next extent, which was served after others went on
-module _ (bound : Bound) (view : View) (extent : ℕ) (first now : Known) (before part : Parts) (known : view.scn ≤ scn first.log) (went : Went first now)
-    (is : before ≡ partial bound (seen_to first.log view extent)) (and_is : part ≡ partial bound (seen_in now.log view extent)) where
-  and_so : part ≡ partial bound (seen_in first.log view extent)
-  and_so = and_is ∙ ap (partial bound) (seen_in-went first now view extent known went)
+-- the part of the next extent, where it is wanted, which was served after others went on
+module _ (wanted : Wanted) (bound : Bound) (view : View) (extent : ℕ) (first now : Known) (before part : Parts) (known : view.scn ≤ scn first.log)
+    (went : Went first now) (is : before ≡ partial bound (wanted_of wanted (seen_to first.log view extent)))
+    (and_is : part ≡ partial bound (wanted_of wanted (seen_in now.log view extent))) where
+  and_so : part ≡ partial bound (wanted_of wanted (seen_in first.log view extent))
+  and_so = and_is ∙ ap (λ (rows : List Numbered). partial bound (wanted_of wanted rows)) (seen_in-went first now view extent known went)
 
   pub part-merges : view.rows < 2 ^ 64 → CanMerge before part
-  part-merges few = can-merge-seen bound first.log view extent before part few is and_so
+  part-merges few = by wanted is and_so
+    where
+      by : (w : Wanted) → before ≡ partial bound (wanted_of w (seen_to first.log view extent))
+          → part ≡ partial bound (wanted_of w (seen_in first.log view extent)) → CanMerge before part
+      by AllParts one two = can-merge-seen bound first.log view extent before part few one two
+      by Marks one two = rw (one, two) (CanMerge-partial bound [] [] (omega arith))
 
-  pub part-next : merged before part ≡ partial bound (seen_to first.log view (extent + 1))
-  part-next = merged-seen bound first.log view extent before part is and_so
+  pub part-next : merged before part ≡ partial bound (wanted_of wanted (seen_to first.log view (extent + 1)))
+  part-next = by wanted is and_so
+    where
+      by : (w : Wanted) → before ≡ partial bound (wanted_of w (seen_to first.log view extent))
+          → part ≡ partial bound (wanted_of w (seen_in first.log view extent))
+          → merged before part ≡ partial bound (wanted_of w (seen_to first.log view (extent + 1)))
+      by AllParts one two = merged-seen bound first.log view extent before part one two
+      by Marks one two = rw (one, two) (merged-partial bound [] [])
+
+-- the part before the first of the extents
+pub part-first : (wanted : Wanted) (bound : Bound) (view : View) (extent : ℕ) (now : Known) (part : Parts) → (wanted ≡ Marks → extent ≡ 0)
+    → part ≡ partial bound (seen_to now.log view extent) → part ≡ partial bound (wanted_of wanted (seen_to now.log view extent))
+part-first AllParts bound view extent now part first is = is
+part-first Marks bound view extent now part first is =
+    is ∙ ap (partial bound) (ap (seen_to now.log view) (first refl) ∙ seen_to-none now.log view)
 
 -- the parts of all extents
-pub part-all : (who cursor extent : ℕ) (bound : Bound) (view : View) (now : Known) (part : Parts) → IsScan who cursor view now
-    → view.extents ≡ extent → part ≡ partial bound (seen_to now.log view extent) → part ≡ partial bound (seen_all now.log view)
-part-all who cursor extent bound view now part scan all is =
-    is ∙ ap (partial bound) (seen_to-all now.log view extent scan.sees.some (sym all ∙ scan.sees.cut))
+pub part-all : (wanted : Wanted) (who cursor extent : ℕ) (bound : Bound) (view : View) (now : Known) (part : Parts) → IsScan who cursor view now
+    → view.extents ≡ extent → part ≡ partial bound (wanted_of wanted (seen_to now.log view extent))
+    → part ≡ partial bound (wanted_of wanted (seen_all now.log view))
+part-all wanted who cursor extent bound view now part scan all is =
+    is ∙ ap (λ (rows : List Numbered). partial bound (wanted_of wanted rows)) (seen_to-all now.log view extent scan.sees.some (sym all ∙ scan.sees.cut))

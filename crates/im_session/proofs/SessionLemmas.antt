@@ -19,16 +19,18 @@ use Rattle.im_replies.specs.declared.body.Body.TheVariants.{Error}
 use Rattle.im_replies.specs.declared.fault.Fault.TheVariants as fault
 use Rattle.im_replies.specs.declared.reply.Reply.{Reply}
 use Rattle.im_session.specs.declared.cursor.Cursor.{Cursor}
+use Rattle.im_session.specs.declared.playing.Use.{Use}
+use Rattle.im_session.specs.declared.playing.Use.TheVariants.{Step, Fetch, Close}
 use Rattle.im_session.specs.Cursors.{IsSound, query_of}
 use Rattle.im_session.specs.Sessions.{Agrees, AreApart, IsPlayed, Kept, state_of}
 use Rattle.im_session.specs.inner.Cursors.{IsKept, fetch_outcome, opening_outcome, query_after, step_outcome}
 use Rattle.im_session.specs.inner.Rests.{IsRest}
-use Rattle.im_session.specs.inner.Running.{IsRun, is_number}
+use Rattle.im_session.specs.inner.Running.{AreKept, IsRun, is_number, plan_over}
 use Rattle.im_session.specs.inner.Scans.{Longer}
 use Rattle.im_session.proofs.CursorLemmas.{sound-longer}
 use Rattle.im_session.proofs.KeptLemmas.{IsFound, all-at, all-filter, all-last, all-map, all-set, apart-filter, apart-set, find-open, found-any, fresh-apart, kept-at, set-stays, set-steps, state-filter, state-last}
 use Rattle.im_session.proofs.NameLemmas.{named-fault, named-found}
-use Rattle.im_session.proofs.OtherLemmas.{idle-found, opened-after}
+use Rattle.im_session.proofs.OtherLemmas.{opened-after}
 use Rattle.im_session.proofs.RestLemmas.{rest-end, rest-lacks, rest-look}
 use Rattle.im_session.proofs.ScanLemmas.{longer-went, open-went, speaks-went, went-found, went-log}
 use Rattle.im_statements.specs.Agreement.{Agrees as AreOpen, AreQueriesOf}
@@ -196,19 +198,7 @@ pub is-closed : (closed : Bool) → not closed ≡ false → closed ≡ true
 is-closed true e = refl
 is-closed false e = absurd cc
 
-module _ (session : Kept) (who : ℕ) (cursors : List Cursor) {in_transaction : Bool}
-    (view_is : session ≡ record { who = who; cursors = cursors; in_transaction = in_transaction }) (old : Known) (agrees : Agrees session old) where
-  here : Agrees (record { who = who; cursors = cursors; in_transaction = in_transaction }) old
-  here = subst (λ (k : Kept). Agrees k old) view_is agrees
-
-  -- no scan of its own is open
-  pub session-closed : is_cursor_open old.log who 0 ≡ false
-  session-closed = here.cursors.closed
-
-  -- the side speaks for it
-  pub session-speaks : speaks old.side session.who ≡ true → speaks old.side who ≡ true
-  session-speaks mine = sym (ap (λ (k : Kept). speaks old.side k.who) view_is) ∙ mine
-
+module _ (who : ℕ) (cursors : List Cursor) (old : Known) (here : AreKept who cursors old) where
   -- a cursor that is kept is open
   pub is-kept : (number at : ℕ) (kept : Cursor) → IsFound number cursors at → kept ≡ slice_index_or cursors at kept → IsKept who kept old
   is-kept number at kept found value = record {
@@ -229,130 +219,111 @@ module _ (session : Kept) (who : ℕ) (cursors : List Cursor) {in_transaction : 
           (find-open number (map query_of cursors) (opened_in old.log who) (query_of found.kept) here.cursors.queries found.query))
 
   module _ (new : Known) (reply : Reply) where
-    -- the cursors after it, which are these
-    of-session : (plan : List Cursor → Plan Outcome) (after : List Cursor) → IsRun who (plan cursors) cursors old reply after new
-        → IsRun session.who (plan session.cursors) session.cursors old reply after new
-    of-session plan after run =
-        subst (λ (k : Kept). IsRun k.who (plan k.cursors) k.cursors old reply after new) (sym view_is) run
-
     pub run-step : (number at : ℕ) (kept after : Cursor) (served : Bool) → IsFound number cursors at → kept ≡ slice_index_or cursors at kept
         → IsRest who 0 old (step_query old.log (query_of kept)) (step_outcome kept.number reply served) new
         → query_of after ≡ query_after served (query_of kept) → IsKept who after new
-        → IsRun session.who (step (state_of session.cursors) old.log number) session.cursors old reply (slice_set cursors at after) new
+        → IsRun who (step (state_of cursors) old.log number) cursors old reply (slice_set cursors at after) new
     run-step number at kept after served found value rest same is =
         let e = kept-at cursors at found.kept kept found.is value in
-        of-session (λ cs. step (state_of cs) old.log number) (slice_set cursors at after)
-        (run-stepped who cursors old new reply here.sound here.apart number at after served found
+        run-stepped who cursors old new reply here.sound here.apart number at after served found
         (subst (λ (k : Cursor). IsRest who 0 old (step_query old.log (query_of k)) (step_outcome k.number reply served) new) e rest)
-        (subst (λ (k : Cursor). query_of after ≡ query_after served (query_of k)) e same) is.sound)
+        (subst (λ (k : Cursor). query_of after ≡ query_after served (query_of k)) e same) is.sound
 
     pub run-fetch : (number at : ℕ) (kept : Cursor) → IsFound number cursors at → kept ≡ slice_index_or cursors at kept
         → IsRest who 0 old (fetch_query old.log (query_of kept)) (fetch_outcome kept.number reply true) new
-        → IsRun session.who (fetch (state_of session.cursors) old.log number) session.cursors old reply
-        (filter (λ kept. not (is_number number kept)) cursors) new
+        → IsRun who (fetch (state_of cursors) old.log number) cursors old reply (filter (λ kept. not (is_number number kept)) cursors) new
     run-fetch number at kept found value rest =
-        of-session (λ cs. fetch (state_of cs) old.log number) (filter (λ kept. not (is_number number kept)) cursors)
-        (run-fetched who cursors old new reply here.sound here.apart number at found
+        run-fetched who cursors old new reply here.sound here.apart number at found
         (subst (λ (k : Cursor). IsRest who 0 old (fetch_query old.log (query_of k)) (fetch_outcome k.number reply true) new)
-        (kept-at cursors at found.kept kept found.is value) rest))
+        (kept-at cursors at found.kept kept found.is value) rest)
 
     pub run-no_fetch : (number at : ℕ) (kept : Cursor) → IsFound number cursors at → kept ≡ slice_index_or cursors at kept
         → IsRest who 0 old (fetch_query old.log (query_of kept)) (fetch_outcome kept.number reply false) new
-        → IsRun session.who (fetch (state_of session.cursors) old.log number) session.cursors old reply session.cursors new
+        → IsRun who (fetch (state_of cursors) old.log number) cursors old reply cursors new
     run-no_fetch number at kept found value rest =
-        subst (λ (k : Kept). IsRun k.who (fetch (state_of k.cursors) old.log number) k.cursors old reply k.cursors new) (sym view_is)
-        (run-lacked who cursors old new reply here.sound here.apart number at found
+        run-lacked who cursors old new reply here.sound here.apart number at found
         (subst (λ (k : Cursor). IsRest who 0 old (fetch_query old.log (query_of k)) (fetch_outcome k.number reply false) new)
-        (kept-at cursors at found.kept kept found.is value) rest))
+        (kept-at cursors at found.kept kept found.is value) rest)
 
     pub run-close : (number at : ℕ) (kept : Cursor) → IsFound number cursors at → kept ≡ slice_index_or cursors at kept
         → IsRest who 0 old (close_query kept.number) (Replied reply (Closes kept.number)) new
-        → IsRun session.who (close (state_of session.cursors) old.log number) session.cursors old reply
-        (filter (λ kept. not (is_number number kept)) cursors) new
+        → IsRun who (close (state_of cursors) old.log number) cursors old reply (filter (λ kept. not (is_number number kept)) cursors) new
     run-close number at kept found value rest =
-        of-session (λ cs. close (state_of cs) old.log number) (filter (λ kept. not (is_number number kept)) cursors)
-        (run-closed who cursors old new reply here.sound here.apart number at found
+        run-closed who cursors old new reply here.sound here.apart number at found
         (subst (λ (k : Cursor). IsRest who 0 old (close_query k.number) (Replied reply (Closes k.number)) new)
-        (kept-at cursors at found.kept kept found.is value) rest))
+        (kept-at cursors at found.kept kept found.is value) rest)
+
+    -- no cursor of this number is kept
+    pub run-none : (usage : Use) (number : ℕ) (look : Look) → look ≡ look_at old.log who → query_at (state_of cursors) number ≡ None
+        → reply ≡ settled_reply look.place (Error (fault.CursorUnknown number))
+        → IsRun who (plan_over usage (state_of cursors) old.log number) cursors old reply cursors old
+    run-none Step number look look_is none reply_is = rw reply_is (run-unknown who number cursors old look (step_query old.log) here.sound here.apart look_is none)
+    run-none Fetch number look look_is none reply_is = rw reply_is (run-unknown who number cursors old look (fetch_query old.log) here.sound here.apart look_is none)
+    run-none Close number look look_is none reply_is =
+        rw reply_is (run-unknown who number cursors old look (λ query. close_query query.cursor) here.sound here.apart look_is none)
 
     -- a cursor came to them
     pub run-open : (number : ℕ) (bound : Bound) (kept : Cursor)
         → IsRest who 0 old (open_query who number bound) (opening_outcome reply (Some kept)) new
         → is_cursor_open old.log who kept.number ≡ false → IsKept who kept new
-        → IsRun session.who (open_query session.who number bound) session.cursors old reply (cursors ++ kept ∷ []) new
+        → IsRun who (open_query who number bound) cursors old reply (cursors ++ kept ∷ []) new
     run-open number bound kept rest fresh is =
-        subst (λ (k : Kept). IsRun k.who (open_query k.who number bound) k.cursors old reply (cursors ++ kept ∷ []) new) (sym view_is)
-        (run-opened who cursors old new reply here.sound here.apart (open_query who number bound) kept rest here.cursors fresh is.sound)
+        run-opened who cursors old new reply here.sound here.apart (open_query who number bound) kept rest here.cursors fresh is.sound
 
     -- they stay as they are
-    pub run-kept : (plan : ℕ → List Cursor → Plan Outcome) → IsRest who 0 old (plan who cursors) (said reply) new
-        → IsRun session.who (plan session.who session.cursors) session.cursors old reply cursors new
-    run-kept plan rest =
-        subst (λ (k : Kept). IsRun k.who (plan k.who k.cursors) k.cursors old reply cursors new) (sym view_is)
-        (run-stays who cursors old new reply here.sound here.apart (plan who cursors) rest)
+    pub run-kept : (plan : Plan Outcome) → IsRest who 0 old plan (said reply) new → IsRun who plan cursors old reply cursors new
+    run-kept plan rest = run-stays who cursors old new reply here.sound here.apart plan rest
 
     -- a statement whose names were found at this history
     pub run-resolved : (r found : Resolved) → r ≡ found → IsRest who 0 old (resolved_plan old.limits who (state_of cursors) old.log found) (said reply) new
-        → IsRun session.who (resolved_plan old.limits session.who (state_of session.cursors) old.log r) session.cursors old reply session.cursors new
+        → IsRun who (resolved_plan old.limits who (state_of cursors) old.log r) cursors old reply cursors new
     run-resolved r found is rest =
-        subst (λ (k : Kept). IsRun k.who (resolved_plan old.limits k.who (state_of k.cursors) old.log r) k.cursors old reply k.cursors new) (sym view_is)
-        (subst (λ (x : Resolved). IsRun who (resolved_plan old.limits who (state_of cursors) old.log x) cursors old reply cursors new) (sym is)
-        (run-stays who cursors old new reply here.sound here.apart (resolved_plan old.limits who (state_of cursors) old.log found) rest))
-
-    -- a line that leaves the cursors as they are
-    pub run-line : (s : Stmt) → IsRest who 0 old (statement_plan old.limits who (state_of cursors) s) (said reply) new
-        → IsRun session.who (statement_plan old.limits session.who (state_of session.cursors) s) session.cursors old reply session.cursors new
-    run-line s rest =
-        subst (λ (k : Kept). IsRun k.who (statement_plan old.limits k.who (state_of k.cursors) s) k.cursors old reply k.cursors new) (sym view_is)
-        (run-stays who cursors old new reply here.sound here.apart (statement_plan old.limits who (state_of cursors) s) rest)
+        subst (λ (x : Resolved). IsRun who (resolved_plan old.limits who (state_of cursors) old.log x) cursors old reply cursors new) (sym is)
+        (run-kept (resolved_plan old.limits who (state_of cursors) old.log found) rest)
 
     -- a definition
     pub run-defined : (s : Stmt) → is_definition s ≡ true
         → ((state : State) → IsRest who 0 old (definition_plan old.limits who state s) (said reply) new)
-        → IsRun session.who (statement_plan old.limits session.who (state_of session.cursors) s) session.cursors old reply session.cursors new
-    run-defined s is rest = run-line s (rw is (rest (state_of cursors)))
+        → IsRun who (statement_plan old.limits who (state_of cursors) s) cursors old reply cursors new
+    run-defined s is rest = run-kept (statement_plan old.limits who (state_of cursors) s) (rw is (rest (state_of cursors)))
 
   -- memory ran out at the look
   pub run-lacking : (new : Known) (P : History → Type 0) (s : Stmt) → speaks old.side who ≡ true → Found old new P
-      → IsRun session.who (statement_plan old.limits session.who (state_of session.cursors) s) session.cursors old (memory_reply 0) session.cursors new
+      → IsRun who (statement_plan old.limits who (state_of cursors) s) cursors old (memory_reply 0) cursors new
   run-lacking new P s mine found =
-      run-line new (memory_reply 0) s
-      (rest-lacks who 0 old new P (statement_plan old.limits who (state_of cursors) s) mine session-closed found)
+      run-kept new (memory_reply 0) (statement_plan old.limits who (state_of cursors) s)
+      (rest-lacks who 0 old new P (statement_plan old.limits who (state_of cursors) s) mine here.cursors.closed found)
 
   -- its names had a fault
   pub run-misnamed : (middle : Known) (s : Stmt) (look : Look) (fault : NameFault) → speaks old.side who ≡ true → is_definition s ≡ false
       → Found old middle (λ at. look ≡ look_at at who) → (fault ≡ NoMemory) ⊎ (answer look.tables s ≡ Err fault)
-      → IsRun session.who (statement_plan old.limits session.who (state_of session.cursors) s) session.cursors old (name_reply 0 look.place fault)
-      session.cursors middle
+      → IsRun who (statement_plan old.limits who (state_of cursors) s) cursors old (name_reply 0 look.place fault) cursors middle
   run-misnamed middle s look fault mine other found cause =
       let went = went-found old middle (λ at. look ≡ look_at at who) found in
-      run-line middle (name_reply 0 look.place fault) s
+      run-kept middle (name_reply 0 look.place fault) (statement_plan old.limits who (state_of cursors) s)
       (rw other
       (rest-look who 0 old middle middle (λ at. look ≡ look_at at who) (named_plan old.limits who (state_of cursors) s) _ found
       (subst (λ (l : Limits). IsRest who 0 middle (named_plan l who (state_of cursors) s middle.log) (said (name_reply 0 look.place fault)) middle)
       (ap (λ (k : Known). k.limits) found.now)
       (named-fault who 0 middle (state_of cursors) s look fault (speaks-went who old middle went mine)
-      (open-went who 0 old middle mine went session-closed) (went-log old middle (λ at. look ≡ look_at at who) found) cause))))
+      (open-went who 0 old middle mine went here.cursors.closed) (went-log old middle (λ at. look ≡ look_at at who) found) cause))))
 
--- the session agrees once others went on
-pub agrees-found : (session : Kept) (old new : Known) (P : History → Type 0) → speaks old.side session.who ≡ true → Agrees session old
-    → Found old new P → Agrees session new
-agrees-found session old new P mine agrees found = record {
+-- the cursors are kept once others went on
+pub kept-found : (who : ℕ) (cursors : List Cursor) (old new : Known) (P : History → Type 0) → speaks old.side who ≡ true → AreKept who cursors old
+    → Found old new P → AreKept who cursors new
+kept-found who cursors old new P mine here found = record {
   cursors = record {
-    closed = ap (list_any (is_cursor 0)) same ∙ agrees.cursors.closed;
-    queries = subst (λ (cursors : List Opened). AreQueriesOf (state_of session.cursors).queries cursors) (sym same) agrees.cursors.queries;
+    closed = ap (list_any (is_cursor 0)) same ∙ here.cursors.closed;
+    queries = subst (λ (os : List Opened). AreQueriesOf (state_of cursors).queries os) (sym same) here.cursors.queries;
   };
   sound =
       all-map (λ kept. IsSound kept old) (λ kept. IsSound kept new)
-      (λ kept is. sound-longer kept old new (longer-went old new (went-found old new P found)) is) session.cursors agrees.sound;
-  apart = agrees.apart;
-  transaction = agrees.transaction ∙ sym (idle-found session.who old new P mine found refl);
+      (λ kept is. sound-longer kept old new (longer-went old new (went-found old new P found)) is) cursors here.sound;
+  apart = here.apart;
 }
   where
-    same : opened_in new.log session.who ≡ opened_in old.log session.who
-    same =
-        ap (λ (k : Known). opened_in k.log session.who) found.now
-        ∙ opened-after old.side session.who old.log found.at mine found.after
+    same : opened_in new.log who ≡ opened_in old.log who
+    same = ap (λ (k : Known). opened_in k.log who) found.now ∙ opened-after old.side who old.log found.at mine found.after
 
 -- ---- a whole line
 
@@ -414,3 +385,26 @@ agrees-played s before after now old new reply mine is agrees same told run = re
       (keep-transaction (speaks old.side) old.limits before.who (state_of before.cursors) s old.log reply run.effect new.log mine
       (record { whole = run.rest.rest })) ∙ ap (λ (n : ℕ). is_open new.log n) (sym same)));
 }
+
+-- the same of a session that is seen by its parts
+module _ (session : Kept) (who : ℕ) (cursors : List Cursor) (before : Bool)
+    (is : session ≡ record { who = who; cursors = cursors; in_transaction = before }) (old : Known) where
+  pub session-kept : Agrees session old → AreKept who cursors old
+  session-kept agrees =
+      let here : Agrees (record { who = who; cursors = cursors; in_transaction = before }) old = subst (λ (k : Kept). Agrees k old) is agrees in
+      record { cursors = here.cursors; sound = here.sound; apart = here.apart }
+
+  module _ (s : Stmt) (after : List Cursor) (now : Bool) (new : Known) (reply : Reply) (told : now ≡ open_after s reply before)
+      (run : IsRun who (statement_plan old.limits who (state_of cursors) s) cursors old reply after new) where
+    pub session-played : IsPlayed s session old reply (record { who = who; cursors = after; in_transaction = now }) new
+    session-played =
+        subst (λ (k : Kept). IsPlayed s k old reply (record { who = who; cursors = after; in_transaction = now }) new) (sym is)
+        (played s (record { who = who; cursors = cursors; in_transaction = before })
+        (record { who = who; cursors = after; in_transaction = before }) now old new reply refl told run)
+
+    pub session-agrees : speaks old.side who ≡ true → IsStmt s → Agrees session old
+        → Agrees (record { who = who; cursors = after; in_transaction = now }) new
+    session-agrees mine stmt agrees =
+        agrees-played s (record { who = who; cursors = cursors; in_transaction = before })
+        (record { who = who; cursors = after; in_transaction = before }) now old new reply mine stmt
+        (subst (λ (k : Kept). Agrees k old) is agrees) refl told run

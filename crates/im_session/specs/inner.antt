@@ -2,7 +2,10 @@ pub mod Cursors
 pub mod Definitions
 pub mod Ends
 pub mod Names
+pub mod Purposes
+pub mod Refusals
 pub mod Rests
 pub mod Running
 pub mod Scans
+pub mod Serving
 pub mod Writes

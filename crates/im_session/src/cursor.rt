@@ -1,7 +1,8 @@
-ghost use Rattle.std.specs.Prelude.{◌≡◌, ◌<◌, ◌+◌, [], ◌∷◌, Some, true, false, not, filter, IfOk};
+ghost use Rattle.std.specs.Prelude.{◌≡◌, ◌<◌, ◌+◌, [], ◌∷◌, Some, true, false, not, filter, IfOk, IfErr};
 ghost use Rattle.std.specs.Option.{ForSome};
 ghost use Rattle.im_group.specs.Partials.{CanMerge};
 ghost use Rattle.im_history.specs.Cursors.{is_cursor_open};
+ghost use Rattle.im_history.specs.Legal.{IsLawful};
 ghost use Rattle.im_history.specs.Tables.{tables};
 ghost use Rattle.im_history.specs.Views.{look_at};
 ghost use Rattle.im_names.specs.Fitting.{OfTable, QueryServes};
@@ -14,11 +15,12 @@ ghost use Rattle.im_session.specs.inner.Running.{is_number};
 ghost use Rattle.im_statements.specs.Cursors as plan;
 ghost use Rattle.im_statements.specs.Outcomes.{Closes, Replied};
 
+use crate::context::Context;
 use crate::refusals::{opening_refused, out_of_memory};
-use crate::serving::{ServedPart, answer_scan, served_part};
+use crate::serving::{ServedPart, Wanted, answer_scan, served_part};
 use im_edge::Gate;
 use im_group::Partial;
-use im_history::{Look, View};
+use im_history::{Look, Refused, View, Why};
 use im_reach::Reach;
 use im_replies::{Body, Reply, Served};
 use im_syntax::Bound;
@@ -52,72 +54,89 @@ pub struct OpenOutcome {
     pub cursor: Option<Cursor>,
 }
 
-/// OPEN: opens a cursor for a query.
-pub fn open_query<R: Wait, H: Reach<ColumnUnit>>(
-    alloc: Global,
-    rt: &R,
+/// Opens a cursor for a query. It was served nothing yet. Where memory is out before the call of the store, the refusal is at no place.
+pub fn open_cursor<R: Wait, H: Reach<ColumnUnit>, G: Gate>(
+    context: &Context<R, G>,
     reach: &mut H,
-    who: u32,
-    cursor: u32,
+    number: u32,
+    bound: Bound,
+) -> Result<Cursor, Refused>
+    requires session { context.now.who < NUMBERS }
+    requires speaks { speaks (H.known reach.old).side context.now.who ≡ true }
+    requires serves { OfTable (tables (H.known reach.old).log) bound.table (QueryServes bound) }
+    ensures opened { IfOk result (λ cursor. inner.IsJustOpened context.now.who number bound cursor (H.known reach.old) (H.known reach.new)) }
+    ensures kept { IfOk result (λ cursor. inner.IsKept context.now.who cursor (H.known reach.new)) }
+    ensures lawful { IfOk result (λ cursor. IsLawful (H.known reach.new).limits (H.known reach.new).log) }
+    ensures err { IfErr result (λ refused. inner.IsUnopened context.now.who number refused (H.known reach.old) (H.known reach.new)) }
+{
+    let Ok(part) = Partial::of_lent(context.alloc, &bound, &[]) else {
+        return Err(Refused {
+            place: 0,
+            why: Why::NoMemory,
+        });
+    };
+    match reach.open_cursor(context.rt, context.who, number, bound.table) {
+        Ok(view) => Ok(Cursor {
+            number,
+            bound,
+            view,
+            next: 0,
+            part,
+        }),
+        Err(refused) => Err(refused),
+    }
+}
+
+/// OPEN: opens a cursor for a query.
+pub fn open_query<R: Wait, H: Reach<ColumnUnit>, G: Gate>(
+    context: &Context<R, G>,
+    reach: &mut H,
+    number: u32,
     bound: Bound,
 ) -> OpenOutcome
-    requires session { who < NUMBERS }
-    requires speaks { speaks (H.known reach.old).side who ≡ true }
-    requires shut { is_cursor_open (H.known reach.old).log who 0 ≡ false }
+    requires session { context.now.who < NUMBERS }
+    requires speaks { speaks (H.known reach.old).side context.now.who ≡ true }
+    requires shut { is_cursor_open (H.known reach.old).log context.now.who 0 ≡ false }
     requires serves { OfTable (tables (H.known reach.old).log) bound.table (QueryServes bound) }
-    ensures rest { IsRest who 0 (H.known reach.old) (plan.open_query who cursor bound)
+    ensures rest { IsRest context.now.who 0 (H.known reach.old) (plan.open_query context.now.who number bound)
         (inner.opening_outcome result.reply result.cursor) (H.known reach.new) }
-    ensures agrees { ForSome result.cursor (λ kept. inner.IsKept who kept (H.known reach.new)) }
-    ensures fresh { ForSome result.cursor (λ kept. is_cursor_open (H.known reach.old).log who kept.number ≡ false) }
+    ensures agrees { ForSome result.cursor (λ kept. inner.IsKept context.now.who kept (H.known reach.new)) }
+    ensures fresh { ForSome result.cursor (λ kept. is_cursor_open (H.known reach.old).log context.now.who kept.number ≡ false) }
 {
-    let Ok(part) = Partial::of_lent(alloc, &bound, &[]) else {
-        return OpenOutcome {
-            reply: out_of_memory(alloc, 0),
-            cursor: None,
-        };
-    };
-    match reach.open_cursor(rt, who, cursor, bound.table) {
-        Ok(view) => OpenOutcome {
+    match open_cursor(context, reach, number, bound) {
+        Ok(cursor) => OpenOutcome {
             reply: Reply::settled(
-                alloc,
-                view.place,
+                context.alloc,
+                cursor.view.place,
                 Body::Opened {
-                    cursor,
-                    scn: view.scn,
-                    extents: view.extents,
+                    cursor: number,
+                    scn: cursor.view.scn,
+                    extents: cursor.view.extents,
                 },
             ),
-            cursor: Some(Cursor {
-                number: cursor,
-                bound,
-                view,
-                next: 0,
-                part,
-            }),
+            cursor: Some(cursor),
         },
         Err(refused) => OpenOutcome {
-            reply: opening_refused(alloc, cursor, 0, refused),
+            reply: opening_refused(context.alloc, number, 0, refused),
             cursor: None,
         },
     }
 }
 
 /// CLOSE: closes a cursor that is open.
-pub fn close<R: Wait, H: Reach<ColumnUnit>>(
-    alloc: Global,
-    rt: &R,
+pub fn close<R: Wait, H: Reach<ColumnUnit>, G: Gate>(
+    context: &Context<R, G>,
     reach: &mut H,
-    who: u32,
     kept: &Cursor,
 ) -> Reply
-    requires session { who < NUMBERS }
-    requires speaks { speaks (H.known reach.old).side who ≡ true }
-    requires agrees { inner.IsKept who kept.now (H.known reach.old) }
-    ensures { IsRest who 0 (H.known reach.old) (plan.close_query kept.now.number) (Replied result (Closes kept.now.number)) (H.known reach.new) }
+    requires session { context.now.who < NUMBERS }
+    requires speaks { speaks (H.known reach.old).side context.now.who ≡ true }
+    requires agrees { inner.IsKept context.now.who kept.now (H.known reach.old) }
+    ensures { IsRest context.now.who 0 (H.known reach.old) (plan.close_query kept.now.number) (Replied result (Closes kept.now.number)) (H.known reach.new) }
 {
-    let place = reach.shut(rt, who, kept.number);
+    let place = reach.shut(context.rt, context.who, kept.number);
     Reply::settled(
-        alloc,
+        context.alloc,
         place,
         Body::Closed {
             cursor: kept.number,
@@ -136,61 +155,32 @@ pub struct FetchOutcome {
 /// FETCH: answers the query of an open cursor over all rows that it sees, whatever steps served before, and closes it. The
 /// answer was settled at this look.
 pub fn fetch<R: Wait, H: Reach<ColumnUnit>, G: Gate, L: Ledger>(
-    alloc: Global,
-    rt: &R,
+    context: &Context<R, G>,
     reach: &mut H,
-    gate: &G,
-    who: u32,
     look: &Look,
     kept: &Cursor,
     steps: &mut Steps<L>,
 ) -> FetchOutcome
-    requires session { who < NUMBERS }
-    requires speaks { speaks (H.known reach.old).side who ≡ true }
-    requires shut { is_cursor_open (H.known reach.old).log who 0 ≡ false }
-    requires look { look.now ≡ look_at (H.known reach.old).log who }
-    requires agrees { inner.IsKept who kept.now (H.known reach.old) }
-    ensures rest { IsRest who 0 (H.known reach.old) (plan.fetch_query (H.known reach.old).log (query_of kept.now))
+    requires session { context.now.who < NUMBERS }
+    requires speaks { speaks (H.known reach.old).side context.now.who ≡ true }
+    requires shut { is_cursor_open (H.known reach.old).log context.now.who 0 ≡ false }
+    requires look { look.now ≡ look_at (H.known reach.old).log context.now.who }
+    requires agrees { inner.IsKept context.now.who kept.now (H.known reach.old) }
+    ensures rest { IsRest context.now.who 0 (H.known reach.old) (plan.fetch_query (H.known reach.old).log (query_of kept.now))
         (inner.fetch_outcome kept.now.number result.reply result.closed) (H.known reach.new) }
-    ensures agrees { result.closed ≡ false → inner.IsKept who kept.now (H.known reach.new) }
-    ensures ticks { IsCounted who steps.old steps.new (H.known reach.old) (H.known reach.new) }
+    ensures agrees { result.closed ≡ false → inner.IsKept context.now.who kept.now (H.known reach.new) }
+    ensures ticks { IsCounted context.now.who steps.old steps.new (H.known reach.old) (H.known reach.new) }
 {
-    let Ok(before) = kept.part.copy(alloc) else {
-        return FetchOutcome {
-            reply: out_of_memory(alloc, 0),
-            closed: false,
-        };
-    };
-    let (view, bound) = (&kept.view, &kept.bound);
-    match answer_scan(
-        alloc,
-        rt,
-        reach,
-        gate,
-        who,
-        kept.number,
-        view,
-        kept.next,
-        before,
-        bound,
-        steps,
-    ) {
+    match answer_scan(context, reach, kept, steps) {
         Ok(answered) => {
-            reach.shut(rt, who, kept.number);
+            reach.shut(context.rt, context.who, kept.number);
             FetchOutcome {
-                reply: Reply {
-                    place: Some(look.place),
-                    marks: answered.marks,
-                    body: Body::Answer {
-                        scn: kept.view.scn,
-                        records: answered.records,
-                    },
-                },
+                reply: answered.reply(look.place, kept.view.scn),
                 closed: true,
             }
         }
         Err(_) => FetchOutcome {
-            reply: out_of_memory(alloc, 0),
+            reply: out_of_memory(context.alloc, 0),
             closed: false,
         },
     }
@@ -206,30 +196,27 @@ pub struct StepOutcome {
 
 /// STEP: serves an open cursor its next extent, unless none was left at this look.
 pub fn step<R: Wait, H: Reach<ColumnUnit>, G: Gate, L: Ledger>(
-    alloc: Global,
-    rt: &R,
+    context: &Context<R, G>,
     reach: &mut H,
-    gate: &G,
-    who: u32,
     look: &Look,
     kept: &mut Cursor,
     steps: &mut Steps<L>,
 ) -> StepOutcome
-    requires session { who < NUMBERS }
-    requires speaks { speaks (H.known reach.old).side who ≡ true }
-    requires shut { is_cursor_open (H.known reach.old).log who 0 ≡ false }
-    requires look { look.now ≡ look_at (H.known reach.old).log who }
-    requires agrees { inner.IsKept who kept.old (H.known reach.old) }
-    ensures rest { IsRest who 0 (H.known reach.old) (plan.step_query (H.known reach.old).log (query_of kept.old))
+    requires session { context.now.who < NUMBERS }
+    requires speaks { speaks (H.known reach.old).side context.now.who ≡ true }
+    requires shut { is_cursor_open (H.known reach.old).log context.now.who 0 ≡ false }
+    requires look { look.now ≡ look_at (H.known reach.old).log context.now.who }
+    requires agrees { inner.IsKept context.now.who kept.old (H.known reach.old) }
+    ensures rest { IsRest context.now.who 0 (H.known reach.old) (plan.step_query (H.known reach.old).log (query_of kept.old))
         (inner.step_outcome kept.old.number result.reply result.served) (H.known reach.new) }
     ensures kept { query_of kept.new ≡ inner.query_after result.served (query_of kept.old) }
-    ensures agrees { inner.IsKept who kept.new (H.known reach.new) }
-    ensures ticks { IsCounted who steps.old steps.new (H.known reach.old) (H.known reach.new) }
+    ensures agrees { inner.IsKept context.now.who kept.new (H.known reach.new) }
+    ensures ticks { IsCounted context.now.who steps.old steps.new (H.known reach.old) (H.known reach.new) }
 {
     if kept.next >= kept.view.extents {
         return StepOutcome {
             reply: Reply::settled(
-                alloc,
+                context.alloc,
                 look.place,
                 Body::End {
                     cursor: kept.number,
@@ -238,22 +225,11 @@ pub fn step<R: Wait, H: Reach<ColumnUnit>, G: Gate, L: Ledger>(
             served: false,
         };
     }
-    let (number, next) = (kept.number, kept.next);
-    match served_part(
-        alloc,
-        rt,
-        reach,
-        gate,
-        who,
-        number,
-        &kept.view,
-        next,
-        &kept.bound,
-        steps,
-    ) {
-        Ok(served) => take(alloc, kept, served, next + 1),
+    let next = kept.next;
+    match served_part(context, reach, kept, next, Wanted::Parts, steps) {
+        Ok(served) => take(context.alloc, kept, served, next + 1),
         Err(_) => StepOutcome {
-            reply: out_of_memory(alloc, 0),
+            reply: out_of_memory(context.alloc, 0),
             served: false,
         },
     }

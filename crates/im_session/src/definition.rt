@@ -11,8 +11,10 @@ ghost use Rattle.im_statements.specs.Definitions as plan;
 ghost use Rattle.im_statements.specs.Outcomes.{said};
 ghost use Rattle.im_statements.specs.Turns.{decide_by};
 
+use crate::context::Context;
 use crate::refusals::{creation_refused, out_of_memory};
 use im_core::Made;
+use im_edge::Gate;
 use im_history::{Priority, Shape};
 use im_reach::Reach;
 use im_replies::{Body, Reply};
@@ -47,26 +49,24 @@ fn created(alloc: Global, made: Made) -> Reply
 }
 
 /// Lets a table that was just created join the column store with a priority, once the line has made so many entries.
-fn join_memory<R: Wait, H: Reach<ColumnUnit>>(
-    alloc: Global,
-    rt: &R,
+fn join_memory<R: Wait, H: Reach<ColumnUnit>, G: Gate>(
+    context: &Context<R, G>,
     reach: &mut H,
-    who: u32,
     made: Made,
     priority: Priority,
     entries: u64,
 ) -> Reply
-    requires session { who < NUMBERS }
-    requires speaks { speaks (H.known reach.old).side who ≡ true }
-    requires shut { is_cursor_open (H.known reach.old).log who 0 ≡ false }
-    requires may { MaySetMemory (H.known reach.old).log who made.table }
-    ensures { IsRest who entries (H.known reach.old)
+    requires session { context.now.who < NUMBERS }
+    requires speaks { speaks (H.known reach.old).side context.now.who ≡ true }
+    requires shut { is_cursor_open (H.known reach.old).log context.now.who 0 ≡ false }
+    requires may { MaySetMemory (H.known reach.old).log context.now.who made.table }
+    ensures { IsRest context.now.who entries (H.known reach.old)
         (decide_by (λ here. what.Memory made.table (Some priority)) (λ here. End (said (inner.created_reply made)))) (said result)
         (H.known reach.new) }
 {
-    match reach.set_memory(rt, who, made.table, Some(priority)) {
-        Ok(_) => created(alloc, made),
-        Err(_) => out_of_memory(alloc, entries),
+    match reach.set_memory(context.rt, context.who, made.table, Some(priority)) {
+        Ok(_) => created(context.alloc, made),
+        Err(_) => out_of_memory(context.alloc, entries),
     }
 }
 
@@ -74,20 +74,18 @@ fn join_memory<R: Wait, H: Reach<ColumnUnit>>(
 /// entry of its own behind the table's.
 ///
 /// A table that was created stays where memory runs out before it has joined.
-pub fn create<R: Wait, H: Reach<ColumnUnit>>(
-    alloc: Global,
-    rt: &R,
+pub fn create<R: Wait, H: Reach<ColumnUnit>, G: Gate>(
+    context: &Context<R, G>,
     reach: &mut H,
-    who: u32,
     table: NewTable,
     entries: u64,
 ) -> Reply
-    requires session { who < NUMBERS }
-    requires speaks { speaks (H.known reach.old).side who ≡ true }
-    requires shut { is_cursor_open (H.known reach.old).log who 0 ≡ false }
-    requires idle { is_open (H.known reach.old).log who ≡ false }
+    requires session { context.now.who < NUMBERS }
+    requires speaks { speaks (H.known reach.old).side context.now.who ≡ true }
+    requires shut { is_cursor_open (H.known reach.old).log context.now.who 0 ≡ false }
+    requires idle { is_open (H.known reach.old).log context.now.who ≡ false }
     requires few { entries ≤ 1 }
-    ensures { IsRest who entries (H.known reach.old) (plan.create_table table.name table.schema table.shape table.memory)
+    ensures { IsRest context.now.who entries (H.known reach.old) (plan.create_table table.name table.schema table.shape table.memory)
         (said result) (H.known reach.new) }
 {
     let NewTable {
@@ -96,37 +94,35 @@ pub fn create<R: Wait, H: Reach<ColumnUnit>>(
         shape,
         memory,
     } = table;
-    let Ok(told) = name.copy(alloc) else {
-        return out_of_memory(alloc, entries);
+    let Ok(told) = name.copy(context.alloc) else {
+        return out_of_memory(context.alloc, entries);
     };
-    match reach.create(rt, who, name, schema, shape) {
+    match reach.create(context.rt, context.who, name, schema, shape) {
         Ok(made) => match memory {
-            None => created(alloc, made),
-            Some(priority) => join_memory(alloc, rt, reach, who, made, priority, entries + 1),
+            None => created(context.alloc, made),
+            Some(priority) => join_memory(context, reach, made, priority, entries + 1),
         },
-        Err(refused) => creation_refused(alloc, told, entries, refused),
+        Err(refused) => creation_refused(context.alloc, told, entries, refused),
     }
 }
 
 /// ALTER TABLE: lets a table join the column store with a priority, or leave it where none is given, once the line has made so
 /// many entries.
-pub fn alter<R: Wait, H: Reach<ColumnUnit>>(
-    alloc: Global,
-    rt: &R,
+pub fn alter<R: Wait, H: Reach<ColumnUnit>, G: Gate>(
+    context: &Context<R, G>,
     reach: &mut H,
-    who: u32,
     table: u32,
     priority: Option<Priority>,
     entries: u64,
 ) -> Reply
-    requires session { who < NUMBERS }
-    requires speaks { speaks (H.known reach.old).side who ≡ true }
-    requires shut { is_cursor_open (H.known reach.old).log who 0 ≡ false }
-    requires may { MaySetMemory (H.known reach.old).log who table }
-    ensures { IsRest who entries (H.known reach.old) (plan.alter_table table priority) (said result) (H.known reach.new) }
+    requires session { context.now.who < NUMBERS }
+    requires speaks { speaks (H.known reach.old).side context.now.who ≡ true }
+    requires shut { is_cursor_open (H.known reach.old).log context.now.who 0 ≡ false }
+    requires may { MaySetMemory (H.known reach.old).log context.now.who table }
+    ensures { IsRest context.now.who entries (H.known reach.old) (plan.alter_table table priority) (said result) (H.known reach.new) }
 {
-    match reach.set_memory(rt, who, table, priority) {
-        Ok(place) => Reply::settled(alloc, place, Body::Altered { table }),
-        Err(_) => out_of_memory(alloc, entries),
+    match reach.set_memory(context.rt, context.who, table, priority) {
+        Ok(place) => Reply::settled(context.alloc, place, Body::Altered { table }),
+        Err(_) => out_of_memory(context.alloc, entries),
     }
 }

@@ -6,23 +6,24 @@
 //!
 //! [`Session::execute`] plays one statement: it goes by its plan, or runs out of memory on the way and is amended, and what the
 //! session keeps of its cursors agrees with the history before and after (`specs/Sessions.antt`, `specs/Cursors.antt`).
-//! [`Session::end`] closes all that the session has open, and leaves (`specs/Ends.antt`).
 //!
 //! The contract of each inner function says what is left of its line (`specs/inner/Rests.antt`). A statement that scans opens
 //! cursor 0 and serves its extents each at a turn of its own (`specs/inner/Scans.antt`).
 //!
-//! Start with `session.rt`, then `transaction.rt`, whose statements make one call each, then `serving.rt`, `query.rt` and
-//! `cursor.rt`.
+//! Start with `session.rt` and `playing.rt`, then `transaction.rt`, whose statements make one call each, then `cursor.rt`,
+//! `serving.rt` and `scan.rt`.
 #![tactic(auto)]
 
 mod changes;
+mod context;
 mod cursor;
 mod definition;
 mod ending;
 mod inserts;
-mod query;
+mod playing;
 mod refusals;
 mod rewriting;
+mod scan;
 mod serving;
 mod session;
 mod statement;

@@ -5,22 +5,23 @@ ghost use Rattle.im_history.specs.Tables.{tables};
 ghost use Rattle.im_history.specs.Views.{look_at};
 ghost use Rattle.im_names.specs.Fitting.{OfTable};
 ghost use Rattle.im_reach.specs.Sides.{Known, speaks};
-ghost use Rattle.im_scan.specs.Pinned.{seen_all};
+ghost use Rattle.im_session.specs.declared.scan.Purpose.TheVariants as purpose;
+ghost use Rattle.im_session.specs.inner.Purposes.{IsUsed, MayUse};
 ghost use Rattle.im_session.specs.inner.Rests.{IsRest};
 ghost use Rattle.im_session.specs.inner.Scans.{IsScan, IsShut, Longer};
-ghost use Rattle.im_session.specs.Cursors.{MayAskIn};
 ghost use Rattle.im_session.specs.Reads.{IsCounted};
 ghost use Rattle.im_session.specs.inner.Writes as inner;
 ghost use Rattle.im_statements.specs.Outcomes.{said};
-ghost use Rattle.im_statements.specs.Scans.{serve_from};
 ghost use Rattle.im_statements.specs.Writes as plan;
 
 use crate::changes::changes_to;
-use crate::refusals::{out_of_memory, refused_reply};
-use crate::serving::gather;
+use crate::context::Context;
+use crate::cursor::Cursor;
+use crate::refusals::{out_of_memory, write_refused};
+use crate::scan::{Purpose, scan};
+use crate::serving::{Wanted, gather};
 use im_edge::Gate;
-use im_group::Partial;
-use im_history::{Change, Look, Mode, Refused, View, Why};
+use im_history::{Change, Look, Mode, View};
 use im_reach::Reach;
 use im_replies::{Body, Fault, Reply, Served};
 use im_statements::Rewriting;
@@ -35,33 +36,51 @@ use std::sync::ledger::Ledger;
 /// UPDATE and DELETE: rewrites the rows of a table that a session sees and a condition keeps, unless its transaction was READ
 /// ONLY at this look.
 pub fn rewrite<R: Wait, H: Reach<ColumnUnit>, G: Gate, L: Ledger>(
-    alloc: Global,
-    rt: &R,
+    context: &Context<R, G>,
     reach: &mut H,
-    gate: &G,
-    who: u32,
     look: &Look,
     table: u32,
     filter: Option<Filter>,
     rewriting: Rewriting,
     steps: &mut Steps<L>,
 ) -> Reply
-    requires session { who < NUMBERS }
-    requires speaks { speaks (H.known reach.old).side who ≡ true }
-    requires shut { is_cursor_open (H.known reach.old).log who 0 ≡ false }
-    requires look { look.now ≡ look_at (H.known reach.old).log who }
+    requires session { context.now.who < NUMBERS }
+    requires speaks { speaks (H.known reach.old).side context.now.who ≡ true }
+    requires shut { is_cursor_open (H.known reach.old).log context.now.who 0 ≡ false }
+    requires look { look.now ≡ look_at (H.known reach.old).log context.now.who }
     requires serves { OfTable (tables (H.known reach.old).log) table (inner.RewriteServes filter rewriting) }
-    ensures rest { IsRest who 0 (H.known reach.old)
-        (plan.unless_read_only who (H.known reach.old).log (plan.rewrite (H.known reach.old).limits who table filter rewriting))
-        (said result) (H.known reach.new) }
-    ensures ticks { IsCounted who steps.old steps.new (H.known reach.old) (H.known reach.new) }
+    ensures rest { IsRest context.now.who 0 (H.known reach.old)
+        (plan.unless_read_only context.now.who (H.known reach.old).log
+        (plan.rewrite (H.known reach.old).limits context.now.who table filter rewriting)) (said result) (H.known reach.new) }
+    ensures ticks { IsCounted context.now.who steps.old steps.new (H.known reach.old) (H.known reach.new) }
 {
     match look.mode {
-        Mode::ReadOnly => Reply::settled(alloc, look.place, Body::Error(Fault::ReadOnly)),
+        Mode::ReadOnly => Reply::settled(context.alloc, look.place, Body::Error(Fault::ReadOnly)),
         Mode::Committed | Mode::Serializable => {
-            rewrite_rows(alloc, rt, reach, gate, who, table, filter, rewriting, steps)
+            rewrite_rows(context, reach, table, filter, rewriting, steps)
         }
     }
+}
+
+/// Rewrites the rows of a table that a session sees and a condition keeps, by a scan and a write.
+fn rewrite_rows<R: Wait, H: Reach<ColumnUnit>, G: Gate, L: Ledger>(
+    context: &Context<R, G>,
+    reach: &mut H,
+    table: u32,
+    filter: Option<Filter>,
+    rewriting: Rewriting,
+    steps: &mut Steps<L>,
+) -> Reply
+    requires session { context.now.who < NUMBERS }
+    requires speaks { speaks (H.known reach.old).side context.now.who ≡ true }
+    requires shut { is_cursor_open (H.known reach.old).log context.now.who 0 ≡ false }
+    requires serves { OfTable (tables (H.known reach.old).log) table (inner.RewriteServes filter rewriting) }
+    ensures rest { IsRest context.now.who 0 (H.known reach.old)
+        (plan.rewrite (H.known reach.old).limits context.now.who table filter rewriting) (said result) (H.known reach.new) }
+    ensures ticks { IsCounted context.now.who steps.old steps.new (H.known reach.old) (H.known reach.new) }
+{
+    let bound = condition_query(context.alloc, table, filter);
+    scan(context, reach, bound, Purpose::Rewrite(rewriting), steps)
 }
 
 /// The query of a condition alone. It takes no memory.
@@ -78,132 +97,74 @@ fn condition_query(alloc: Global, table: u32, filter: Option<Filter>) -> Bound
     }
 }
 
-/// Rewrites the rows of a table that a session sees and a condition keeps, by a scan and a write.
-fn rewrite_rows<R: Wait, H: Reach<ColumnUnit>, G: Gate, L: Ledger>(
-    alloc: Global,
-    rt: &R,
+/// Rewrites the rows that a scan sees and its condition keeps. Its cursor is still open then.
+pub fn rewrite_seen<R: Wait, H: Reach<ColumnUnit>, G: Gate, L: Ledger>(
+    context: &Context<R, G>,
     reach: &mut H,
-    gate: &G,
-    who: u32,
-    table: u32,
-    filter: Option<Filter>,
-    rewriting: Rewriting,
-    steps: &mut Steps<L>,
-) -> Reply
-    requires session { who < NUMBERS }
-    requires speaks { speaks (H.known reach.old).side who ≡ true }
-    requires shut { is_cursor_open (H.known reach.old).log who 0 ≡ false }
-    requires serves { OfTable (tables (H.known reach.old).log) table (inner.RewriteServes filter rewriting) }
-    ensures rest { IsRest who 0 (H.known reach.old) (plan.rewrite (H.known reach.old).limits who table filter rewriting) (said result)
-        (H.known reach.new) }
-    ensures ticks { IsCounted who steps.old steps.new (H.known reach.old) (H.known reach.new) }
-{
-    let bound = condition_query(alloc, table, filter);
-    match reach.open_cursor(rt, who, 0, table) {
-        Ok(view) => {
-            let reply = rewrite_seen(
-                alloc, rt, reach, gate, who, &view, &bound, &rewriting, steps,
-            );
-            reach.shut(rt, who, 0);
-            reply
-        }
-        Err(refused) => refused_reply(alloc, 0, refused),
-    }
-}
-
-/// Rewrites the rows that the open cursor 0 of a session sees and a condition keeps. The cursor is still open then.
-fn rewrite_seen<R: Wait, H: Reach<ColumnUnit>, G: Gate, L: Ledger>(
-    alloc: Global,
-    rt: &R,
-    reach: &mut H,
-    gate: &G,
-    who: u32,
-    view: &View,
-    bound: &Bound,
+    cursor: &Cursor,
     rewriting: &Rewriting,
     steps: &mut Steps<L>,
 ) -> Reply
-    requires session { who < NUMBERS }
-    requires speaks { speaks (H.known reach.old).side who ≡ true }
-    requires scan { IsScan who 0 view.now (H.known reach.old) }
-    requires asks { MayAskIn bound.now view.now (H.known reach.old) }
-    requires plain { bound.now.grouped ≡ false }
-    requires may { inner.MayRewriteIn who rewriting.now view.now (H.known reach.old) }
-    ensures side { (H.known reach.new).side ≡ (H.known reach.old).side }
-    ensures cursor { is_cursor_open (H.known reach.new).log who 0 ≡ true }
-    ensures rest { (late : Known) → IsShut who (H.known reach.new) late →
-        IsRest who 1 (H.known reach.old) (serve_from view.now bound.now.filter 0 (λ marks.
-        plan.write_or_end (H.known reach.old).limits who view.now.place view.now.scn marks
-        (plan.changes_to view.now.table rewriting.now (plan.kept_rows bound.now.filter (seen_all (H.known reach.old).log view.now)))
-        (plan.written rewriting.now))) (said result) late }
-    ensures ticks { IsCounted who steps.old steps.new (H.known reach.old) (H.known reach.new) }
+    requires session { context.now.who < NUMBERS }
+    requires speaks { speaks (H.known reach.old).side context.now.who ≡ true }
+    requires may { MayUse context.now.who (purpose.Rewrite rewriting.now) cursor.now (H.known reach.old) }
+    ensures used { IsUsed context.now.who (purpose.Rewrite rewriting.now) cursor.now (H.known reach.old) result (H.known reach.new) }
+    ensures ticks { IsCounted context.now.who steps.old steps.new (H.known reach.old) (H.known reach.new) }
 {
-    let Ok(none) = Partial::of_lent(alloc, bound, &[]) else {
-        return out_of_memory(alloc, 1);
-    };
-    match gather(alloc, rt, reach, gate, who, 0, view, 0, none, bound, steps) {
-        Ok(gathered) => rewrite_kept(
-            alloc,
-            rt,
-            reach,
-            who,
-            view,
-            List::of(gathered.marks),
-            gathered.part.into_rows(),
-            rewriting,
-        ),
-        Err(_) => out_of_memory(alloc, 1),
+    match gather(context, reach, cursor, Wanted::Parts, steps) {
+        Ok(gathered) => {
+            let marks = List::of(gathered.marks);
+            let rows = gathered.part.into_rows();
+            rewrite_kept(context, reach, &cursor.view, marks, rows, rewriting)
+        }
+        Err(_) => out_of_memory(context.alloc, 1),
     }
 }
 
 /// Rewrites rows that the open cursor 0 of a session saw. The cursor is still open then.
-fn rewrite_kept<R: Wait, H: Reach<ColumnUnit>>(
-    alloc: Global,
-    rt: &R,
+fn rewrite_kept<R: Wait, H: Reach<ColumnUnit>, G: Gate>(
+    context: &Context<R, G>,
     reach: &mut H,
-    who: u32,
     view: &View,
     marks: List<Served>,
     rows: Vec<(u64, Row)>,
     rewriting: &Rewriting,
 ) -> Reply
-    requires session { who < NUMBERS }
-    requires speaks { speaks (H.known reach.old).side who ≡ true }
-    requires scan { IsScan who 0 view.now (H.known reach.old) }
-    requires may { inner.MayRewriteIn who rewriting.now view.now (H.known reach.old) }
+    requires session { context.now.who < NUMBERS }
+    requires speaks { speaks (H.known reach.old).side context.now.who ≡ true }
+    requires scan { IsScan context.now.who 0 view.now (H.known reach.old) }
+    requires may { inner.MayRewriteIn context.now.who rewriting.now view.now (H.known reach.old) }
     requires rows { inner.AreRows (H.known reach.old).log view.now rows.items }
     ensures side { (H.known reach.new).side ≡ (H.known reach.old).side }
-    ensures cursor { is_cursor_open (H.known reach.new).log who 0 ≡ true }
-    ensures rest { (late : Known) → IsShut who (H.known reach.new) late →
-        IsRest who 1 (H.known reach.old) (plan.write_or_end (H.known reach.old).limits who view.now.place view.now.scn marks
+    ensures cursor { is_cursor_open (H.known reach.new).log context.now.who 0 ≡ true }
+    ensures rest { (late : Known) → IsShut context.now.who (H.known reach.new) late →
+        IsRest context.now.who 1 (H.known reach.old) (plan.write_or_end (H.known reach.old).limits context.now.who view.now.place view.now.scn marks
         (plan.changes_to view.now.table rewriting.now rows.items) (plan.written rewriting.now)) (said result) late }
     ensures longer { Longer (H.known reach.old) (H.known reach.new) }
 {
-    match changes_to(alloc, view.table, rewriting, rows) {
-        Ok(changes) => write_changes(alloc, rt, reach, who, view, marks, changes, rewriting),
-        Err(_) => out_of_memory(alloc, 1),
+    match changes_to(context.alloc, view.table, rewriting, rows) {
+        Ok(changes) => write_changes(context, reach, view, marks, changes, rewriting),
+        Err(_) => out_of_memory(context.alloc, 1),
     }
 }
 
 /// Writes changes to rows that the open cursor 0 of a session saw, and answers how many. The cursor is still open then.
-fn write_changes<R: Wait, H: Reach<ColumnUnit>>(
-    alloc: Global,
-    rt: &R,
+fn write_changes<R: Wait, H: Reach<ColumnUnit>, G: Gate>(
+    context: &Context<R, G>,
     reach: &mut H,
-    who: u32,
     view: &View,
     marks: List<Served>,
     changes: Vec<Change>,
     rewriting: &Rewriting,
 ) -> Reply
-    requires session { who < NUMBERS }
-    requires speaks { speaks (H.known reach.old).side who ≡ true }
-    requires scan { IsScan who 0 view.now (H.known reach.old) }
-    requires may { 1 ≤ length changes.items → MayWrite (H.known reach.old).log who 0 changes.items }
+    requires session { context.now.who < NUMBERS }
+    requires speaks { speaks (H.known reach.old).side context.now.who ≡ true }
+    requires scan { IsScan context.now.who 0 view.now (H.known reach.old) }
+    requires may { 1 ≤ length changes.items → MayWrite (H.known reach.old).log context.now.who 0 changes.items }
     ensures side { (H.known reach.new).side ≡ (H.known reach.old).side }
-    ensures cursor { is_cursor_open (H.known reach.new).log who 0 ≡ true }
-    ensures rest { (late : Known) → IsShut who (H.known reach.new) late →
-        IsRest who 1 (H.known reach.old) (plan.write_or_end (H.known reach.old).limits who view.now.place view.now.scn marks
+    ensures cursor { is_cursor_open (H.known reach.new).log context.now.who 0 ≡ true }
+    ensures rest { (late : Known) → IsShut context.now.who (H.known reach.new) late →
+        IsRest context.now.who 1 (H.known reach.old) (plan.write_or_end (H.known reach.old).limits context.now.who view.now.place view.now.scn marks
         changes.items (plan.written rewriting.now)) (said result) late }
     ensures longer { Longer (H.known reach.old) (H.known reach.new) }
 {
@@ -215,26 +176,12 @@ fn write_changes<R: Wait, H: Reach<ColumnUnit>>(
         };
     }
     let rows = changes.len() as u64;
-    match reach.write(rt, who, 0, changes) {
+    match reach.write(context.rt, context.who, 0, changes) {
         Ok(place) => Reply {
             place: Some(place),
             marks,
             body: rewriting.written(rows),
         },
-        Err(refused) => write_refused(alloc, marks, refused),
-    }
-}
-
-/// The reply of a line whose write was refused once it had opened its scan and was served so.
-fn write_refused(alloc: Global, marks: List<Served>, refused: Refused) -> Reply
-    ensures { result ≡ inner.write_reply 1 refused.place marks refused.why }
-{
-    match refused.why {
-        Why::NoMemory => out_of_memory(alloc, 1),
-        cause => Reply {
-            place: Some(refused.place),
-            marks,
-            body: Body::Error(Fault::from(cause)),
-        },
+        Err(refused) => write_refused(context.alloc, marks, refused),
     }
 }

@@ -1,4 +1,4 @@
-ghost use Rattle.std.specs.Prelude.{◌≡◌, ◌<◌, ◌≤◌, ◌+◌, ◌++◌, [], ◌∷◌, ℕ, List, true, IfOk, IfErr, OnOk};
+ghost use Rattle.std.specs.Prelude.{◌≡◌, ◌<◌, ◌+◌, ◌++◌, [], ◌∷◌, ℕ, List, true, IfOk, IfErr, OnOk};
 ghost use Rattle.std.specs.Arc.{arc_value};
 ghost use Rattle.std.specs.Option.{option_map};
 ghost use Rattle.im_group.specs.Answers.{answer};
@@ -6,22 +6,26 @@ ghost use Rattle.im_group.specs.Partials as group;
 ghost use Rattle.im_history.specs.Legal.{IsLawful};
 ghost use Rattle.im_plan.specs.Plan.{Plan};
 ghost use Rattle.im_reach.specs.Sides.{speaks};
+ghost use Rattle.im_replies.specs.declared.body.Body.TheVariants as body;
 ghost use Rattle.im_replies.specs.declared.served.Served.{Served as Mark};
 ghost use Rattle.im_scan.specs.Faces.{how_of};
-ghost use Rattle.im_scan.specs.Pinned.{seen_all, seen_in, seen_to};
-ghost use Rattle.im_session.specs.inner.Scans.{Comes, IsRead, IsScan, Stops, Went};
-ghost use Rattle.im_session.specs.Cursors.{MayAskIn};
+ghost use Rattle.im_scan.specs.Pinned.{seen_all, seen_in};
+ghost use Rattle.im_session.specs.inner.Cursors.{IsKept};
+ghost use Rattle.im_session.specs.inner.Scans.{Comes, IsRead, Stops, Went};
+ghost use Rattle.im_session.specs.inner.Serving.{wanted_of};
 ghost use Rattle.im_session.specs.Reads.{AreRead, IsCounted};
+ghost use Rattle.im_session.specs.declared.serving.Wanted.TheVariants.{Marks};
 ghost use Rattle.im_statements.specs.Outcomes.{Outcome};
 ghost use Rattle.im_statements.specs.Scans as plan;
-ghost use Rattle.im_syntax.specs.BoundQuery.{IsQuery};
+ghost use Rattle.im_statements.specs.Turns.{served_reply};
 
+use crate::context::Context;
+use crate::cursor::Cursor;
 use im_core::Pin;
 use im_edge::{At, Gate};
 use im_group::Partial;
-use im_history::View;
 use im_reach::Reach;
-use im_replies::{Records, Served};
+use im_replies::{Body, Records, Reply, Served};
 use im_scan::{face, how, part};
 use im_syntax::Bound;
 use im_unit::ColumnUnit;
@@ -31,30 +35,40 @@ use std::alloc::Global;
 use std::sync::Wait;
 use std::sync::ledger::Ledger;
 
+/// What is wanted of each extent that a scan is served.
+#[derive(Clone, Copy, Debug, PartialEq, Eq)]
+pub enum Wanted {
+    /// How it was served, and what its rows give to the query.
+    Parts,
+    /// How it was served.
+    Marks,
+}
+
 /// Reads what a scan with an open cursor needs of an extent. The gate is called before and after it, outside the store's turn.
 fn read<R: Wait, H: Reach<ColumnUnit>, G: Gate, L: Ledger>(
-    rt: &R,
+    context: &Context<R, G>,
     reach: &mut H,
-    gate: &G,
-    who: u32,
-    cursor: u32,
-    view: &View,
+    cursor: &Cursor,
     extent: u64,
     steps: &mut Steps<L>,
 ) -> Result<Pin<ColumnUnit>, NoMemory>
-    requires session { who < NUMBERS }
-    requires speaks { speaks (H.known reach.old).side who ≡ true }
-    requires scan { IsScan who cursor view.now (H.known reach.old) }
-    requires within { extent < view.now.extents }
+    requires session { context.now.who < NUMBERS }
+    requires speaks { speaks (H.known reach.old).side context.now.who ≡ true }
+    requires kept { IsKept context.now.who cursor.now (H.known reach.old) }
+    requires within { extent < cursor.now.view.extents }
     ensures went { Went (H.known reach.old) (H.known reach.new) }
     ensures lawful { IsLawful (H.known reach.new).limits (H.known reach.new).log }
-    ensures read { IfOk result (λ pin. IsRead (H.known reach.new).log view.now extent pin.place (option_map arc_value pin.unit) pin.fetched) }
-    ensures ticks { AreRead who cursor view.now extent (extent + 1) steps.old steps.new (H.known reach.old).log (H.known reach.new).log }
+    ensures read { IfOk result (λ pin. IsRead (H.known reach.new).log cursor.now.view extent pin.place (option_map arc_value pin.unit) pin.fetched) }
+    ensures ticks { AreRead context.now.who cursor.now.number cursor.now.view extent (extent + 1) steps.old steps.new (H.known reach.old).log
+        (H.known reach.new).log }
 {
-    let at = At::Step { cursor, extent };
-    gate.before(rt, who, at);
-    let pinned = reach.pin(rt, who, cursor, extent, steps);
-    gate.after(who, at);
+    let at = At::Step {
+        cursor: cursor.number,
+        extent,
+    };
+    context.gate.before(context.rt, context.who, at);
+    let pinned = reach.pin(context.rt, context.who, cursor.number, extent, steps);
+    context.gate.after(context.who, at);
     match pinned {
         Ok(pin) => Ok(pin),
         Err(_) => Err(NoMemory),
@@ -72,77 +86,50 @@ fn mark(pin: &Pin<ColumnUnit>, extent: u64, bound: &Bound) -> Served
     }
 }
 
-/// Serves a scan with an open cursor an extent, and answers how.
-pub fn served_mark<R: Wait, H: Reach<ColumnUnit>, G: Gate, L: Ledger>(
-    rt: &R,
-    reach: &mut H,
-    gate: &G,
-    who: u32,
-    cursor: u32,
-    view: &View,
-    extent: u64,
-    bound: &Bound,
-    steps: &mut Steps<L>,
-) -> Result<Served, NoMemory>
-    requires session { who < NUMBERS }
-    requires speaks { speaks (H.known reach.old).side who ≡ true }
-    requires scan { IsScan who cursor view.now (H.known reach.old) }
-    requires within { extent < view.now.extents }
-    ensures went { Went (H.known reach.old) (H.known reach.new) }
-    ensures mark { IfOk result (λ mark. mark ≡ plan.mark_at (H.known reach.new).log view.now bound.now.filter extent) }
-    ensures ticks { AreRead who cursor view.now extent (extent + 1) steps.old steps.new (H.known reach.old).log (H.known reach.new).log }
-{
-    let pin = read(rt, reach, gate, who, cursor, view, extent, steps)?;
-    Ok(mark(&pin, extent, bound))
-}
-
 /// An extent that a scan was served.
 #[derive(Drop)]
 pub struct ServedPart {
     /// How it was served.
     pub mark: Served,
-    /// What its rows give to the query.
+    /// What its rows give to the query, where that is wanted, and else what no rows do.
     pub part: Partial,
 }
 
 /// Serves a scan with an open cursor an extent.
 pub fn served_part<R: Wait, H: Reach<ColumnUnit>, G: Gate, L: Ledger>(
-    alloc: Global,
-    rt: &R,
+    context: &Context<R, G>,
     reach: &mut H,
-    gate: &G,
-    who: u32,
-    cursor: u32,
-    view: &View,
+    cursor: &Cursor,
     extent: u64,
-    bound: &Bound,
+    wanted: Wanted,
     steps: &mut Steps<L>,
 ) -> Result<ServedPart, NoMemory>
-    requires session { who < NUMBERS }
-    requires speaks { speaks (H.known reach.old).side who ≡ true }
-    requires scan { IsScan who cursor view.now (H.known reach.old) }
-    requires asks { MayAskIn bound.now view.now (H.known reach.old) }
-    requires within { extent < view.now.extents }
+    requires session { context.now.who < NUMBERS }
+    requires speaks { speaks (H.known reach.old).side context.now.who ≡ true }
+    requires kept { IsKept context.now.who cursor.now (H.known reach.old) }
+    requires within { extent < cursor.now.view.extents }
     ensures went { Went (H.known reach.old) (H.known reach.new) }
     ensures mark { IfOk result (λ served.
-        served.mark ≡ plan.mark_at (H.known reach.new).log view.now bound.now.filter extent) }
+        served.mark ≡ plan.mark_at (H.known reach.new).log cursor.now.view cursor.now.bound.filter extent) }
     ensures part { IfOk result (λ served.
-        served.part ≡ group.partial bound.now (seen_in (H.known reach.old).log view.now extent)) }
-    ensures ticks { AreRead who cursor view.now extent (extent + 1) steps.old steps.new (H.known reach.old).log (H.known reach.new).log }
+        served.part ≡ group.partial cursor.now.bound (wanted_of wanted (seen_in (H.known reach.old).log cursor.now.view extent))) }
+    ensures ticks { AreRead context.now.who cursor.now.number cursor.now.view extent (extent + 1) steps.old steps.new (H.known reach.old).log
+        (H.known reach.new).log }
 {
-    let pin = read(rt, reach, gate, who, cursor, view, extent, steps)?;
-    let part = part(
-        alloc,
-        face(&pin, bound),
-        pin.fetched.items(),
-        view,
-        extent,
-        bound,
-    )?;
-    Ok(ServedPart {
-        mark: mark(&pin, extent, bound),
-        part,
-    })
+    let pin = read(context, reach, cursor, extent, steps)?;
+    let (alloc, view, bound) = (context.alloc, &cursor.view, &cursor.bound);
+    let mark = mark(&pin, extent, bound);
+    match wanted {
+        Wanted::Parts => {
+            let rows = pin.fetched.items();
+            let part = part(alloc, face(&pin, bound), rows, view, extent, bound)?;
+            Ok(ServedPart { mark, part })
+        }
+        Wanted::Marks => {
+            let part = Partial::of_lent(alloc, bound, &[])?;
+            Ok(ServedPart { mark, part })
+        }
+    }
 }
 
 /// What a scan has been served so far: the marks in the order of serving, and the parts of all extents, merged.
@@ -165,44 +152,36 @@ impl Gathered {
     }
 }
 
-/// Serves a scan with an open cursor all extents from one on, behind what those before it gave.
+/// Serves a scan with an open cursor all extents from its next one on, behind what those before it gave. The cursor itself stays as
+/// it is.
 pub fn gather<R: Wait, H: Reach<ColumnUnit>, G: Gate, L: Ledger>(
-    alloc: Global,
-    rt: &R,
+    context: &Context<R, G>,
     reach: &mut H,
-    gate: &G,
-    who: u32,
-    cursor: u32,
-    view: &View,
-    from: u64,
-    before: Partial,
-    bound: &Bound,
+    cursor: &Cursor,
+    wanted: Wanted,
     steps: &mut Steps<L>,
 ) -> Result<Gathered, NoMemory>
-    requires session { who < NUMBERS }
-    requires speaks { speaks (H.known reach.old).side who ≡ true }
-    requires scan { IsScan who cursor view.now (H.known reach.old) }
-    requires asks { MayAskIn bound.now view.now (H.known reach.old) }
-    requires from { from ≤ view.now.extents }
-    requires before { before ≡ group.partial bound.now (seen_to (H.known reach.old).log view.now from) }
+    requires session { context.now.who < NUMBERS }
+    requires speaks { speaks (H.known reach.old).side context.now.who ≡ true }
+    requires kept { IsKept context.now.who cursor.now (H.known reach.old) }
+    requires first { wanted ≡ Marks → cursor.now.next ≡ 0 }
     ensures went { Went (H.known reach.old) (H.known reach.new) }
     ensures part { IfOk result (λ gathered.
-        gathered.part ≡ group.partial bound.now (seen_all (H.known reach.old).log view.now)) }
+        gathered.part ≡ group.partial cursor.now.bound (wanted_of wanted (seen_all (H.known reach.old).log cursor.now.view))) }
     ensures marks { IfOk result (λ gathered. (k : ℕ) (on : List Mark → Plan Outcome) →
-        Comes who k (H.known reach.old) (plan.serve_from view.now bound.now.filter from on) (H.known reach.new)
-        (on gathered.marks.items)) }
+        Comes context.now.who k (H.known reach.old) (plan.serve_from cursor.now.view cursor.now.bound.filter cursor.now.next on)
+        (H.known reach.new) (on gathered.marks.items)) }
     ensures err { IfErr result (λ lacks. (k : ℕ) (on : List Mark → Plan Outcome) →
-        Stops who k (H.known reach.old) (plan.serve_from view.now bound.now.filter from on) (H.known reach.new)) }
-    ensures ticks { IsCounted who steps.old steps.new (H.known reach.old) (H.known reach.new) }
+        Stops context.now.who k (H.known reach.old) (plan.serve_from cursor.now.view cursor.now.bound.filter cursor.now.next on)
+        (H.known reach.new)) }
+    ensures ticks { IsCounted context.now.who steps.old steps.new (H.known reach.old) (H.known reach.new) }
 {
     let mut gathered = Gathered {
-        marks: Vec::new(alloc),
-        part: before,
+        marks: Vec::new(context.alloc),
+        part: cursor.part.copy(context.alloc)?,
     };
-    for extent in from..view.extents {
-        let served = served_part(
-            alloc, rt, reach, gate, who, cursor, view, extent, bound, steps,
-        )?;
+    for extent in cursor.next..cursor.view.extents {
+        let served = served_part(context, reach, cursor, extent, wanted, steps)?;
         gathered.take(served)?;
     }
     Ok(gathered)
@@ -216,43 +195,44 @@ pub struct Answered {
     pub records: Records,
 }
 
-/// Serves a scan with an open cursor all extents from one on, behind what those before it gave, and answers the query over all
-/// rows that the cursor sees.
+impl Answered {
+    /// The reply with this answer at an SCN, which was settled at this place.
+    pub fn reply(self, place: u64, scn: u64) -> Reply
+        ensures { result ≡ served_reply place self.marks (body.Answer scn self.records) }
+    {
+        let Answered { marks, records } = self;
+        Reply {
+            place: Some(place),
+            marks,
+            body: Body::Answer { scn, records },
+        }
+    }
+}
+
+/// Serves a scan with an open cursor all extents from its next one on, and answers its query over all rows that the cursor sees.
 pub fn answer_scan<R: Wait, H: Reach<ColumnUnit>, G: Gate, L: Ledger>(
-    alloc: Global,
-    rt: &R,
+    context: &Context<R, G>,
     reach: &mut H,
-    gate: &G,
-    who: u32,
-    cursor: u32,
-    view: &View,
-    from: u64,
-    before: Partial,
-    bound: &Bound,
+    cursor: &Cursor,
     steps: &mut Steps<L>,
 ) -> Result<Answered, NoMemory>
-    requires session { who < NUMBERS }
-    requires speaks { speaks (H.known reach.old).side who ≡ true }
-    requires scan { IsScan who cursor view.now (H.known reach.old) }
-    requires asks { MayAskIn bound.now view.now (H.known reach.old) }
-    requires query { IsQuery bound.now }
-    requires from { from ≤ view.now.extents }
-    requires before { before ≡ group.partial bound.now (seen_to (H.known reach.old).log view.now from) }
+    requires session { context.now.who < NUMBERS }
+    requires speaks { speaks (H.known reach.old).side context.now.who ≡ true }
+    requires kept { IsKept context.now.who cursor.now (H.known reach.old) }
     ensures went { Went (H.known reach.old) (H.known reach.new) }
     ensures records { IfOk result (λ answered.
-        answered.records ≡ answer bound.now (seen_all (H.known reach.old).log view.now)) }
+        answered.records ≡ answer cursor.now.bound (seen_all (H.known reach.old).log cursor.now.view)) }
     ensures marks { IfOk result (λ answered. (k : ℕ) (on : List Mark → Plan Outcome) →
-        Comes who k (H.known reach.old) (plan.serve_from view.now bound.now.filter from on) (H.known reach.new)
-        (on answered.marks)) }
+        Comes context.now.who k (H.known reach.old) (plan.serve_from cursor.now.view cursor.now.bound.filter cursor.now.next on)
+        (H.known reach.new) (on answered.marks)) }
     ensures err { IfErr result (λ lacks. (k : ℕ) (on : List Mark → Plan Outcome) →
-        Stops who k (H.known reach.old) (plan.serve_from view.now bound.now.filter from on) (H.known reach.new)) }
-    ensures ticks { IsCounted who steps.old steps.new (H.known reach.old) (H.known reach.new) }
+        Stops context.now.who k (H.known reach.old) (plan.serve_from cursor.now.view cursor.now.bound.filter cursor.now.next on)
+        (H.known reach.new)) }
+    ensures ticks { IsCounted context.now.who steps.old steps.new (H.known reach.old) (H.known reach.new) }
 {
-    let gathered = gather(
-        alloc, rt, reach, gate, who, cursor, view, from, before, bound, steps,
-    )?;
+    let gathered = gather(context, reach, cursor, Wanted::Parts, steps)?;
     let Gathered { marks, part } = gathered;
-    let records = part.finish(alloc, bound)?;
+    let records = part.finish(context.alloc, &cursor.bound)?;
     Ok(Answered {
         marks: List::of(marks),
         records: Records::of(records),

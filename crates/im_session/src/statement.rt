@@ -11,8 +11,10 @@ ghost use Rattle.im_statements.specs.Outcomes.{State, said};
 ghost use Rattle.im_statements.specs.Statements as plan;
 ghost use Rattle.im_syntax.specs.Rules.{IsStmt};
 
+use crate::context::Context;
 use crate::definition::{NewTable, alter, create};
 use crate::refusals::{name_reply, out_of_memory};
+use im_edge::Gate;
 use im_history::Look;
 use im_names::{Resolved, resolve};
 use im_reach::Reach;
@@ -20,106 +22,97 @@ use im_replies::Reply;
 use im_syntax::Stmt;
 use im_unit::ColumnUnit;
 use im_values::limits::NUMBERS;
-use std::alloc::Global;
 use std::sync::Wait;
 
 /// CREATE TABLE and ALTER TABLE: an open transaction of the session is committed first, whether or not the statement is then
 /// refused, and its names are looked up behind that.
-pub fn define<R: Wait, H: Reach<ColumnUnit>>(
-    alloc: Global,
-    rt: &R,
+pub fn define<R: Wait, H: Reach<ColumnUnit>, G: Gate>(
+    context: &Context<R, G>,
     reach: &mut H,
-    who: u32,
     statement: &Stmt,
 ) -> Reply
-    requires session { who < NUMBERS }
-    requires speaks { speaks (H.known reach.old).side who ≡ true }
-    requires shut { is_cursor_open (H.known reach.old).log who 0 ≡ false }
+    requires session { context.now.who < NUMBERS }
+    requires speaks { speaks (H.known reach.old).side context.now.who ≡ true }
+    requires shut { is_cursor_open (H.known reach.old).log context.now.who 0 ≡ false }
     requires statement { IsStmt statement.now }
     requires definition { plan.is_definition statement.now ≡ true }
-    ensures { (state : State) → IsRest who 0 (H.known reach.old) (plan.definition_plan (H.known reach.old).limits who state statement.now)
+    ensures { (state : State) → IsRest context.now.who 0 (H.known reach.old) (plan.definition_plan (H.known reach.old).limits context.now.who state statement.now)
         (said result) (H.known reach.new) }
 {
-    let Ok(look) = reach.look(rt, who) else {
-        return out_of_memory(alloc, 0);
+    let Ok(look) = reach.look(context.rt, context.who) else {
+        return out_of_memory(context.alloc, 0);
     };
     if look.begun.is_none() {
-        return define_named(alloc, rt, reach, who, statement, &look, 0);
+        return define_named(context, reach, statement, &look, 0);
     }
-    match reach.commit(rt, who) {
-        Ok(_) => define_later(alloc, rt, reach, who, statement),
-        Err(_) => out_of_memory(alloc, 0),
+    match reach.commit(context.rt, context.who) {
+        Ok(_) => define_later(context, reach, statement),
+        Err(_) => out_of_memory(context.alloc, 0),
     }
 }
 
 /// Plays a definition once the line has committed.
-fn define_later<R: Wait, H: Reach<ColumnUnit>>(
-    alloc: Global,
-    rt: &R,
+fn define_later<R: Wait, H: Reach<ColumnUnit>, G: Gate>(
+    context: &Context<R, G>,
     reach: &mut H,
-    who: u32,
     statement: &Stmt,
 ) -> Reply
-    requires session { who < NUMBERS }
-    requires speaks { speaks (H.known reach.old).side who ≡ true }
-    requires shut { is_cursor_open (H.known reach.old).log who 0 ≡ false }
-    requires idle { is_open (H.known reach.old).log who ≡ false }
+    requires session { context.now.who < NUMBERS }
+    requires speaks { speaks (H.known reach.old).side context.now.who ≡ true }
+    requires shut { is_cursor_open (H.known reach.old).log context.now.who 0 ≡ false }
+    requires idle { is_open (H.known reach.old).log context.now.who ≡ false }
     requires statement { IsStmt statement.now }
     requires definition { plan.is_definition statement.now ≡ true }
-    ensures { (state : State) → IsRest who 1 (H.known reach.old) (plan.looked_up (H.known reach.old).limits who state statement.now)
+    ensures { (state : State) → IsRest context.now.who 1 (H.known reach.old) (plan.looked_up (H.known reach.old).limits context.now.who state statement.now)
         (said result) (H.known reach.new) }
 {
-    match reach.look(rt, who) {
-        Ok(look) => define_named(alloc, rt, reach, who, statement, &look, 1),
-        Err(_) => out_of_memory(alloc, 1),
+    match reach.look(context.rt, context.who) {
+        Ok(look) => define_named(context, reach, statement, &look, 1),
+        Err(_) => out_of_memory(context.alloc, 1),
     }
 }
 
 /// Plays a definition whose names are looked up at this look, once the line has made so many entries.
-fn define_named<R: Wait, H: Reach<ColumnUnit>>(
-    alloc: Global,
-    rt: &R,
+fn define_named<R: Wait, H: Reach<ColumnUnit>, G: Gate>(
+    context: &Context<R, G>,
     reach: &mut H,
-    who: u32,
     statement: &Stmt,
     look: &Look,
     entries: u64,
 ) -> Reply
-    requires session { who < NUMBERS }
-    requires speaks { speaks (H.known reach.old).side who ≡ true }
-    requires shut { is_cursor_open (H.known reach.old).log who 0 ≡ false }
-    requires idle { is_open (H.known reach.old).log who ≡ false }
+    requires session { context.now.who < NUMBERS }
+    requires speaks { speaks (H.known reach.old).side context.now.who ≡ true }
+    requires shut { is_cursor_open (H.known reach.old).log context.now.who 0 ≡ false }
+    requires idle { is_open (H.known reach.old).log context.now.who ≡ false }
     requires statement { IsStmt statement.now }
     requires definition { plan.is_definition statement.now ≡ true }
-    requires look { look.now ≡ look_at (H.known reach.old).log who }
+    requires look { look.now ≡ look_at (H.known reach.old).log context.now.who }
     requires few { entries ≤ 1 }
-    ensures { (state : State) → IsRest who entries (H.known reach.old)
-        (plan.named_plan (H.known reach.old).limits who state statement.now (H.known reach.old).log) (said result) (H.known reach.new) }
+    ensures { (state : State) → IsRest context.now.who entries (H.known reach.old)
+        (plan.named_plan (H.known reach.old).limits context.now.who state statement.now (H.known reach.old).log) (said result) (H.known reach.new) }
 {
-    match resolve(alloc, statement, look) {
-        Ok(resolved) => define_resolved(alloc, rt, reach, who, resolved, entries),
-        Err(fault) => name_reply(alloc, entries, look.place, fault),
+    match resolve(context.alloc, statement, look) {
+        Ok(resolved) => define_resolved(context, reach, resolved, entries),
+        Err(fault) => name_reply(context.alloc, entries, look.place, fault),
     }
 }
 
 /// Plays a definition whose names are found, once the line has made so many entries.
-fn define_resolved<R: Wait, H: Reach<ColumnUnit>>(
-    alloc: Global,
-    rt: &R,
+fn define_resolved<R: Wait, H: Reach<ColumnUnit>, G: Gate>(
+    context: &Context<R, G>,
     reach: &mut H,
-    who: u32,
     resolved: Resolved,
     entries: u64,
 ) -> Reply
-    requires session { who < NUMBERS }
-    requires speaks { speaks (H.known reach.old).side who ≡ true }
-    requires shut { is_cursor_open (H.known reach.old).log who 0 ≡ false }
-    requires idle { is_open (H.known reach.old).log who ≡ false }
+    requires session { context.now.who < NUMBERS }
+    requires speaks { speaks (H.known reach.old).side context.now.who ≡ true }
+    requires shut { is_cursor_open (H.known reach.old).log context.now.who 0 ≡ false }
+    requires idle { is_open (H.known reach.old).log context.now.who ≡ false }
     requires definition { defines resolved ≡ true }
     requires serves { Serves (tables (H.known reach.old).log) resolved }
     requires few { entries ≤ 1 }
-    ensures { (state : State) → IsRest who entries (H.known reach.old)
-        (plan.resolved_plan (H.known reach.old).limits who state (H.known reach.old).log resolved) (said result) (H.known reach.new) }
+    ensures { (state : State) → IsRest context.now.who entries (H.known reach.old)
+        (plan.resolved_plan (H.known reach.old).limits context.now.who state (H.known reach.old).log resolved) (said result) (H.known reach.new) }
 {
     match resolved {
         Resolved::Create {
@@ -128,10 +121,8 @@ fn define_resolved<R: Wait, H: Reach<ColumnUnit>>(
             shape,
             memory,
         } => create(
-            alloc,
-            rt,
+            context,
             reach,
-            who,
             NewTable {
                 name,
                 schema,
@@ -140,9 +131,7 @@ fn define_resolved<R: Wait, H: Reach<ColumnUnit>>(
             },
             entries,
         ),
-        Resolved::Memory { table, priority } => {
-            alter(alloc, rt, reach, who, table, priority, entries)
-        }
+        Resolved::Memory { table, priority } => { alter(context, reach, table, priority, entries) }
         Resolved::Select(_)
         | Resolved::Explain(_)
         | Resolved::Insert { .. }

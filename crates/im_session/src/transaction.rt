@@ -7,71 +7,70 @@ ghost use Rattle.im_statements.specs.Definitions as plan;
 ghost use Rattle.im_statements.specs.Outcomes.{said};
 ghost use Rattle.im_statements.specs.Transaction as after;
 
+use crate::context::Context;
 use crate::refusals::{out_of_memory, refused_reply};
 use crate::statement::is_definition;
+use im_edge::Gate;
 use im_history::{Look, Mode};
 use im_reach::Reach;
 use im_replies::{Body, Fault, Reply};
 use im_syntax::Stmt;
 use im_unit::ColumnUnit;
 use im_values::limits::NUMBERS;
-use std::alloc::Global;
 use std::sync::Wait;
 
 /// SET TRANSACTION: begins a transaction of a mode.
-pub fn set_mode<R: Wait, H: Reach<ColumnUnit>>(
-    alloc: Global,
-    rt: &R,
+pub fn set_mode<R: Wait, H: Reach<ColumnUnit>, G: Gate>(
+    context: &Context<R, G>,
     reach: &mut H,
-    who: u32,
     mode: Mode,
 ) -> Reply
-    requires session { who < NUMBERS }
-    requires speaks { speaks (H.known reach.old).side who ≡ true }
-    requires shut { is_cursor_open (H.known reach.old).log who 0 ≡ false }
-    ensures { IsRest who 0 (H.known reach.old) (plan.set_mode who mode) (said result) (H.known reach.new) }
+    requires session { context.now.who < NUMBERS }
+    requires speaks { speaks (H.known reach.old).side context.now.who ≡ true }
+    requires shut { is_cursor_open (H.known reach.old).log context.now.who 0 ≡ false }
+    ensures { IsRest context.now.who 0 (H.known reach.old) (plan.set_mode context.now.who mode) (said result) (H.known reach.new) }
 {
-    match reach.begin(rt, who, mode) {
-        Ok(begun) => Reply::settled(alloc, begun.place, Body::Begun { scn: begun.scn }),
-        Err(refused) => refused_reply(alloc, 0, refused),
+    match reach.begin(context.rt, context.who, mode) {
+        Ok(begun) => Reply::settled(context.alloc, begun.place, Body::Begun { scn: begun.scn }),
+        Err(refused) => refused_reply(context.alloc, 0, refused),
     }
 }
 
 /// COMMIT: commits what a session has pending.
-pub fn commit<R: Wait, H: Reach<ColumnUnit>>(
-    alloc: Global,
-    rt: &R,
+pub fn commit<R: Wait, H: Reach<ColumnUnit>, G: Gate>(
+    context: &Context<R, G>,
     reach: &mut H,
-    who: u32,
 ) -> Reply
-    requires session { who < NUMBERS }
-    requires speaks { speaks (H.known reach.old).side who ≡ true }
-    requires shut { is_cursor_open (H.known reach.old).log who 0 ≡ false }
-    ensures { IsRest who 0 (H.known reach.old) plan.commit (said result) (H.known reach.new) }
+    requires session { context.now.who < NUMBERS }
+    requires speaks { speaks (H.known reach.old).side context.now.who ≡ true }
+    requires shut { is_cursor_open (H.known reach.old).log context.now.who 0 ≡ false }
+    ensures { IsRest context.now.who 0 (H.known reach.old) plan.commit (said result) (H.known reach.new) }
 {
-    match reach.commit(rt, who) {
-        Ok(done) => Reply::settled(alloc, done.place, Body::Committed { scn: done.scn }),
-        Err(_) => out_of_memory(alloc, 0),
+    match reach.commit(context.rt, context.who) {
+        Ok(done) => Reply::settled(context.alloc, done.place, Body::Committed { scn: done.scn }),
+        Err(_) => out_of_memory(context.alloc, 0),
     }
 }
 
 /// ROLLBACK: rolls back what a session has pending, where a transaction of it was open at this look.
-pub fn roll_back<R: Wait, H: Reach<ColumnUnit>>(
-    alloc: Global,
-    rt: &R,
+pub fn roll_back<R: Wait, H: Reach<ColumnUnit>, G: Gate>(
+    context: &Context<R, G>,
     reach: &mut H,
-    who: u32,
     look: &Look,
 ) -> Reply
-    requires session { who < NUMBERS }
-    requires speaks { speaks (H.known reach.old).side who ≡ true }
-    requires look { look.now ≡ look_at (H.known reach.old).log who }
-    ensures { IsRest who 0 (H.known reach.old) (plan.roll_back who (H.known reach.old).log) (said result) (H.known reach.new) }
+    requires session { context.now.who < NUMBERS }
+    requires speaks { speaks (H.known reach.old).side context.now.who ≡ true }
+    requires look { look.now ≡ look_at (H.known reach.old).log context.now.who }
+    ensures { IsRest context.now.who 0 (H.known reach.old) (plan.roll_back context.now.who (H.known reach.old).log) (said result) (H.known reach.new) }
 {
     if look.begun.is_none() {
-        return Reply::settled(alloc, look.place, Body::RolledBack);
+        return Reply::settled(context.alloc, look.place, Body::RolledBack);
     }
-    Reply::settled(alloc, reach.rollback(rt, who), Body::RolledBack)
+    Reply::settled(
+        context.alloc,
+        reach.rollback(context.rt, context.who),
+        Body::RolledBack,
+    )
 }
 
 /// Whether a transaction of the session is open after a line, by the reply to it and by whether one was open before it. The history

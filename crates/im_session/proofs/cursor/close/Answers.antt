@@ -9,6 +9,6 @@ use Rattle.im_statements.specs.Turns.{settled_reply}
 
 pub returns : goal.returns
 returns g c =
-    decide_by-done c.args.who 0 (g.H.Reach.known c.args.reach.now) _ (λ here. Shut c.args.kept.now.number) _ (λ here.
+    decide_by-done c.args.context.now.who 0 (g.H.Reach.known c.args.reach.now) _ (λ here. Shut c.args.kept.now.number) _ (λ here.
     End (Replied (settled_reply (length here) (Closed c.args.kept.now.number)) (Closes c.args.kept.now.number))) _ c.shut-place.ensures.added
     (λ at fact. rw (c.settled.ensures, fact) refl)

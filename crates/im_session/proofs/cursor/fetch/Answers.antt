@@ -1,45 +1,36 @@
-use Rattle.std.proofs.Common.{◌∙◌, ap, arith, refl}
+use Rattle.std.proofs.Common.{ap, refl}
 use Rattle.im_history.specs.declared.entry.What.TheVariants.{Shut}
 use Rattle.im_history.specs.declared.look.Look.{Look}
 use Rattle.im_plan.specs.Plan.{End}
 use Rattle.im_session.specs.Cursors.{query_of}
-use Rattle.im_session.proofs.ReadsLemmas.{counted-within, longer-added, longer-same, none-counted}
+use Rattle.im_session.proofs.ReadsLemmas.{counted-within, longer-added, longer-same}
 use Rattle.im_session.proofs.CursorLemmas.{agrees-went}
 use Rattle.im_session.proofs.RestLemmas.{decide_by-done, rest-lacks_here}
 use Rattle.im_session.proofs.ScanLemmas.{open-went, speaks-went}
 use Rattle.im_session.proofs.cursor.fetch.Goals as goal
-use Rattle.im_statements.specs.Cursors.{close_with, fetch_query, fetch_reply}
+use Rattle.im_statements.specs.Cursors.{close_with, fetch_reply}
 use Rattle.im_statements.specs.Outcomes.{Closes, Replied, said}
 use Rattle.im_statements.specs.Turns.{memory_reply}
 
-pub returns-in_default-clause-rest : goal.returns-in_default-clause-rest
-returns-in_default-clause-rest g c =
-    rw c.out_of_memory.ensures
-    (rest-lacks_here c.args.who 0 (g.H.Reach.known c.args.reach.now)
-    (fetch_query (g.H.Reach.known c.args.reach.now).log (query_of c.args.kept.now)) c.requires.speaks c.requires.shut)
-
-pub answer_scan-requires-clause-before : goal.answer_scan-requires-clause-before
-answer_scan-requires-clause-before g c = c.in-Ok.ensures ∙ c.requires.agrees.sound.part
-
 pub shut-requires-clause-speaks : goal.shut-requires-clause-speaks
 shut-requires-clause-speaks g c =
-    speaks-went c.args.who (g.H.Reach.known c.args.reach.now) (g.H.Reach.known c.answer_scan.new.reach) c.in-Ok-answer_scan.ensures.went
+    speaks-went c.args.context.now.who (g.H.Reach.known c.args.reach.now) (g.H.Reach.known c.answer_scan.new.reach) c.in-Ok.ensures.went
     c.requires.speaks
 
 pub shut-requires-clause-cursor : goal.shut-requires-clause-cursor
 shut-requires-clause-cursor g c =
-    open-went c.args.who c.args.kept.now.number (g.H.Reach.known c.args.reach.now) (g.H.Reach.known c.answer_scan.new.reach) c.requires.speaks
-    c.in-Ok-answer_scan.ensures.went c.requires.agrees.scan.is_open
+    open-went c.args.context.now.who c.args.kept.now.number (g.H.Reach.known c.args.reach.now) (g.H.Reach.known c.answer_scan.new.reach) c.requires.speaks
+    c.in-Ok.ensures.went c.requires.agrees.scan.is_open
 
-pub returns-in-Ok-answer_scan-clause-rest : goal.returns-in-Ok-answer_scan-clause-rest
-returns-in-Ok-answer_scan-clause-rest g c =
+pub returns-in-Ok-clause-rest : goal.returns-in-Ok-clause-rest
+returns-in-Ok-clause-rest g c =
     let at = (g.H.Reach.known c.args.reach.now).log in
     let kept = query_of c.args.kept.now in
-    rw (c.in-Ok-answer_scan.ensures.records, ap (λ (l : Look). l.place) c.requires.look)
-    ((c.in-Ok-answer_scan.ensures.marks 0 (λ marks. close_with c.args.kept.now.number (λ here. fetch_reply at kept marks))).rest _
+    rw (c.reply.ensures, c.in-Ok.ensures.records, ap (λ (l : Look). l.place) c.requires.look)
+    ((c.in-Ok.ensures.marks 0 (λ marks. close_with c.args.kept.now.number (λ here. fetch_reply at kept marks))).rest _
     (g.H.Reach.known c.shut.new.self)
-    (decide_by-done c.args.who 0 (g.H.Reach.known c.answer_scan.new.reach) (g.H.Reach.known c.shut.new.self) (λ here. Shut c.args.kept.now.number) _
-    (λ here. End (Replied (fetch_reply at kept c.in-Ok-answer_scan.answered.marks) (Closes c.args.kept.now.number))) _ c.shut.ensures.added
+    (decide_by-done c.args.context.now.who 0 (g.H.Reach.known c.answer_scan.new.reach) (g.H.Reach.known c.shut.new.self) (λ here. Shut c.args.kept.now.number) _
+    (λ here. End (Replied (fetch_reply at kept c.in-Ok.answered.marks) (Closes c.args.kept.now.number))) _ c.shut.ensures.added
     (λ at fact. refl)))
 
 pub returns-in-Err-clause-rest : goal.returns-in-Err-clause-rest
@@ -47,26 +38,22 @@ returns-in-Err-clause-rest g c =
     let at = (g.H.Reach.known c.args.reach.now).log in
     let stops = c.in-Err.ensures.err 0 (λ marks.
     close_with c.args.kept.now.number (λ here. fetch_reply at (query_of c.args.kept.now) marks)) in
-    rw c.out_of_memory-in-Err.ensures
+    rw c.out_of_memory.ensures
     (stops.comes.rest (said (memory_reply 0)) (g.H.Reach.known c.answer_scan.new.reach)
-    (rest-lacks_here c.args.who 0 (g.H.Reach.known c.answer_scan.new.reach) stops.later
-    (speaks-went c.args.who (g.H.Reach.known c.args.reach.now) (g.H.Reach.known c.answer_scan.new.reach) c.in-Err.ensures.went c.requires.speaks)
-    (open-went c.args.who 0 (g.H.Reach.known c.args.reach.now) (g.H.Reach.known c.answer_scan.new.reach) c.requires.speaks c.in-Err.ensures.went
+    (rest-lacks_here c.args.context.now.who 0 (g.H.Reach.known c.answer_scan.new.reach) stops.later
+    (speaks-went c.args.context.now.who (g.H.Reach.known c.args.reach.now) (g.H.Reach.known c.answer_scan.new.reach) c.in-Err.ensures.went c.requires.speaks)
+    (open-went c.args.context.now.who 0 (g.H.Reach.known c.args.reach.now) (g.H.Reach.known c.answer_scan.new.reach) c.requires.speaks c.in-Err.ensures.went
     c.requires.shut)))
 
 pub returns-in-Err-clause-agrees : goal.returns-in-Err-clause-agrees
 returns-in-Err-clause-agrees g c = λ still.
-    agrees-went c.args.who c.args.kept.now (g.H.Reach.known c.args.reach.now) (g.H.Reach.known c.answer_scan.new.reach) c.requires.speaks
+    agrees-went c.args.context.now.who c.args.kept.now (g.H.Reach.known c.args.reach.now) (g.H.Reach.known c.answer_scan.new.reach) c.requires.speaks
     c.in-Err.ensures.went c.requires.agrees
 
-pub returns-in_default-clause-ticks : goal.returns-in_default-clause-ticks
-returns-in_default-clause-ticks g c =
-    none-counted c.args.who c.args.steps.now c.args.steps.now (g.H.Reach.known c.args.reach.now) (g.H.Reach.known c.args.reach.now) (omega arith)
-
-pub returns-in-Ok-answer_scan-clause-ticks : goal.returns-in-Ok-answer_scan-clause-ticks
-returns-in-Ok-answer_scan-clause-ticks g c =
-    counted-within c.args.who c.args.steps.now c.answer_scan.new.steps (g.H.Reach.known c.args.reach.now) (g.H.Reach.known c.args.reach.now)
+pub returns-in-Ok-clause-ticks : goal.returns-in-Ok-clause-ticks
+returns-in-Ok-clause-ticks g c =
+    counted-within c.args.context.now.who c.args.steps.now c.answer_scan.new.steps (g.H.Reach.known c.args.reach.now) (g.H.Reach.known c.args.reach.now)
     (g.H.Reach.known c.answer_scan.new.reach) (g.H.Reach.known c.shut.new.self)
     (longer-same (g.H.Reach.known c.args.reach.now))
-    (longer-added c.args.who (g.H.Reach.known c.answer_scan.new.reach) (g.H.Reach.known c.shut.new.self) _ _ c.shut.ensures.added)
-    c.in-Ok-answer_scan.ensures.ticks
+    (longer-added c.args.context.now.who (g.H.Reach.known c.answer_scan.new.reach) (g.H.Reach.known c.shut.new.self) _ _ c.shut.ensures.added)
+    c.in-Ok.ensures.ticks

@@ -1,76 +1,57 @@
-use Rattle.std.proofs.Common.{◌≡◌, ◌∙◌, false, length, true, ap, refl, sym, subst}
+use Rattle.std.proofs.Common.{◌≡◌, ◌∙◌, ℕ, true, false, ap, length, sym, subst}
 use Rattle.im_history.specs.Cursors.{is_cursor_open}
 use Rattle.im_history.specs.declared.entry.What.TheVariants.{Open}
 use Rattle.im_history.specs.declared.view.View.{View}
 use Rattle.im_history.specs.Refusals.{open_refusal}
 use Rattle.im_history.specs.Views.{view_at}
-use Rattle.im_names.specs.Fitting.{QueryServes}
 use Rattle.im_plan.specs.Plan.{End}
 use Rattle.im_replies.specs.declared.body.Body.TheVariants.{Opened}
 use Rattle.im_replies.specs.declared.reply.Reply.{Reply}
 use Rattle.im_replies.specs.Causes.{opening_fault}
 use Rattle.im_session.specs.declared.cursor.Cursor.{Cursor}
-use Rattle.im_session.specs.inner.Cursors.{IsKept}
-use Rattle.im_session.proofs.CursorLemmas.{agrees-opened}
-use Rattle.im_session.proofs.OpeningLemmas.{added-fresh}
-use Rattle.im_session.proofs.RestLemmas.{decide-done, rest-lacks_here, rest-refused}
-use Rattle.im_session.proofs.TableLemmas.{exists-of}
+use Rattle.im_session.specs.Cursors.{query_of}
+use Rattle.im_session.specs.inner.Rests.{IsRest}
+use Rattle.im_session.proofs.OpeningLemmas.{added-fresh, unopened-rest}
+use Rattle.im_session.proofs.RestLemmas.{decide-done}
 use Rattle.im_session.proofs.cursor.open_query.Goals as goal
 use Rattle.im_statements.specs.Cursors.{open_query}
 use Rattle.im_statements.specs.Outcomes.{Opens, Replied}
 use Rattle.im_statements.specs.Turns.{settled_reply}
 
-pub returns-in_default-clause-rest : goal.returns-in_default-clause-rest
-returns-in_default-clause-rest g c =
-    rw c.out_of_memory.ensures
-    (rest-lacks_here c.args.who 0 (g.H.Reach.known c.args.reach.now) (open_query c.args.who c.args.cursor c.args.bound) c.requires.speaks
-    c.requires.shut)
-
-pub open_cursor-requires-clause-exists : goal.open_cursor-requires-clause-exists
-open_cursor-requires-clause-exists g c =
-    exists-of (g.H.Reach.known c.args.reach.now).log c.args.bound.table (QueryServes c.args.bound) c.requires.serves
-
-pub returns-in-Ok-open_cursor-clause-rest : goal.returns-in-Ok-open_cursor-clause-rest
-returns-in-Ok-open_cursor-clause-rest g c =
-    decide-done c.args.who 0 (g.H.Reach.known c.args.reach.now) (g.H.Reach.known c.open_cursor.new.self) (opening_fault c.args.cursor)
-    (λ at. open_refusal at c.args.who c.args.cursor) (λ at. Open c.args.cursor c.args.bound.table) _
-    (λ at. End (Replied
-    (settled_reply (length at)
-    (Opened c.args.cursor (view_at at c.args.who c.args.bound.table).scn (view_at at c.args.who c.args.bound.table).extents))
-    (Opens (record { cursor = c.args.cursor; bound = c.args.bound; view = view_at at c.args.who c.args.bound.table; next = 0 })))) _
-    c.in-Ok-open_cursor.ensures.ok (λ at fact. fact.0)
+pub returns-in-Ok-clause-rest : goal.returns-in-Ok-clause-rest
+returns-in-Ok-clause-rest g c =
+    let number = c.args.number in
+    let bound = c.args.bound in
+    let who = c.args.context.now.who in
+    subst (λ (k : Cursor). IsRest who 0 (g.H.Reach.known c.args.reach.now) (open_query who number bound)
+    (Replied c.settled.result (Opens (query_of k))) (g.H.Reach.known c.open_cursor.new.reach)) (sym c.in-Ok.ensures.opened.is)
+    (decide-done who 0 (g.H.Reach.known c.args.reach.now) (g.H.Reach.known c.open_cursor.new.reach) (opening_fault number)
+    (λ at. open_refusal at who number) (λ at. Open number bound.table) _
+    (λ at. End (Replied (settled_reply (length at) (Opened number (view_at at who bound.table).scn (view_at at who bound.table).extents))
+    (Opens (record { cursor = number; bound = bound; view = view_at at who bound.table; next = 0 })))) _
+    c.in-Ok.ensures.opened.added (λ at fact. fact.0)
     (λ at fact.
-    ap (λ (v : View). End (Replied (settled_reply v.place (Opened c.args.cursor v.scn v.extents))
-    (Opens (record { cursor = c.args.cursor; bound = c.args.bound; view = v; next = 0 })))) (sym fact.1)
-    ∙ ap (λ (reply : Reply).
-    End (Replied reply (Opens (record { cursor = c.args.cursor; bound = c.args.bound; view = c.in-Ok-open_cursor.view; next = 0 })))) (sym c.settled.ensures))
+    ap (λ (v : View). End (Replied (settled_reply v.place (Opened number v.scn v.extents))
+    (Opens (record { cursor = number; bound = bound; view = v; next = 0 })))) (sym fact.1)
+    ∙ ap (λ (reply : Reply). End (Replied reply (Opens (record { cursor = number; bound = bound; view = c.in-Ok.cursor.view; next = 0 }))))
+    (sym c.settled.ensures)))
 
-pub returns-in-Ok-open_cursor-clause-agrees : goal.returns-in-Ok-open_cursor-clause-agrees
-returns-in-Ok-open_cursor-clause-agrees g c = λ x is.
-    let kept : Cursor = record
-    { number = c.args.cursor; bound = c.args.bound; view = c.in-Ok-open_cursor.view; next = 0; part = c.in-Ok.part } in
-    let same : kept ≡ x = cc in
-    subst (λ (k : Cursor). IsKept c.args.who k (g.H.Reach.known c.open_cursor.new.self)) same
-    (agrees-opened c.args.who kept (g.H.Reach.known c.args.reach.now) (g.H.Reach.known c.open_cursor.new.self) c.in-Ok-open_cursor.ensures.ok
-    c.in-Ok-open_cursor.ensures.lawful c.requires.serves c.in-Ok-open_cursor.ensures.few c.in-Ok-open_cursor.ensures.some refl c.in-Ok.ensures)
+pub returns-in-Ok-clause-fresh : goal.returns-in-Ok-clause-fresh
+returns-in-Ok-clause-fresh g c = λ x is.
+    let same : c.in-Ok.cursor ≡ x = cc in
+    let number : c.in-Ok.cursor.number ≡ c.args.number = ap (λ (k : Cursor). k.number) c.in-Ok.ensures.opened.is in
+    subst (λ (k : Cursor). is_cursor_open (g.H.Reach.known c.args.reach.now).log c.args.context.now.who k.number ≡ false) same
+    (ap (λ (n : ℕ). is_cursor_open (g.H.Reach.known c.args.reach.now).log c.args.context.now.who n) number
+    ∙ added-fresh c.args.context.now.who c.args.number c.args.bound.table (g.H.Reach.known c.args.reach.now) (g.H.Reach.known c.open_cursor.new.reach) _
+    c.in-Ok.ensures.opened.added c.requires.speaks)
 
 pub returns-in-Err-clause-rest : goal.returns-in-Err-clause-rest
 returns-in-Err-clause-rest g c =
+    let number = c.args.number in
+    let bound = c.args.bound in
+    let who = c.args.context.now.who in
     rw c.opening_refused.ensures
-    (rest-refused c.args.who 0 (g.H.Reach.known c.args.reach.now) (g.H.Reach.known c.open_cursor.new.self) true (opening_fault c.args.cursor)
-    (λ at. open_refusal at c.args.who c.args.cursor) (λ at. Open c.args.cursor c.args.bound.table)
-    (λ at. End (Replied
-    (settled_reply (length at)
-    (Opened c.args.cursor (view_at at c.args.who c.args.bound.table).scn (view_at at c.args.who c.args.bound.table).extents))
-    (Opens (record { cursor = c.args.cursor; bound = c.args.bound; view = view_at at c.args.who c.args.bound.table; next = 0 })))) c.in-Err.refused
-    c.requires.speaks c.requires.shut
-    c.in-Err.ensures.err)
-
-pub returns-in-Ok-open_cursor-clause-fresh : goal.returns-in-Ok-open_cursor-clause-fresh
-returns-in-Ok-open_cursor-clause-fresh g c = λ x is.
-    let kept : Cursor = record
-    { number = c.args.cursor; bound = c.args.bound; view = c.in-Ok-open_cursor.view; next = 0; part = c.in-Ok.part } in
-    let same : kept ≡ x = cc in
-    subst (λ (k : Cursor). is_cursor_open (g.H.Reach.known c.args.reach.now).log c.args.who k.number ≡ false) same
-    (added-fresh c.args.who c.args.cursor c.args.bound.table (g.H.Reach.known c.args.reach.now) (g.H.Reach.known c.open_cursor.new.self) _
-    c.in-Ok-open_cursor.ensures.ok c.requires.speaks)
+    (unopened-rest who 0 number bound.table (g.H.Reach.known c.args.reach.now) (g.H.Reach.known c.open_cursor.new.reach) true (opening_fault number)
+    (λ at. End (Replied (settled_reply (length at) (Opened number (view_at at who bound.table).scn (view_at at who bound.table).extents))
+    (Opens (record { cursor = number; bound = bound; view = view_at at who bound.table; next = 0 }))))
+    c.in-Err.refused c.requires.speaks c.requires.shut c.in-Err.ensures.err)

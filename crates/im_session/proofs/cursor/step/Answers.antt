@@ -9,44 +9,44 @@ use Rattle.im_statements.specs.Cursors.{step_query}
 
 pub take-requires-clause-few : goal.take-requires-clause-few
 take-requires-clause-few g c =
-    agrees-merges c.args.who c.args.kept.now c.in-Ok.served.part (g.H.Reach.known c.args.reach.now) c.requires.agrees c.in-Ok.ensures.part
+    agrees-merges c.args.context.now.who c.args.kept.now c.in-Ok.served.part (g.H.Reach.known c.args.reach.now) c.requires.agrees c.in-Ok.ensures.part
 
 pub returns-in-Ok-clause-rest : goal.returns-in-Ok-clause-rest
 returns-in-Ok-clause-rest g c =
-    step-serves c.args.who c.take.result.served c.args.kept.now c.in-Ok.served.mark (g.H.Reach.known c.args.reach.now)
+    step-serves c.args.context.now.who c.take.result.served c.args.kept.now c.in-Ok.served.mark (g.H.Reach.known c.args.reach.now)
     (g.H.Reach.known c.served_part.new.reach) c.take.result.reply c.requires.speaks c.requires.shut c.in-Ok.ensures.went
     c.if-kept.false c.in-Ok.ensures.mark c.take.ensures.reply
 
 pub returns-in-Ok-clause-agrees : goal.returns-in-Ok-clause-agrees
 returns-in-Ok-clause-agrees g c =
-    agrees-after c.args.who c.take.result.served c.args.kept.now c.take.new.kept c.in-Ok.served.part (g.H.Reach.known c.args.reach.now)
+    agrees-after c.args.context.now.who c.take.result.served c.args.kept.now c.take.new.kept c.in-Ok.served.part (g.H.Reach.known c.args.reach.now)
     (g.H.Reach.known c.served_part.new.reach) c.requires.speaks c.in-Ok.ensures.went c.requires.agrees c.if-kept.false c.in-Ok.ensures.part
     c.take.ensures.kept
 
 pub returns-in-Err-clause-rest : goal.returns-in-Err-clause-rest
 returns-in-Err-clause-rest g c =
     rw c.out_of_memory.ensures
-    (rest-lacks c.args.who 0 (g.H.Reach.known c.args.reach.now) (g.H.Reach.known c.served_part.new.reach) _
+    (rest-lacks c.args.context.now.who 0 (g.H.Reach.known c.args.reach.now) (g.H.Reach.known c.served_part.new.reach) _
     (step_query (g.H.Reach.known c.args.reach.now).log (query_of c.args.kept.now)) c.requires.speaks c.requires.shut
     (found-went (g.H.Reach.known c.args.reach.now) (g.H.Reach.known c.served_part.new.reach) c.in-Err.ensures.went))
 
 pub returns-in-Err-clause-agrees : goal.returns-in-Err-clause-agrees
 returns-in-Err-clause-agrees g c =
-    agrees-went c.args.who c.args.kept.now (g.H.Reach.known c.args.reach.now) (g.H.Reach.known c.served_part.new.reach) c.requires.speaks
+    agrees-went c.args.context.now.who c.args.kept.now (g.H.Reach.known c.args.reach.now) (g.H.Reach.known c.served_part.new.reach) c.requires.speaks
     c.in-Err.ensures.went c.requires.agrees
 
 pub returns-then-kept-clause-ticks : goal.returns-then-kept-clause-ticks
 returns-then-kept-clause-ticks g c =
-    none-counted c.args.who c.args.steps.now c.args.steps.now (g.H.Reach.known c.args.reach.now) (g.H.Reach.known c.args.reach.now) (omega arith)
+    none-counted c.args.context.now.who c.args.steps.now c.args.steps.now (g.H.Reach.known c.args.reach.now) (g.H.Reach.known c.args.reach.now) (omega arith)
 
 pub returns-in-Ok-clause-ticks : goal.returns-in-Ok-clause-ticks
 returns-in-Ok-clause-ticks g c =
-    read-counted c.args.who c.args.kept.now.number c.args.kept.now.view c.args.kept.now.next (c.args.kept.now.next + 1) c.args.steps.now
+    read-counted c.args.context.now.who c.args.kept.now.number c.args.kept.now.view c.args.kept.now.next (c.args.kept.now.next + 1) c.args.steps.now
     c.served_part.new.steps (g.H.Reach.known c.args.reach.now) (g.H.Reach.known c.served_part.new.reach)
     (let within = c.if-kept.false in omega (arith, within)) c.in-Ok.ensures.ticks
 
 pub returns-in-Err-clause-ticks : goal.returns-in-Err-clause-ticks
 returns-in-Err-clause-ticks g c =
-    read-counted c.args.who c.args.kept.now.number c.args.kept.now.view c.args.kept.now.next (c.args.kept.now.next + 1) c.args.steps.now
+    read-counted c.args.context.now.who c.args.kept.now.number c.args.kept.now.view c.args.kept.now.next (c.args.kept.now.next + 1) c.args.steps.now
     c.served_part.new.steps (g.H.Reach.known c.args.reach.now) (g.H.Reach.known c.served_part.new.reach)
     (let within = c.if-kept.false in omega (arith, within)) c.in-Err.ensures.ticks

@@ -11,22 +11,22 @@ use Rattle.im_statements.specs.Writes.{write_or_end, written}
 
 pub write_changes-requires-clause-may : goal.write_changes-requires-clause-may
 write_changes-requires-clause-may g c = λ some.
-    subst (λ (changes : List Change). MayWrite (g.H.Reach.known c.args.reach.now).log c.args.who 0 changes) (sym c.in-Ok.ensures)
-    (may-rewrite c.args.who c.args.rewriting.now c.args.view.now c.args.rows.items (g.H.Reach.known c.args.reach.now) c.requires.scan c.requires.may
+    subst (λ (changes : List Change). MayWrite (g.H.Reach.known c.args.reach.now).log c.args.context.now.who 0 changes) (sym c.in-Ok.ensures)
+    (may-rewrite c.args.context.now.who c.args.rewriting.now c.args.view.now c.args.rows.items (g.H.Reach.known c.args.reach.now) c.requires.scan c.requires.may
     c.requires.rows (subst (λ (changes : List Change). 1 ≤ length changes) c.in-Ok.ensures some))
 
 pub returns-in-Ok-clause-rest : goal.returns-in-Ok-clause-rest
 returns-in-Ok-clause-rest g c = λ late shut.
     subst (λ (changes : List Change).
-    IsRest c.args.who 1 (g.H.Reach.known c.args.reach.now)
-    (write_or_end (g.H.Reach.known c.args.reach.now).limits c.args.who c.args.view.now.place c.args.view.now.scn c.args.marks changes
+    IsRest c.args.context.now.who 1 (g.H.Reach.known c.args.reach.now)
+    (write_or_end (g.H.Reach.known c.args.reach.now).limits c.args.context.now.who c.args.view.now.place c.args.view.now.scn c.args.marks changes
     (written c.args.rewriting.now)) (said c.write_changes.result) late)
     c.in-Ok.ensures (c.write_changes.ensures.rest late shut)
 
 pub returns-in-Err-clause-rest : goal.returns-in-Err-clause-rest
 returns-in-Err-clause-rest g c = λ late shut.
     rw c.out_of_memory.ensures
-    (scan-lacks c.args.who 1 (g.H.Reach.known c.args.reach.now) late _ c.requires.speaks c.requires.scan.is_open shut)
+    (scan-lacks c.args.context.now.who 1 (g.H.Reach.known c.args.reach.now) late _ c.requires.speaks c.requires.scan.is_open shut)
 
 pub returns-in-Err-clause-longer : goal.returns-in-Err-clause-longer
 returns-in-Err-clause-longer g c = longer-same (g.H.Reach.known c.args.reach.now)

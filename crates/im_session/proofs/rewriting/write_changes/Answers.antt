@@ -15,12 +15,12 @@ pub returns-then-is_empty-clause-rest : goal.returns-then-is_empty-clause-rest
 returns-then-is_empty-clause-rest g c = λ late shut.
     let none : c.args.changes.items ≡ [] = grind (arith, common_steps, c.if-is_empty.ensures) in
     rw (none, c.written.ensures)
-    (scan-ended c.args.who 1 (g.H.Reach.known c.args.reach.now) late
+    (scan-ended c.args.context.now.who 1 (g.H.Reach.known c.args.reach.now) late
     (served_reply c.args.view.now.place c.args.marks (written c.args.rewriting.now 0)) shut)
 
 pub returns-in-Ok-clause-cursor : goal.returns-in-Ok-clause-cursor
 returns-in-Ok-clause-cursor g c =
-    open-wrote c.args.who (g.H.Reach.known c.args.reach.now) (g.H.Reach.known c.write.new.self) c.args.changes.items _ c.requires.speaks
+    open-wrote c.args.context.now.who (g.H.Reach.known c.args.reach.now) (g.H.Reach.known c.write.new.self) c.args.changes.items _ c.requires.speaks
     c.requires.scan.is_open c.in-Ok.ensures.ok
 
 pub returns-in-Ok-clause-rest : goal.returns-in-Ok-clause-rest
@@ -28,17 +28,17 @@ returns-in-Ok-clause-rest g c = λ late shut.
     let some : 1 ≤ length c.args.changes.items = grind (arith, common_steps, c.if-is_empty.ensures) in
     rw (c.written-in-Ok.ensures, c.len-rows.ensures ∙ c.args.changes.ok.0)
     (subst (λ (p : Plan Outcome).
-    IsRest c.args.who 1 (g.H.Reach.known c.args.reach.now) p
+    IsRest c.args.context.now.who 1 (g.H.Reach.known c.args.reach.now) p
     (said (served_reply c.in-Ok.place c.args.marks (written c.args.rewriting.now (length c.args.changes.items)))) late)
-    (sym (some-write c.args.who (g.H.Reach.known c.args.reach.now).limits c.args.view.now.place c.args.view.now.scn c.args.marks c.args.changes.items
+    (sym (some-write c.args.context.now.who (g.H.Reach.known c.args.reach.now).limits c.args.view.now.place c.args.view.now.scn c.args.marks c.args.changes.items
     (written c.args.rewriting.now) some))
-    (write-done c.args.who 1 (g.H.Reach.known c.args.reach.now) (g.H.Reach.known c.write.new.self) late c.args.view.now c.args.marks
+    (write-done c.args.context.now.who 1 (g.H.Reach.known c.args.reach.now) (g.H.Reach.known c.write.new.self) late c.args.view.now c.args.marks
     c.args.changes.items (written c.args.rewriting.now (length c.args.changes.items)) c.requires.speaks c.requires.scan shut c.in-Ok.place
     c.in-Ok.ensures.ok))
 
 pub returns-in-Err-clause-cursor : goal.returns-in-Err-clause-cursor
 returns-in-Err-clause-cursor g c =
-    open-went c.args.who 0 (g.H.Reach.known c.args.reach.now) (g.H.Reach.known c.write.new.self) c.requires.speaks
+    open-went c.args.context.now.who 0 (g.H.Reach.known c.args.reach.now) (g.H.Reach.known c.write.new.self) c.requires.speaks
     (went-found (g.H.Reach.known c.args.reach.now) (g.H.Reach.known c.write.new.self) _ c.in-Err.ensures.err) c.requires.scan.is_open
 
 pub returns-in-Err-clause-rest : goal.returns-in-Err-clause-rest
@@ -46,10 +46,10 @@ returns-in-Err-clause-rest g c = λ late shut.
     let some : 1 ≤ length c.args.changes.items = grind (arith, common_steps, c.if-is_empty.ensures) in
     rw c.write_refused.ensures
     (subst (λ (p : Plan Outcome).
-    IsRest c.args.who 1 (g.H.Reach.known c.args.reach.now) p (said (write_reply 1 c.in-Err.refused.place c.args.marks c.in-Err.refused.why)) late)
-    (sym (some-write c.args.who (g.H.Reach.known c.args.reach.now).limits c.args.view.now.place c.args.view.now.scn c.args.marks c.args.changes.items
+    IsRest c.args.context.now.who 1 (g.H.Reach.known c.args.reach.now) p (said (write_reply 1 c.in-Err.refused.place c.args.marks c.in-Err.refused.why)) late)
+    (sym (some-write c.args.context.now.who (g.H.Reach.known c.args.reach.now).limits c.args.view.now.place c.args.view.now.scn c.args.marks c.args.changes.items
     (written c.args.rewriting.now) some))
-    (write-told c.args.who 1 (g.H.Reach.known c.args.reach.now) (g.H.Reach.known c.write.new.self) late c.args.view.now c.args.marks
+    (write-told c.args.context.now.who 1 (g.H.Reach.known c.args.reach.now) (g.H.Reach.known c.write.new.self) late c.args.view.now c.args.marks
     c.args.changes.items (written c.args.rewriting.now (length c.args.changes.items)) c.requires.speaks c.requires.scan shut c.in-Err.refused
     c.in-Err.ensures.err))
 
@@ -57,7 +57,7 @@ pub returns-then-is_empty-clause-longer : goal.returns-then-is_empty-clause-long
 returns-then-is_empty-clause-longer g c = longer-same (g.H.Reach.known c.args.reach.now)
 
 pub returns-in-Ok-clause-longer : goal.returns-in-Ok-clause-longer
-returns-in-Ok-clause-longer g c = longer-added c.args.who (g.H.Reach.known c.args.reach.now) (g.H.Reach.known c.write.new.self) _ _ c.in-Ok.ensures.ok
+returns-in-Ok-clause-longer g c = longer-added c.args.context.now.who (g.H.Reach.known c.args.reach.now) (g.H.Reach.known c.write.new.self) _ _ c.in-Ok.ensures.ok
 
 pub returns-in-Err-clause-longer : goal.returns-in-Err-clause-longer
 returns-in-Err-clause-longer g c = longer-found (g.H.Reach.known c.args.reach.now) (g.H.Reach.known c.write.new.self) _ c.in-Err.ensures.err

@@ -2,22 +2,18 @@ use Rattle.std.proofs.Common.{◌+◌, ◌-◌, ◌∙◌, [], ◌∷◌, ◌++�
 use Rattle.im_replies.specs.declared.served.Served.{Served}
 use Rattle.im_plan.specs.Plan.{Plan}
 use Rattle.im_session.specs.inner.Scans.{Comes, Stops}
-use Rattle.im_session.proofs.ReadsLemmas.{more-read, read-counted}
-use Rattle.im_session.proofs.ScanLemmas.{asks-went, comes-last, comes-next, longer-went, scan-went, stops-went, went-on}
+use Rattle.im_session.proofs.CursorLemmas.{agrees-went}
+use Rattle.im_session.proofs.ReadsLemmas.{more-read, none-counted, read-counted}
+use Rattle.im_session.proofs.ScanLemmas.{comes-last, comes-next, longer-went, stops-went, went-on}
 use Rattle.im_session.proofs.ServingLemmas.{err-always, part-all, part-merges, part-next}
 use Rattle.im_session.proofs.serving.gather.Goals as goal
 use Rattle.im_statements.specs.Outcomes.{Outcome}
 use Rattle.im_statements.specs.Scans.{serve, serve_from}
 
-pub served_part-requires-clause-scan : goal.served_part-requires-clause-scan
-served_part-requires-clause-scan g c =
-    scan-went c.args.who c.args.cursor c.args.view.now (g.H.Reach.known c.args.reach.now) (g.H.Reach.known c.loop-extent.reach) c.requires.speaks
-    c.loop-extent.invariant.went c.requires.scan
-
-pub served_part-requires-clause-asks : goal.served_part-requires-clause-asks
-served_part-requires-clause-asks g c =
-    asks-went c.args.bound.now c.args.view.now (g.H.Reach.known c.args.reach.now) (g.H.Reach.known c.loop-extent.reach) c.loop-extent.invariant.went
-    c.requires.asks
+pub served_part-requires-clause-kept : goal.served_part-requires-clause-kept
+served_part-requires-clause-kept g c =
+    agrees-went c.args.context.now.who c.args.cursor.now (g.H.Reach.known c.args.reach.now) (g.H.Reach.known c.loop-extent.reach) c.requires.speaks
+    c.loop-extent.invariant.went c.requires.kept
 
 pub returns-in_err-served-clause-went : goal.returns-in_err-served-clause-went
 returns-in_err-served-clause-went g c =
@@ -27,12 +23,12 @@ returns-in_err-served-clause-went g c =
 pub returns-in_err-served-clause-err : goal.returns-in_err-served-clause-err
 returns-in_err-served-clause-err g c =
     let stops : (k : ℕ) (on : List Served → Plan Outcome)
-    → Stops c.args.who k (g.H.Reach.known c.args.reach.now) (serve_from c.args.view.now c.args.bound.now.filter c.args.from on)
+    → Stops c.args.context.now.who k (g.H.Reach.known c.args.reach.now) (serve_from c.args.cursor.now.view c.args.cursor.now.bound.filter c.args.cursor.now.next on)
     (g.H.Reach.known c.served_part.new.reach) =
     λ k on.
-    stops-went c.args.who k (g.H.Reach.known c.args.reach.now) (g.H.Reach.known c.loop-extent.reach) (g.H.Reach.known c.served_part.new.reach)
-    (serve_from c.args.view.now c.args.bound.now.filter c.args.from on)
-    (serve c.args.view.now c.args.bound.now.filter (c.args.view.now.extents - c.loop-extent.extent) c.loop-extent.extent
+    stops-went c.args.context.now.who k (g.H.Reach.known c.args.reach.now) (g.H.Reach.known c.loop-extent.reach) (g.H.Reach.known c.served_part.new.reach)
+    (serve_from c.args.cursor.now.view c.args.cursor.now.bound.filter c.args.cursor.now.next on)
+    (serve c.args.cursor.now.view c.args.cursor.now.bound.filter (c.args.cursor.now.view.extents - c.loop-extent.extent) c.loop-extent.extent
     c.loop-extent.gathered.marks.items on)
     c.in_err-served.ensures.went (c.loop-extent.invariant.comes k on) in
     err-always _ _ (λ error. stops)
@@ -40,9 +36,9 @@ returns-in_err-served-clause-err g c =
 pub take-requires : goal.take-requires
 take-requires g c = record {
   few =
-      part-merges c.args.bound.now c.args.view.now c.loop-extent.extent (g.H.Reach.known c.args.reach.now) (g.H.Reach.known c.loop-extent.reach)
-      c.loop-extent.gathered.part c.in_ok-served.served.part c.requires.scan.sees.known c.loop-extent.invariant.went c.loop-extent.invariant.part
-      c.in_ok-served.ensures.part (let few = c.requires.scan.sees.few in omega (arith, few));
+      part-merges c.args.wanted c.args.cursor.now.bound c.args.cursor.now.view c.loop-extent.extent (g.H.Reach.known c.args.reach.now) (g.H.Reach.known c.loop-extent.reach)
+      c.loop-extent.gathered.part c.in_ok-served.served.part c.requires.kept.scan.sees.known c.loop-extent.invariant.went c.loop-extent.invariant.part
+      c.in_ok-served.ensures.part (let few = c.requires.kept.scan.sees.few in omega (arith, few));
 }
 
 pub returns-in_err-take-clause-went : goal.returns-in_err-take-clause-went
@@ -53,12 +49,12 @@ returns-in_err-take-clause-went g c =
 pub returns-in_err-take-clause-err : goal.returns-in_err-take-clause-err
 returns-in_err-take-clause-err g c =
     let stops : (k : ℕ) (on : List Served → Plan Outcome)
-    → Stops c.args.who k (g.H.Reach.known c.args.reach.now) (serve_from c.args.view.now c.args.bound.now.filter c.args.from on)
+    → Stops c.args.context.now.who k (g.H.Reach.known c.args.reach.now) (serve_from c.args.cursor.now.view c.args.cursor.now.bound.filter c.args.cursor.now.next on)
     (g.H.Reach.known c.served_part.new.reach) =
     λ k on.
-    stops-went c.args.who k (g.H.Reach.known c.args.reach.now) (g.H.Reach.known c.loop-extent.reach) (g.H.Reach.known c.served_part.new.reach)
-    (serve_from c.args.view.now c.args.bound.now.filter c.args.from on)
-    (serve c.args.view.now c.args.bound.now.filter (c.args.view.now.extents - c.loop-extent.extent) c.loop-extent.extent
+    stops-went c.args.context.now.who k (g.H.Reach.known c.args.reach.now) (g.H.Reach.known c.loop-extent.reach) (g.H.Reach.known c.served_part.new.reach)
+    (serve_from c.args.cursor.now.view c.args.cursor.now.bound.filter c.args.cursor.now.next on)
+    (serve c.args.cursor.now.view c.args.cursor.now.bound.filter (c.args.cursor.now.view.extents - c.loop-extent.extent) c.loop-extent.extent
     c.loop-extent.gathered.marks.items on)
     c.in_ok-served.ensures.went (c.loop-extent.invariant.comes k on) in
     err-always _ _ (λ error. stops)
@@ -69,19 +65,19 @@ loop-extent-preserved g c = record {
       c.loop-extent.invariant.went c.in_ok-served.ensures.went;
   part =
       c.in_ok-take.ensures.part
-      ∙ part-next c.args.bound.now c.args.view.now c.loop-extent.extent (g.H.Reach.known c.args.reach.now) (g.H.Reach.known c.loop-extent.reach)
-      c.loop-extent.gathered.part c.in_ok-served.served.part c.requires.scan.sees.known c.loop-extent.invariant.went c.loop-extent.invariant.part
+      ∙ part-next c.args.wanted c.args.cursor.now.bound c.args.cursor.now.view c.loop-extent.extent (g.H.Reach.known c.args.reach.now) (g.H.Reach.known c.loop-extent.reach)
+      c.loop-extent.gathered.part c.in_ok-served.served.part c.requires.kept.scan.sees.known c.loop-extent.invariant.went c.loop-extent.invariant.part
       c.in_ok-served.ensures.part;
   comes = λ k on.
       subst (λ (marks : List Served).
-      Comes c.args.who k (g.H.Reach.known c.args.reach.now) (serve_from c.args.view.now c.args.bound.now.filter c.args.from on)
+      Comes c.args.context.now.who k (g.H.Reach.known c.args.reach.now) (serve_from c.args.cursor.now.view c.args.cursor.now.bound.filter c.args.cursor.now.next on)
       (g.H.Reach.known c.served_part.new.reach)
-      (serve c.args.view.now c.args.bound.now.filter (c.args.view.now.extents - (c.loop-extent.extent + 1)) (c.loop-extent.extent + 1) marks on))
+      (serve c.args.cursor.now.view c.args.cursor.now.bound.filter (c.args.cursor.now.view.extents - (c.loop-extent.extent + 1)) (c.loop-extent.extent + 1) marks on))
       (sym (c.in_ok-take.ensures.marks ∙ ap (λ (mark : Served). c.loop-extent.gathered.marks.items ++ mark ∷ []) c.in_ok-served.ensures.mark))
-      (comes-next c.args.who k (g.H.Reach.known c.args.reach.now) (g.H.Reach.known c.loop-extent.reach) (g.H.Reach.known c.served_part.new.reach)
-      (serve_from c.args.view.now c.args.bound.now.filter c.args.from on) c.args.view.now c.args.bound.now.filter c.loop-extent.extent
+      (comes-next c.args.context.now.who k (g.H.Reach.known c.args.reach.now) (g.H.Reach.known c.loop-extent.reach) (g.H.Reach.known c.served_part.new.reach)
+      (serve_from c.args.cursor.now.view c.args.cursor.now.bound.filter c.args.cursor.now.next on) c.args.cursor.now.view c.args.cursor.now.bound.filter c.loop-extent.extent
       c.loop-extent.gathered.marks.items on c.loop-extent-test.true c.in_ok-served.ensures.went (c.loop-extent.invariant.comes k on));
-  read = more-read c.args.who c.args.cursor c.args.view.now c.args.from c.loop-extent.extent (c.loop-extent.extent + 1) c.args.steps.now c.loop-extent.steps
+  read = more-read c.args.context.now.who c.args.cursor.now.number c.args.cursor.now.view c.args.cursor.now.next c.loop-extent.extent (c.loop-extent.extent + 1) c.args.steps.now c.loop-extent.steps
       c.served_part.new.steps (g.H.Reach.known c.args.reach.now) (g.H.Reach.known c.loop-extent.reach) (g.H.Reach.known c.served_part.new.reach)
       (longer-went (g.H.Reach.known c.args.reach.now) (g.H.Reach.known c.loop-extent.reach) c.loop-extent.invariant.went)
       (longer-went (g.H.Reach.known c.loop-extent.reach) (g.H.Reach.known c.served_part.new.reach) c.in_ok-served.ensures.went)
@@ -91,22 +87,22 @@ loop-extent-preserved g c = record {
 pub returns-clause-part : goal.returns-clause-part
 returns-clause-part g c =
     let past = c.loop-extent-test.false in
-    let end = c.loop-extent.auto.extent-end c.requires.from in
-    part-all c.args.who c.args.cursor c.loop-extent.extent c.args.bound.now c.args.view.now (g.H.Reach.known c.args.reach.now) c.loop-extent.gathered.part
-    c.requires.scan (omega (arith, past, end)) c.loop-extent.invariant.part
+    let end = c.loop-extent.auto.extent-end c.requires.kept.sound.next in
+    part-all c.args.wanted c.args.context.now.who c.args.cursor.now.number c.loop-extent.extent c.args.cursor.now.bound c.args.cursor.now.view (g.H.Reach.known c.args.reach.now) c.loop-extent.gathered.part
+    c.requires.kept.scan (omega (arith, past, end)) c.loop-extent.invariant.part
 
 pub returns-clause-marks : goal.returns-clause-marks
 returns-clause-marks g c = λ k on.
-    comes-last c.args.who k (g.H.Reach.known c.args.reach.now) (g.H.Reach.known c.loop-extent.reach)
-    (serve_from c.args.view.now c.args.bound.now.filter c.args.from on) c.args.view.now c.args.bound.now.filter c.loop-extent.extent
+    comes-last c.args.context.now.who k (g.H.Reach.known c.args.reach.now) (g.H.Reach.known c.loop-extent.reach)
+    (serve_from c.args.cursor.now.view c.args.cursor.now.bound.filter c.args.cursor.now.next on) c.args.cursor.now.view c.args.cursor.now.bound.filter c.loop-extent.extent
     c.loop-extent.gathered.marks.items on c.loop-extent-test.false (c.loop-extent.invariant.comes k on)
 
 pub returns-in_err-served-clause-ticks : goal.returns-in_err-served-clause-ticks
 returns-in_err-served-clause-ticks g c =
-    read-counted c.args.who c.args.cursor c.args.view.now c.args.from (c.loop-extent.extent + 1) c.args.steps.now c.served_part.new.steps
+    read-counted c.args.context.now.who c.args.cursor.now.number c.args.cursor.now.view c.args.cursor.now.next (c.loop-extent.extent + 1) c.args.steps.now c.served_part.new.steps
     (g.H.Reach.known c.args.reach.now) (g.H.Reach.known c.served_part.new.reach)
     (let within = c.loop-extent-test.true in omega (arith, within))
-    (more-read c.args.who c.args.cursor c.args.view.now c.args.from c.loop-extent.extent (c.loop-extent.extent + 1) c.args.steps.now c.loop-extent.steps
+    (more-read c.args.context.now.who c.args.cursor.now.number c.args.cursor.now.view c.args.cursor.now.next c.loop-extent.extent (c.loop-extent.extent + 1) c.args.steps.now c.loop-extent.steps
     c.served_part.new.steps (g.H.Reach.known c.args.reach.now) (g.H.Reach.known c.loop-extent.reach) (g.H.Reach.known c.served_part.new.reach)
     (longer-went (g.H.Reach.known c.args.reach.now) (g.H.Reach.known c.loop-extent.reach) c.loop-extent.invariant.went)
     (longer-went (g.H.Reach.known c.loop-extent.reach) (g.H.Reach.known c.served_part.new.reach) c.in_err-served.ensures.went)
@@ -114,10 +110,10 @@ returns-in_err-served-clause-ticks g c =
 
 pub returns-in_err-take-clause-ticks : goal.returns-in_err-take-clause-ticks
 returns-in_err-take-clause-ticks g c =
-    read-counted c.args.who c.args.cursor c.args.view.now c.args.from (c.loop-extent.extent + 1) c.args.steps.now c.served_part.new.steps
+    read-counted c.args.context.now.who c.args.cursor.now.number c.args.cursor.now.view c.args.cursor.now.next (c.loop-extent.extent + 1) c.args.steps.now c.served_part.new.steps
     (g.H.Reach.known c.args.reach.now) (g.H.Reach.known c.served_part.new.reach)
     (let within = c.loop-extent-test.true in omega (arith, within))
-    (more-read c.args.who c.args.cursor c.args.view.now c.args.from c.loop-extent.extent (c.loop-extent.extent + 1) c.args.steps.now c.loop-extent.steps
+    (more-read c.args.context.now.who c.args.cursor.now.number c.args.cursor.now.view c.args.cursor.now.next c.loop-extent.extent (c.loop-extent.extent + 1) c.args.steps.now c.loop-extent.steps
     c.served_part.new.steps (g.H.Reach.known c.args.reach.now) (g.H.Reach.known c.loop-extent.reach) (g.H.Reach.known c.served_part.new.reach)
     (longer-went (g.H.Reach.known c.args.reach.now) (g.H.Reach.known c.loop-extent.reach) c.loop-extent.invariant.went)
     (longer-went (g.H.Reach.known c.loop-extent.reach) (g.H.Reach.known c.served_part.new.reach) c.in_ok-served.ensures.went)
@@ -125,7 +121,22 @@ returns-in_err-take-clause-ticks g c =
 
 pub returns-clause-ticks : goal.returns-clause-ticks
 returns-clause-ticks g c =
-    let end = c.loop-extent.auto.extent-end c.requires.from in
-    read-counted c.args.who c.args.cursor c.args.view.now c.args.from c.loop-extent.extent c.args.steps.now c.loop-extent.steps
+    let end = c.loop-extent.auto.extent-end c.requires.kept.sound.next in
+    read-counted c.args.context.now.who c.args.cursor.now.number c.args.cursor.now.view c.args.cursor.now.next c.loop-extent.extent c.args.steps.now c.loop-extent.steps
     (g.H.Reach.known c.args.reach.now) (g.H.Reach.known c.loop-extent.reach)
     (omega (arith, end)) c.loop-extent.invariant.read
+
+pub returns-in_err-copy-clause-err : goal.returns-in_err-copy-clause-err
+returns-in_err-copy-clause-err g c =
+    let stops : (k : ℕ) (on : List Served → Plan Outcome)
+    → Stops c.args.context.now.who k (g.H.Reach.known c.args.reach.now)
+    (serve_from c.args.cursor.now.view c.args.cursor.now.bound.filter c.args.cursor.now.next on) (g.H.Reach.known c.args.reach.now) =
+    λ k on. record {
+      later = serve_from c.args.cursor.now.view c.args.cursor.now.bound.filter c.args.cursor.now.next on;
+      comes = record { rest = λ outcome late rest. rest };
+    } in
+    err-always _ _ (λ error. stops)
+
+pub returns-in_err-copy-clause-ticks : goal.returns-in_err-copy-clause-ticks
+returns-in_err-copy-clause-ticks g c =
+    none-counted c.args.context.now.who c.args.steps.now c.args.steps.now (g.H.Reach.known c.args.reach.now) (g.H.Reach.known c.args.reach.now) (omega arith)

@@ -4,6 +4,7 @@ use Rattle.im_plan.specs.Plan.{Plan}
 use Rattle.im_replies.specs.declared.served.Served.{Served}
 use Rattle.im_scan.specs.Pinned.{seen_to}
 use Rattle.im_session.specs.inner.Scans.{Comes, Went}
+use Rattle.im_session.specs.inner.Serving.{wanted_of}
 use Rattle.im_session.specs.Reads.{AreRead}
 use Rattle.im_session.proofs.serving.gather.Given as goal
 use Rattle.im_statements.specs.Outcomes.{Outcome}
@@ -13,9 +14,9 @@ use Rattle.im_statements.specs.Scans.{serve, serve_from}
 abbrev pub invariant-loop-extent : goal.invariant-loop-extent
 invariant-loop-extent g l = record {
   went : Went (g.H.Reach.known l.fn.reach) (g.H.Reach.known l.reach);
-  part : l.gathered.part ≡ partial l.bound (seen_to (g.H.Reach.known l.fn.reach).log l.view l.extent);
+  part : l.gathered.part ≡ partial l.cursor.bound (wanted_of l.wanted (seen_to (g.H.Reach.known l.fn.reach).log l.cursor.view l.extent));
   comes : (k : ℕ) (on : List Served → Plan Outcome)
-      → Comes l.who k (g.H.Reach.known l.fn.reach) (serve_from l.view l.bound.filter l.from on) (g.H.Reach.known l.reach)
-      (serve l.view l.bound.filter (l.view.extents - l.extent) l.extent l.gathered.marks.items on);
-  read : AreRead l.who l.cursor l.view l.from l.extent l.fn.steps l.steps (g.H.Reach.known l.fn.reach).log (g.H.Reach.known l.reach).log;
+      → Comes l.context.who k (g.H.Reach.known l.fn.reach) (serve_from l.cursor.view l.cursor.bound.filter l.cursor.next on) (g.H.Reach.known l.reach)
+      (serve l.cursor.view l.cursor.bound.filter (l.cursor.view.extents - l.extent) l.extent l.gathered.marks.items on);
+  read : AreRead l.context.who l.cursor.number l.cursor.view l.cursor.next l.extent l.fn.steps l.steps (g.H.Reach.known l.fn.reach).log (g.H.Reach.known l.reach).log;
 }

@@ -10,40 +10,40 @@ use Rattle.im_statements.specs.Statements.{definition_plan}
 pub returns-in_default : goal.returns-in_default
 returns-in_default g c = λ state.
     rw c.out_of_memory.ensures
-    (rest-lacks c.args.who 0 (g.H.Reach.known c.args.reach.now) (g.H.Reach.known c.look.new.self) _
-    (definition_plan (g.H.Reach.known c.args.reach.now).limits c.args.who state c.args.statement.now) c.requires.speaks c.requires.shut
+    (rest-lacks c.args.context.now.who 0 (g.H.Reach.known c.args.reach.now) (g.H.Reach.known c.look.new.self) _
+    (definition_plan (g.H.Reach.known c.args.reach.now).limits c.args.context.now.who state c.args.statement.now) c.requires.speaks c.requires.shut
     c.in_default.ensures.err)
 
 pub define_named-requires-clause-shut : goal.define_named-requires-clause-shut
 define_named-requires-clause-shut g c =
-    open-went c.args.who 0 (g.H.Reach.known c.args.reach.now) (g.H.Reach.known c.look.new.self) c.requires.speaks
+    open-went c.args.context.now.who 0 (g.H.Reach.known c.args.reach.now) (g.H.Reach.known c.look.new.self) c.requires.speaks
     (went-found (g.H.Reach.known c.args.reach.now) (g.H.Reach.known c.look.new.self) _ c.in-Ok.ensures.ok) c.requires.shut
 
 pub returns-then-is_none : goal.returns-then-is_none
 returns-then-is_none g c = λ state.
     let look_is = went-log (g.H.Reach.known c.args.reach.now) (g.H.Reach.known c.look.new.self) _ c.in-Ok.ensures.ok in
-    let idle : is_open (g.H.Reach.known c.look.new.self).log c.args.who ≡ false =
+    let idle : is_open (g.H.Reach.known c.look.new.self).log c.args.context.now.who ≡ false =
     sym (ap (λ (l : Look). is_some l.begun) look_is) ∙ c.if-is_none.ensures in
-    definition-alone c.args.who (g.H.Reach.known c.args.reach.now) (g.H.Reach.known c.look.new.self) (g.H.Reach.known c.define_named.new.reach) _
+    definition-alone c.args.context.now.who (g.H.Reach.known c.args.reach.now) (g.H.Reach.known c.look.new.self) (g.H.Reach.known c.define_named.new.reach) _
     state c.args.statement.now _ c.in-Ok.ensures.ok idle (c.define_named.ensures state)
 
 pub define_later-requires-clause-shut : goal.define_later-requires-clause-shut
 define_later-requires-clause-shut g c =
     let went = went-found (g.H.Reach.known c.args.reach.now) (g.H.Reach.known c.look.new.self) _ c.in-Ok.ensures.ok in
-    shut-commit c.args.who (g.H.Reach.known c.look.new.self) (g.H.Reach.known c.commit.new.self) _ c.in-Ok-commit.ensures.ok
-    (speaks-went c.args.who (g.H.Reach.known c.args.reach.now) (g.H.Reach.known c.look.new.self) went c.requires.speaks)
-    (open-went c.args.who 0 (g.H.Reach.known c.args.reach.now) (g.H.Reach.known c.look.new.self) c.requires.speaks went c.requires.shut)
+    shut-commit c.args.context.now.who (g.H.Reach.known c.look.new.self) (g.H.Reach.known c.commit.new.self) _ c.in-Ok-commit.ensures.ok
+    (speaks-went c.args.context.now.who (g.H.Reach.known c.args.reach.now) (g.H.Reach.known c.look.new.self) went c.requires.speaks)
+    (open-went c.args.context.now.who 0 (g.H.Reach.known c.args.reach.now) (g.H.Reach.known c.look.new.self) c.requires.speaks went c.requires.shut)
 
 pub define_later-requires-clause-idle : goal.define_later-requires-clause-idle
 define_later-requires-clause-idle g c =
-    idle-commit c.args.who (g.H.Reach.known c.look.new.self) (g.H.Reach.known c.commit.new.self) _ c.in-Ok-commit.ensures.ok
+    idle-commit c.args.context.now.who (g.H.Reach.known c.look.new.self) (g.H.Reach.known c.commit.new.self) _ c.in-Ok-commit.ensures.ok
 
 pub returns-in-Ok-commit : goal.returns-in-Ok-commit
 returns-in-Ok-commit g c = λ state.
     let look_is = went-log (g.H.Reach.known c.args.reach.now) (g.H.Reach.known c.look.new.self) _ c.in-Ok.ensures.ok in
-    let open_now : is_open (g.H.Reach.known c.look.new.self).log c.args.who ≡ true =
+    let open_now : is_open (g.H.Reach.known c.look.new.self).log c.args.context.now.who ≡ true =
     sym (ap (λ (l : Look). is_some l.begun) look_is) ∙ c.if-is_none.ensures in
-    definition-committed c.args.who (g.H.Reach.known c.args.reach.now) (g.H.Reach.known c.look.new.self) (g.H.Reach.known c.commit.new.self)
+    definition-committed c.args.context.now.who (g.H.Reach.known c.args.reach.now) (g.H.Reach.known c.look.new.self) (g.H.Reach.known c.commit.new.self)
     (g.H.Reach.known c.define_later.new.reach) _ _ state c.args.statement.now _ c.in-Ok.ensures.ok open_now c.in-Ok-commit.ensures.ok
     (c.define_later.ensures state)
 
@@ -51,9 +51,9 @@ pub returns : goal.returns
 returns g c = λ state.
     let went = went-found (g.H.Reach.known c.args.reach.now) (g.H.Reach.known c.look.new.self) _ c.in-Ok.ensures.ok in
     rw c.out_of_memory-in-Err.ensures
-    (rest-look c.args.who 0 (g.H.Reach.known c.args.reach.now) (g.H.Reach.known c.look.new.self) (g.H.Reach.known c.commit.new.self) _ _ _
+    (rest-look c.args.context.now.who 0 (g.H.Reach.known c.args.reach.now) (g.H.Reach.known c.look.new.self) (g.H.Reach.known c.commit.new.self) _ _ _
     c.in-Ok.ensures.ok
-    (rest-lacks c.args.who 0 (g.H.Reach.known c.look.new.self) (g.H.Reach.known c.commit.new.self) _ _
-    (speaks-went c.args.who (g.H.Reach.known c.args.reach.now) (g.H.Reach.known c.look.new.self) went c.requires.speaks)
-    (open-went c.args.who 0 (g.H.Reach.known c.args.reach.now) (g.H.Reach.known c.look.new.self) c.requires.speaks went c.requires.shut)
+    (rest-lacks c.args.context.now.who 0 (g.H.Reach.known c.look.new.self) (g.H.Reach.known c.commit.new.self) _ _
+    (speaks-went c.args.context.now.who (g.H.Reach.known c.args.reach.now) (g.H.Reach.known c.look.new.self) went c.requires.speaks)
+    (open-went c.args.context.now.who 0 (g.H.Reach.known c.args.reach.now) (g.H.Reach.known c.look.new.self) c.requires.speaks went c.requires.shut)
     c.in-Err.ensures.err))

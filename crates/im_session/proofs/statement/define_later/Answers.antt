@@ -11,34 +11,34 @@ use Rattle.im_statements.specs.Statements.{looked_up, named_plan}
 
 pub define_named-requires-clause-speaks : goal.define_named-requires-clause-speaks
 define_named-requires-clause-speaks g c =
-    speaks-went c.args.who (g.H.Reach.known c.args.reach.now) (g.H.Reach.known c.look.new.self)
+    speaks-went c.args.context.now.who (g.H.Reach.known c.args.reach.now) (g.H.Reach.known c.look.new.self)
     (went-found (g.H.Reach.known c.args.reach.now) (g.H.Reach.known c.look.new.self) _ c.in-Ok.ensures.ok) c.requires.speaks
 
 pub define_named-requires-clause-shut : goal.define_named-requires-clause-shut
 define_named-requires-clause-shut g c =
-    open-went c.args.who 0 (g.H.Reach.known c.args.reach.now) (g.H.Reach.known c.look.new.self) c.requires.speaks
+    open-went c.args.context.now.who 0 (g.H.Reach.known c.args.reach.now) (g.H.Reach.known c.look.new.self) c.requires.speaks
     (went-found (g.H.Reach.known c.args.reach.now) (g.H.Reach.known c.look.new.self) _ c.in-Ok.ensures.ok) c.requires.shut
 
 pub define_named-requires-clause-idle : goal.define_named-requires-clause-idle
 define_named-requires-clause-idle g c =
-    idle-found c.args.who (g.H.Reach.known c.args.reach.now) (g.H.Reach.known c.look.new.self) _ c.requires.speaks c.in-Ok.ensures.ok c.requires.idle
+    idle-found c.args.context.now.who (g.H.Reach.known c.args.reach.now) (g.H.Reach.known c.look.new.self) _ c.requires.speaks c.in-Ok.ensures.ok c.requires.idle
 
 pub define_named-requires-clause-look : goal.define_named-requires-clause-look
 define_named-requires-clause-look g c = went-log (g.H.Reach.known c.args.reach.now) (g.H.Reach.known c.look.new.self) _ c.in-Ok.ensures.ok
 
 pub returns-in-Ok : goal.returns-in-Ok
 returns-in-Ok g c = λ state.
-    rest-look c.args.who 1 (g.H.Reach.known c.args.reach.now) (g.H.Reach.known c.look.new.self) _ _
-    (named_plan (g.H.Reach.known c.args.reach.now).limits c.args.who state c.args.statement.now) _ c.in-Ok.ensures.ok
+    rest-look c.args.context.now.who 1 (g.H.Reach.known c.args.reach.now) (g.H.Reach.known c.look.new.self) _ _
+    (named_plan (g.H.Reach.known c.args.reach.now).limits c.args.context.now.who state c.args.statement.now) _ c.in-Ok.ensures.ok
     (subst (λ (l : Limits).
-    IsRest c.args.who 1 (g.H.Reach.known c.look.new.self)
-    (named_plan l c.args.who state c.args.statement.now (g.H.Reach.known c.look.new.self).log) (said c.define_named.result)
+    IsRest c.args.context.now.who 1 (g.H.Reach.known c.look.new.self)
+    (named_plan l c.args.context.now.who state c.args.statement.now (g.H.Reach.known c.look.new.self).log) (said c.define_named.result)
     (g.H.Reach.known c.define_named.new.reach))
     (ap (λ (s : Known). s.limits) c.in-Ok.ensures.ok.now) (c.define_named.ensures state))
 
 pub returns-in-Err : goal.returns-in-Err
 returns-in-Err g c = λ state.
     rw c.out_of_memory.ensures
-    (rest-lacks c.args.who 1 (g.H.Reach.known c.args.reach.now) (g.H.Reach.known c.look.new.self) _
-    (looked_up (g.H.Reach.known c.args.reach.now).limits c.args.who state c.args.statement.now) c.requires.speaks c.requires.shut
+    (rest-lacks c.args.context.now.who 1 (g.H.Reach.known c.args.reach.now) (g.H.Reach.known c.look.new.self) _
+    (looked_up (g.H.Reach.known c.args.reach.now).limits c.args.context.now.who state c.args.statement.now) c.requires.speaks c.requires.shut
     c.in-Err.ensures.err)

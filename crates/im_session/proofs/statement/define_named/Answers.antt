@@ -7,11 +7,11 @@ define_resolved-requires-clause-definition g c =
 
 pub returns-in-Ok : goal.returns-in-Ok
 returns-in-Ok g c = λ state.
-    named-found c.args.who c.args.entries (g.H.Reach.known c.args.reach.now) _ state c.args.statement.now c.args.look.now c.in-Ok.resolved _
+    named-found c.args.context.now.who c.args.entries (g.H.Reach.known c.args.reach.now) _ state c.args.statement.now c.args.look.now c.in-Ok.resolved _
     c.requires.look c.in-Ok.ensures.ok (c.define_resolved.ensures state)
 
 pub returns-in-Err : goal.returns-in-Err
 returns-in-Err g c = λ state.
     rw c.name_reply.ensures
-    (named-fault c.args.who c.args.entries (g.H.Reach.known c.args.reach.now) state c.args.statement.now c.args.look.now c.in-Err.fault
+    (named-fault c.args.context.now.who c.args.entries (g.H.Reach.known c.args.reach.now) state c.args.statement.now c.args.look.now c.in-Err.fault
     c.requires.speaks c.requires.shut c.requires.look c.in-Err.ensures.err)

@@ -9,10 +9,10 @@ use Rattle.im_statements.specs.Turns.{answer_at}
 
 pub returns-in-Ok : goal.returns-in-Ok
 returns-in-Ok g c =
-    decide_by-done c.args.who 0 (g.H.Reach.known c.args.reach.now) _ (λ at. what.Commit) _ (λ at. answer_at at (Committed (scn at + 1))) _
+    decide_by-done c.args.context.now.who 0 (g.H.Reach.known c.args.reach.now) _ (λ at. what.Commit) _ (λ at. answer_at at (Committed (scn at + 1))) _
     c.in-Ok.ensures.ok (λ at fact. rw (c.settled.ensures, fact) refl)
 
 pub returns-in-Err : goal.returns-in-Err
 returns-in-Err g c =
     rw c.out_of_memory.ensures
-    (rest-lacks c.args.who 0 (g.H.Reach.known c.args.reach.now) _ _ commit c.requires.speaks c.requires.shut c.in-Err.ensures.err)
+    (rest-lacks c.args.context.now.who 0 (g.H.Reach.known c.args.reach.now) _ _ commit c.requires.speaks c.requires.shut c.in-Err.ensures.err)

@@ -1,5 +1,5 @@
 use Rattle.std.proofs.Common.{◌≡◌, map, take}
-use Rattle.im_session.proofs.query.explanation.Given as goal
+use Rattle.im_session.proofs.scan.explanation.Given as goal
 use Rattle.im_statements.specs.Scans.{explained}
 
 -- the marks so far

@@ -1,0 +1,67 @@
+use Rattle.std.proofs.Common.{◌≡◌, ◌∙◌, sym, arith}
+use Rattle.im_history.specs.Views.{look_at}
+use Rattle.im_session.proofs.NameLemmas.{other-resolves}
+use Rattle.im_session.proofs.ReadsLemmas.{counted-within, longer-found, longer-same, none-counted}
+use Rattle.im_session.proofs.SessionLemmas.{kept-found, run-defined, run-lacking, run-looked, run-misnamed}
+use Rattle.im_session.proofs.ScanLemmas.{went-log}
+use Rattle.im_session.proofs.playing.run.Goals as goal
+
+pub returns-then-is_definition-clause-run : goal.returns-then-is_definition-clause-run
+returns-then-is_definition-clause-run g c =
+    run-defined c.args.context.now.who c.args.kept.now.items (g.H.Reach.known c.args.reach.now)
+    c.requires.agrees (g.H.Reach.known c.define.new.reach) c.define.result c.args.statement.now
+    (sym c.is_definition.ensures ∙ c.if-is_definition.true) c.define.ensures
+
+pub returns-in_default-clause-run : goal.returns-in_default-clause-run
+returns-in_default-clause-run g c =
+    rw c.out_of_memory.ensures
+    (run-lacking c.args.context.now.who c.args.kept.now.items (g.H.Reach.known c.args.reach.now)
+    c.requires.agrees (g.H.Reach.known c.look.new.self) _ c.args.statement.now
+    c.requires.speaks c.in_default.ensures.err)
+
+pub play-requires-clause-agrees : goal.play-requires-clause-agrees
+play-requires-clause-agrees g c =
+    kept-found c.args.context.now.who c.args.kept.now.items (g.H.Reach.known c.args.reach.now) (g.H.Reach.known c.look.new.self) _ c.requires.speaks c.requires.agrees
+    c.in-Ok.ensures.ok
+
+pub play-requires-clause-shut : goal.play-requires-clause-shut
+play-requires-clause-shut g c =
+    (kept-found c.args.context.now.who c.args.kept.now.items (g.H.Reach.known c.args.reach.now) (g.H.Reach.known c.look.new.self) _ c.requires.speaks c.requires.agrees
+    c.in-Ok.ensures.ok).cursors.closed
+
+pub play-requires-clause-other : goal.play-requires-clause-other
+play-requires-clause-other g c =
+    other-resolves c.in-Ok.look.tables c.args.statement.now c.in-Ok-resolve.resolved (sym c.is_definition.ensures ∙ c.if-is_definition.false) c.in-Ok-resolve.ensures.ok
+
+pub returns-in-Ok-resolve-clause-run : goal.returns-in-Ok-resolve-clause-run
+returns-in-Ok-resolve-clause-run g c =
+    run-looked c.args.context.now.who c.args.kept.now.items c.args.statement.now (g.H.Reach.known c.args.reach.now) (g.H.Reach.known c.look.new.self)
+    (g.H.Reach.known c.play.new.reach) _ c.in-Ok.look c.in-Ok-resolve.resolved _ _ (sym c.is_definition.ensures ∙ c.if-is_definition.false)
+    c.in-Ok.ensures.ok
+    (went-log (g.H.Reach.known c.args.reach.now) (g.H.Reach.known c.look.new.self) (λ at. c.in-Ok.look ≡ look_at at c.args.context.now.who) c.in-Ok.ensures.ok) c.in-Ok-resolve.ensures.ok c.play.ensures.run
+
+pub returns-clause-run : goal.returns-clause-run
+returns-clause-run g c =
+    rw c.name_reply.ensures
+    (run-misnamed c.args.context.now.who c.args.kept.now.items (g.H.Reach.known c.args.reach.now)
+    c.requires.agrees (g.H.Reach.known c.look.new.self) c.args.statement.now c.in-Ok.look c.in-Err.fault
+    c.requires.speaks (sym c.is_definition.ensures ∙ c.if-is_definition.false) c.in-Ok.ensures.ok c.in-Err.ensures.err)
+
+pub returns-then-is_definition-clause-ticks : goal.returns-then-is_definition-clause-ticks
+returns-then-is_definition-clause-ticks g c =
+    none-counted c.args.context.now.who c.args.steps.now c.args.steps.now (g.H.Reach.known c.args.reach.now) (g.H.Reach.known c.define.new.reach) (omega arith)
+
+pub returns-in_default-clause-ticks : goal.returns-in_default-clause-ticks
+returns-in_default-clause-ticks g c =
+    none-counted c.args.context.now.who c.args.steps.now c.args.steps.now (g.H.Reach.known c.args.reach.now) (g.H.Reach.known c.look.new.self) (omega arith)
+
+pub returns-clause-ticks : goal.returns-clause-ticks
+returns-clause-ticks g c =
+    none-counted c.args.context.now.who c.args.steps.now c.args.steps.now (g.H.Reach.known c.args.reach.now) (g.H.Reach.known c.look.new.self) (omega arith)
+
+pub returns-in-Ok-resolve-clause-ticks : goal.returns-in-Ok-resolve-clause-ticks
+returns-in-Ok-resolve-clause-ticks g c =
+    counted-within c.args.context.now.who c.args.steps.now c.play.new.steps (g.H.Reach.known c.args.reach.now) (g.H.Reach.known c.look.new.self)
+    (g.H.Reach.known c.play.new.reach) (g.H.Reach.known c.play.new.reach)
+    (longer-found (g.H.Reach.known c.args.reach.now) (g.H.Reach.known c.look.new.self) _ c.in-Ok.ensures.ok)
+    (longer-same (g.H.Reach.known c.play.new.reach)) c.play.ensures.ticks

@@ -1,0 +1,149 @@
+ghost use Rattle.std.specs.Prelude.{◌≡◌, ◌<◌, map, true, false, IfOk};
+ghost use Rattle.im_history.specs.Cursors.{is_cursor_open};
+ghost use Rattle.im_history.specs.Tables.{tables};
+ghost use Rattle.im_names.specs.Fitting.{OfTable, QueryServes};
+ghost use Rattle.im_reach.specs.Sides.{speaks};
+ghost use Rattle.im_session.specs.declared.scan.Purpose.TheVariants as purpose;
+ghost use Rattle.im_session.specs.inner.Purposes.{IsUsed, MayScanFor, MayUse, plan_of};
+ghost use Rattle.im_session.specs.inner.Rests.{IsRest};
+ghost use Rattle.im_session.specs.Reads.{IsCounted};
+ghost use Rattle.im_statements.specs.Outcomes.{said};
+ghost use Rattle.im_statements.specs.Scans as plan;
+
+use crate::context::Context;
+use crate::cursor::{Cursor, open_cursor};
+use crate::refusals::{out_of_memory, refused_reply};
+use crate::rewriting::rewrite_seen;
+use crate::serving::{Wanted, answer_scan, gather};
+use im_edge::Gate;
+use im_reach::Reach;
+use im_replies::{Body, How, Reply, Served};
+use im_statements::Rewriting;
+use im_syntax::Bound;
+use im_unit::ColumnUnit;
+use im_values::limits::NUMBERS;
+use im_values::{List, NoMemory, Steps};
+use std::alloc::Global;
+use std::sync::Wait;
+use std::sync::ledger::Ledger;
+
+/// What a statement scans a table for.
+#[derive(Debug, Drop)]
+pub enum Purpose {
+    /// SELECT: to answer the query.
+    Answer,
+    /// EXPLAIN: to answer how each extent is served.
+    Explain,
+    /// UPDATE and DELETE: to rewrite the rows that the condition keeps.
+    Rewrite(Rewriting),
+}
+
+/// Plays a statement that scans a table by itself: cursor 0 is opened, serves its purpose, and is closed.
+///
+/// Each extent is served by itself: others may change the table meanwhile, and what is seen is what there was at the opening. Each row
+/// that is read from the blocks is one step at most.
+pub fn scan<R: Wait, H: Reach<ColumnUnit>, G: Gate, L: Ledger>(
+    context: &Context<R, G>,
+    reach: &mut H,
+    bound: Bound,
+    purpose: Purpose,
+    steps: &mut Steps<L>,
+) -> Reply
+    requires session { context.now.who < NUMBERS }
+    requires speaks { speaks (H.known reach.old).side context.now.who ≡ true }
+    requires shut { is_cursor_open (H.known reach.old).log context.now.who 0 ≡ false }
+    requires serves { OfTable (tables (H.known reach.old).log) bound.table (QueryServes bound) }
+    requires may { MayScanFor purpose bound (tables (H.known reach.old).log) }
+    ensures rest { IsRest context.now.who 0 (H.known reach.old) (plan_of (H.known reach.old).limits context.now.who bound purpose) (said result)
+        (H.known reach.new) }
+    ensures ticks { IsCounted context.now.who steps.old steps.new (H.known reach.old) (H.known reach.new) }
+{
+    match open_cursor(context, reach, 0, bound) {
+        Ok(cursor) => {
+            let reply = use_scan(context, reach, &cursor, &purpose, steps);
+            reach.shut(context.rt, context.who, 0);
+            reply
+        }
+        Err(refused) => refused_reply(context.alloc, 0, refused),
+    }
+}
+
+/// Lets a scan whose cursor 0 is open serve its purpose. The cursor is still open then.
+fn use_scan<R: Wait, H: Reach<ColumnUnit>, G: Gate, L: Ledger>(
+    context: &Context<R, G>,
+    reach: &mut H,
+    cursor: &Cursor,
+    purpose: &Purpose,
+    steps: &mut Steps<L>,
+) -> Reply
+    requires session { context.now.who < NUMBERS }
+    requires speaks { speaks (H.known reach.old).side context.now.who ≡ true }
+    requires may { MayUse context.now.who purpose.now cursor.now (H.known reach.old) }
+    ensures used { IsUsed context.now.who purpose.now cursor.now (H.known reach.old) result (H.known reach.new) }
+    ensures ticks { IsCounted context.now.who steps.old steps.new (H.known reach.old) (H.known reach.new) }
+{
+    match purpose {
+        Purpose::Answer => answer_seen(context, reach, cursor, steps),
+        Purpose::Explain => explain_seen(context, reach, cursor, steps),
+        Purpose::Rewrite(rewriting) => rewrite_seen(context, reach, cursor, rewriting, steps),
+    }
+}
+
+/// Answers the query of a scan over the rows that it sees. Its cursor is still open then.
+fn answer_seen<R: Wait, H: Reach<ColumnUnit>, G: Gate, L: Ledger>(
+    context: &Context<R, G>,
+    reach: &mut H,
+    cursor: &Cursor,
+    steps: &mut Steps<L>,
+) -> Reply
+    requires session { context.now.who < NUMBERS }
+    requires speaks { speaks (H.known reach.old).side context.now.who ≡ true }
+    requires may { MayUse context.now.who purpose.Answer cursor.now (H.known reach.old) }
+    ensures used { IsUsed context.now.who purpose.Answer cursor.now (H.known reach.old) result (H.known reach.new) }
+    ensures ticks { IsCounted context.now.who steps.old steps.new (H.known reach.old) (H.known reach.new) }
+{
+    match answer_scan(context, reach, cursor, steps) {
+        Ok(answered) => answered.reply(cursor.view.place, cursor.view.scn),
+        Err(_) => out_of_memory(context.alloc, 1),
+    }
+}
+
+/// Answers how each extent is served to a scan. Its cursor is still open then.
+fn explain_seen<R: Wait, H: Reach<ColumnUnit>, G: Gate, L: Ledger>(
+    context: &Context<R, G>,
+    reach: &mut H,
+    cursor: &Cursor,
+    steps: &mut Steps<L>,
+) -> Reply
+    requires session { context.now.who < NUMBERS }
+    requires speaks { speaks (H.known reach.old).side context.now.who ≡ true }
+    requires may { MayUse context.now.who purpose.Explain cursor.now (H.known reach.old) }
+    ensures used { IsUsed context.now.who purpose.Explain cursor.now (H.known reach.old) result (H.known reach.new) }
+    ensures ticks { IsCounted context.now.who steps.old steps.new (H.known reach.old) (H.known reach.new) }
+{
+    let Ok(gathered) = gather(context, reach, cursor, Wanted::Marks, steps) else {
+        return out_of_memory(context.alloc, 1);
+    };
+    match explanation(context.alloc, gathered.marks.as_slice()) {
+        Ok(served) => Reply {
+            place: Some(cursor.view.place),
+            marks: List::of(gathered.marks),
+            body: Body::Plan {
+                scn: cursor.view.scn,
+                served,
+            },
+        },
+        Err(_) => out_of_memory(context.alloc, 1),
+    }
+}
+
+/// What an explanation says of these marks.
+fn explanation(alloc: Global, marks: &[Served]) -> Result<List<(u64, How)>, NoMemory>
+    ensures { IfOk result (λ extents. extents ≡ map plan.explained marks.now) }
+{
+    let mut extents = Vec::with_capacity(alloc, marks.len())?;
+    for mark in marks {
+        extents.push((mark.extent, mark.how))?;
+    }
+    Ok(List::of(extents))
+}
