@@ -192,9 +192,6 @@ module _ (who cursor table : ℕ) (old middle : Known) (view : View)
   pub added-asks : (bound : Bound) → IsLawful middle.limits middle.log → OfTable (tables old.log) table (QueryServes bound) → MayAskIn bound view middle
   added-asks bound lawful of = opening-asks who cursor table old middle added.at view added.after added.now added.fact.1 bound lawful of
 
-  pub added-speaks : speaks old.side who ≡ true → speaks middle.side who ≡ true
-  added-speaks mine = ap (λ (s : Known). speaks s.side who) added.now ∙ mine
-
 -- cursor 0 was opened for a line's own scan, which then goes on
 pub scan-opened : (who k table : ℕ) (old middle new : Known) (view : View) (filter : Option (CondOf ℕ Value))
     (tail : ℕ → View → List (ℕ × Row) → List Served → Plan Outcome) (outcome : Outcome)

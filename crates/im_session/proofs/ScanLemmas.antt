@@ -198,8 +198,3 @@ pub scan-stops : (who k : ℕ) (first old new : Known) (plan : Plan Outcome) →
     → IsShut who old new → Stops who k first plan old → IsRest who k first plan (said (memory_reply k)) new
 scan-stops who k first old new plan mine is_open shut stops =
     stops.comes.rest (said (memory_reply k)) new (scan-lacks who k old new stops.later mine is_open shut)
-
--- all extents were served, and the line ends with this reply
-pub scan-replies : (who k : ℕ) (first old new : Known) (plan : Plan Outcome) (reply : Reply) → IsShut who old new
-    → Comes who k first plan old (end_scan reply) → IsRest who k first plan (said reply) new
-scan-replies who k first old new plan reply shut comes = comes.rest (said reply) new (scan-ended who k old new reply shut)

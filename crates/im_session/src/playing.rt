@@ -108,25 +108,9 @@ fn play<R: Wait, H: Reach<ColumnUnit>, G: Gate, L: Ledger>(
         Resolved::Commit => commit(context, reach),
         Resolved::Rollback => roll_back(context, reach, look),
         Resolved::OpenFor { cursor, bound } => open(context, reach, kept, cursor, bound),
-        Resolved::Step(cursor) => over_cursor(context, reach, kept, look, cursor, Use::Step, steps),
-        Resolved::Fetch(cursor) => over_cursor(
-            context,
-            reach,
-            kept,
-            look,
-            cursor,
-            Use::Fetch,
-            steps,
-        ),
-        Resolved::Close(cursor) => over_cursor(
-            context,
-            reach,
-            kept,
-            look,
-            cursor,
-            Use::Close,
-            steps,
-        ),
+        Resolved::Step(cursor) => on_cursor(context, reach, kept, look, cursor, Use::Step, steps),
+        Resolved::Fetch(cursor) => on_cursor(context, reach, kept, look, cursor, Use::Fetch, steps),
+        Resolved::Close(cursor) => on_cursor(context, reach, kept, look, cursor, Use::Close, steps),
         Resolved::Run
         | Resolved::Begin
         | Resolved::Switch
@@ -177,7 +161,7 @@ pub enum Use {
 }
 
 /// STEP, FETCH and CLOSE: uses a cursor so, where it is open.
-fn over_cursor<R: Wait, H: Reach<ColumnUnit>, G: Gate, L: Ledger>(
+fn on_cursor<R: Wait, H: Reach<ColumnUnit>, G: Gate, L: Ledger>(
     context: &Context<R, G>,
     reach: &mut H,
     kept: &mut Vec<Cursor>,

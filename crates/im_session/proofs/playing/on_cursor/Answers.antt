@@ -9,7 +9,7 @@ use Rattle.im_session.specs.inner.Rests.{IsRest}
 use Rattle.im_session.proofs.ReadsLemmas.{none-counted}
 use Rattle.im_session.proofs.KeptLemmas.{at-place, no-place}
 use Rattle.im_session.proofs.SessionLemmas.{is-closed, is-kept, is-open, run-close, run-fetch, run-no_fetch, run-none, run-step}
-use Rattle.im_session.proofs.playing.over_cursor.Goals as goal
+use Rattle.im_session.proofs.playing.on_cursor.Goals as goal
 use Rattle.im_statements.specs.Cursors.{fetch_query}
 
 pub returns-in_default-clause-run : goal.returns-in_default-clause-run
