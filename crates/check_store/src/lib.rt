@@ -1,5 +1,5 @@
 //! What no clause shows of the whole store: that its calls succeed when memory is there, and what they then answer to
-//! sessions that meet, to builds of column units, to parts of scans and to threads.
+//! sessions that meet, to builds of column units and to parts of scans.
 //!
 //! Nothing here is for callers. Each file tests a crate by public calls alone: `store` tests `im_core`, the others the crate
 //! that they are named after.
@@ -11,5 +11,3 @@ mod reach;
 mod scan;
 #[cfg(test)]
 mod store;
-#[cfg(test)]
-mod turn;

@@ -1,5 +1,5 @@
 use Rattle.std.proofs.Common.{◌≡◌}
-use Rattle.check_store.proofs.turn.write_notes.Given as goal
+use Rattle.check_threads.proofs.turn.write_notes.Given as goal
 
 -- the pass has only seen more and written more
 abbrev pub invariant-loop-text : goal.invariant-loop-text
