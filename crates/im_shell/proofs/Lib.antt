@@ -1,3 +1,1 @@
-mod KnownLemmas
 mod PlayLemmas
-mod SessionsLemmas

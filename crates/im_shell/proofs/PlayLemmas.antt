@@ -1,12 +1,13 @@
 -- A script that is played and written line by line comes to the text of its replies.
-use Rattle.std.proofs.Common.{◌≡◌, ◌≤◌, ℕ, ◌+◌, ◌&&◌, Bool, true, false, List, [], ◌∷◌, ◌++◌, length, take, drop, Option, Some, None, Result, Ok, Err, OnErr, refl, sym, ap, ap₂, ◌∙◌, subst, arith, append-nil, append_assoc}
+use Rattle.std.proofs.Common.{◌≡◌, ◌≤◌, ℕ, ◌+◌, true, List, [], ◌∷◌, ◌++◌, length, take, drop, Option, Some, None, Result, Ok, Err, OnErr, refl, sym, ap, ◌∙◌, subst, arith, append-nil, append_assoc}
 use Rattle.std.proofs.lemmas.List.{take-append-drop}
 use Rattle.im_edge.specs.Writing.{Took, TookPart}
 use Rattle.im_edge.proofs.ForCallers.{Took-nil, Took-append}
 use Rattle.im_history.specs.declared.limits.Limits.{Limits}
-use Rattle.im_history.specs.declared.task.Task.{Task}
-use Rattle.im_plan.specs.Alone.{IsMachine, Played}
-use Rattle.im_plan.proofs.AloneLaws.{line_alone}
+use Rattle.im_play.specs.Between.{IsAnswered}
+use Rattle.im_play.specs.Machine.{AreCounted, Machine, are_lawful, idle, machine_behind_all, put, replies}
+use Rattle.im_play.specs.Requests.{Demand, asked, demand_of, demands_of}
+use Rattle.im_play.proofs.ComesLaws.{HasNumber, asked-number, line_first}
 use Rattle.im_replies.specs.declared.reply.Reply.{Reply}
 use Rattle.im_script.specs.declared.form.Form.{Form}
 use Rattle.im_script.specs.declared.form.Form.TheVariants as form
@@ -15,16 +16,10 @@ use Rattle.im_script.specs.declared.line.LineKind.{LineKind}
 use Rattle.im_script.specs.declared.line.LineKind.TheVariants as kind
 use Rattle.im_script.specs.Forms.{lines_of, first_of, form_of, who_of}
 use Rattle.im_script.specs.Lines.{AreLines, IsLine, HasKind, no_memory}
-use Rattle.im_session.specs.Reads.{IsCounted}
-use Rattle.im_shell.specs.Requests.{BACKGROUND, Command, Request, Demand, Nothing, Told, Asks, Orders, asked, demand_of, demands_of}
-use Rattle.im_shell.specs.inner.Answers.{IsAnswer, IsAnswered, IsCommandAnswer, IsStill}
-use Rattle.im_shell.specs.Play.{Machine, Way, idle, alone_at, are_lawful, is_answered, machine_after, machine_behind, play_command, play_request, replies, state_in, with_answer, with_reply, AreCounted, IsPlayed, IsPlayedInPart, IsTextOf, Plays, PlaysInPart}
-use Rattle.im_statements.specs.Background as background
-use Rattle.im_statements.specs.Outcomes.{Outcome, Replied, State}
+use Rattle.im_shell.specs.declared.shown.Shown.{Shown}
+use Rattle.im_shell.specs.Play.{ComesOf, IsPlayed, IsPlayedInPart, Plays, PlaysInPart}
+use Rattle.im_shell.specs.Texts.{text_of, text_shown}
 use Rattle.im_shell.specs.inner.Going.{text_put, Sends, SendsPart, IsSoFar, PlaysNext}
-use Rattle.im_text.specs.Replies.{reply_text}
-use Rattle.im_shell.specs.Texts.{text_of}
-use Rattle.im_worker.specs.Reads as builds
 
 -- a fact that holds anyway holds where a call failed
 pub OnErr-always : {T E P : Type 0} (r : Result T E) → P → OnErr r P
@@ -82,170 +77,38 @@ module _ (area : ℕ) (machine : Machine) where
 -- ---- what the lines so far come to
 
 pub IsSoFar-start : (area : ℕ) (script : List ℕ) (steps : ℕ) → IsSoFar area script [] 1 idle script steps steps
-IsSoFar-start area script steps = record { on = λ lines read text after played. record { lines = lines; read = read; played = played } }
+IsSoFar-start area script steps = record {
+  done = [];
+  split = refl;
+  on = λ bytes lines read more end after comes. record { read = lines; are = read; comes = comes };
+}
 
--- what a line asks for has the line's number
-abbrev HasNumber : ℕ → Demand → Type 0
-HasNumber n Nothing = Unit {0}
-HasNumber n (Told number reply) = number ≡ n
-HasNumber n (Asks request) = request.number ≡ n
-HasNumber n (Orders command) = command.number ≡ n
+-- the reply of a line, where it has one
+abbrev pub one : ℕ → Option Reply → List (ℕ × Reply)
+one number reply = put number reply []
 
-asked-number : (area n : ℕ) (k : LineKind) → HasNumber n (asked area n k)
-asked-number area n kind.Skip = tt
-asked-number area n kind.Race = tt
-asked-number area n (kind.Long length) = refl
-asked-number area n (kind.Bad byte) = refl
-asked-number area n (kind.Session who statement) = refl
-asked-number area n (kind.Background statement) = refl
-asked-number area n kind.NoMemory = refl
-
-both : (a b : Bool) → a ≡ true → b ≡ true → (a && b) ≡ true
-both true b e f = f
-both false b e f = e
-
--- the text of a reply and then of others, where the line has this number
-reply_first : (n number : ℕ) (reply : Reply) (text : List ℕ) (others : List (ℕ × Reply)) → n ≡ number → text ≡ text_of others
-    → reply_text number reply.body ++ text ≡ text_of ((n, reply) ∷ others)
-reply_first n number reply text others same is =
-    ap (λ (t : List ℕ). reply_text number reply.body ++ t) is
-    ∙ ap (λ (m : ℕ). reply_text m reply.body ++ text_of others) (sym same)
-
-module _ (area : ℕ) (demands : List Demand) (text : List ℕ) (before now after : ℕ) (old new : Machine) where
-  -- what comes of a line that asks for nothing, and then of others
-  none_first : IsStill before now old new → IsTextOf area new demands text now after → IsTextOf area old (Nothing ∷ demands) text before after
-  none_first still played = record {
-    ways = played.ways;
-    lawful = subst (λ (m : Machine). are_lawful played.ways m demands ≡ true) still.machine played.lawful;
-    text_is = subst (λ (m : Machine). text ≡ text_of (replies played.ways m demands)) still.machine played.text_is;
-    counted =
-        subst (λ (m : Machine). AreCounted area played.ways m demands before after) still.machine
-        (subst (λ (n : ℕ). AreCounted area played.ways new demands n after) still.steps played.counted);
-  }
-
-  -- of one whose reply is told
-  told_first : (n number : ℕ) (told reply : Reply) → n ≡ number → reply ≡ told → IsStill before now old new → IsTextOf area new demands text now after
-      → IsTextOf area old (Told n told ∷ demands) (reply_text number reply.body ++ text) before after
-  told_first n number told reply same reply_is still played = record {
-    ways = played.ways;
-    lawful = subst (λ (m : Machine). are_lawful played.ways m demands ≡ true) still.machine played.lawful;
-    text_is =
-        ap (λ (r : Reply). reply_text number r.body ++ text) reply_is
-        ∙ reply_first n number told text (replies played.ways old demands) same
-        (subst (λ (m : Machine). text ≡ text_of (replies played.ways m demands)) still.machine played.text_is);
-    counted =
-        subst (λ (m : Machine). AreCounted area played.ways m demands before after) still.machine
-        (subst (λ (n : ℕ). AreCounted area played.ways new demands n after) still.steps played.counted);
-  }
-
-  module _ (request : Request) (number : ℕ) (reply : Reply) (same : request.number ≡ number) (answer : IsAnswer area before now request old reply new)
-      (played : IsTextOf area new demands text now after) where
-    machine : IsMachine request.who request.amends old.history (request.plan (state_in old request.who)) (Replied reply answer.effect) new.history
-    machine =
-        line_alone request.who request.amends old.history (request.plan (state_in old request.who)) (Replied reply answer.effect) new.history answer.line
-
-    abbrev ended : Played Outcome
-    ended = record { result = Replied reply answer.effect; history = new.history }
-
-    abbrev way : Way
-    way = record { lacked = machine.lacked; rounds = 0 }
-
-    request-behind : machine_after old request ended ≡ new
-    request-behind =
-        ap₂ (λ (states : List State) (builds : List Task). record { history = new.history; states = states; builds = builds }) (sym answer.states)
-        (sym answer.builds_are)
-
-    -- what holds of what the line came to holds of what the machine plays
-    of_request : (P : Played Outcome → Type 0) → P ended → P (play_request way old request)
-    of_request P holds = subst P (sym machine.same) holds
-
-    -- of a statement of a session
-    request_first : IsTextOf area old (Asks request ∷ demands) (reply_text number reply.body ++ text) before after
-    request_first = record {
-      ways = way ∷ played.ways;
-      lawful =
-          both _ _ machine.lawful
-          (of_request (λ p. are_lawful played.ways (machine_after old request p) demands ≡ true)
-          (subst (λ (m : Machine). are_lawful played.ways m demands ≡ true) (sym request-behind) played.lawful));
-      text_is =
-          of_request
-          (λ p. reply_text number reply.body ++ text
-          ≡ text_of (with_reply request.number p.result (replies played.ways (machine_after old request p) demands)))
-          (reply_first request.number number reply text _ same
-          (subst (λ (m : Machine). text ≡ text_of (replies played.ways m demands)) (sym request-behind) played.text_is));
-      counted =
-          of_request
-          (λ p. (between : ℕ) × IsCounted request.who before between (alone_at area old.history) (alone_at area p.history)
-          × AreCounted area played.ways (machine_after old request p) demands between after)
-          (now, answer.counted, subst (λ (m : Machine). AreCounted area played.ways m demands now after) (sym request-behind) played.counted);
-    }
-
-  module _ (command : Command) (number : ℕ) (reply : Reply) (same : command.number ≡ number)
-      (answer : IsCommandAnswer area before now command old reply new) (played : IsTextOf area new demands text now after) where
-    machine_of_command : IsMachine BACKGROUND (command.amends old.builds) old.history (command.plan answer.rounds old.builds)
-        (background.Answered reply new.builds) new.history
-    machine_of_command =
-        line_alone BACKGROUND (command.amends old.builds) old.history (command.plan answer.rounds old.builds) (background.Answered reply new.builds)
-        new.history answer.line
-
-    abbrev ended_command : Played background.Outcome
-    ended_command = record { result = background.Answered reply new.builds; history = new.history }
-
-    abbrev way_of_command : Way
-    way_of_command = record { lacked = machine_of_command.lacked; rounds = answer.rounds }
-
-    command-behind : machine_behind old ended_command ≡ new
-    command-behind =
-        ap (λ (states : List State). record { history = new.history; states = states; builds = new.builds }) (sym answer.states_are)
-
-    of_command : (P : Played background.Outcome → Type 0) → P ended_command → P (play_command way_of_command old command)
-    of_command P holds = subst P (sym machine_of_command.same) holds
-
-    -- of a statement of the background
-    command_first : IsTextOf area old (Orders command ∷ demands) (reply_text number reply.body ++ text) before after
-    command_first = record {
-      ways = way_of_command ∷ played.ways;
-      lawful =
-          both _ _ (both _ _ machine_of_command.lawful (of_command (λ p. is_answered p.result ≡ true) refl))
-          (of_command (λ p. are_lawful played.ways (machine_behind old p) demands ≡ true)
-          (subst (λ (m : Machine). are_lawful played.ways m demands ≡ true) (sym command-behind) played.lawful));
-      text_is =
-          of_command
-          (λ p. reply_text number reply.body ++ text
-          ≡ text_of (with_answer command.number p.result (replies played.ways (machine_behind old p) demands)))
-          (reply_first command.number number reply text _ same
-          (subst (λ (m : Machine). text ≡ text_of (replies played.ways m demands)) (sym command-behind) played.text_is));
-      counted =
-          of_command
-          (λ p. (between : ℕ) × builds.IsCounted BACKGROUND before between (alone_at area old.history) (alone_at area p.history)
-          × AreCounted area played.ways (machine_behind old p) demands between after)
-          (now, answer.counted, subst (λ (m : Machine). AreCounted area played.ways m demands now after) (sym command-behind) played.counted);
-    }
-
-  -- of any line
-  line_first : (demand : Demand) (number : ℕ) (reply : Option Reply) → HasNumber number demand → IsAnswered area before now demand old reply new
-      → IsTextOf area new demands text now after → IsTextOf area old (demand ∷ demands) (text_put number reply ++ text) before after
-  line_first Nothing number None same answered played = none_first answered played
-  line_first Nothing number (Some reply) same answered played = absurd answered
-  line_first (Told n told) number None same answered played = absurd answered
-  line_first (Told n told) number (Some reply) same answered played = told_first n number told reply same answered.0 answered.1 played
-  line_first (Asks request) number None same answered played = absurd answered
-  line_first (Asks request) number (Some reply) same answered played = request_first request number reply same answered played
-  line_first (Orders command) number None same answered played = absurd answered
-  line_first (Orders command) number (Some reply) same answered played = command_first command number reply same answered played
+put-one : (number : ℕ) (reply : Option Reply) (more : List (ℕ × Reply)) → put number reply more ≡ one number reply ++ more
+put-one number None more = refl
+put-one number (Some reply) more = refl
 
 -- one more line was read and played
-pub IsSoFar-next : (area : ℕ) (script written : List ℕ) (number : ℕ) (h new : Machine) (rest behind bytes : List ℕ) (line : Line) (reply : Option Reply)
-    (first before after : ℕ) → IsSoFar area script written number h rest first before → lines_of rest ≡ bytes ∷ lines_of behind
-    → IsLine number bytes line → IsAnswered area before after (demand_of area line) h reply new
-    → IsSoFar area script (written ++ text_put number reply) (number + 1) new behind first after
-IsSoFar-next area script written number h new rest behind bytes line reply first before after so_far lines_are read answered = record {
-  on = λ lines more text end played.
-      subst (λ (t : List ℕ). IsPlayed area script t first end) (sym (append_assoc written (text_put number reply) text))
-      (so_far.on (line ∷ lines) (subst (λ (l : List (List ℕ)). AreLines number l (line ∷ lines)) (sym lines_are) (read, more))
-      (text_put number reply ++ text) end
-      (line_first area (demands_of area lines) text before after end h new (demand_of area line) number reply
-      (subst (λ (n : ℕ). HasNumber n (demand_of area line)) read.number (asked-number area line.number line.kind)) answered played));
+pub IsSoFar-next : (area : ℕ) (script : List ℕ) (answers : List (ℕ × Reply)) (number : ℕ) (h new : Machine) (rest behind bytes : List ℕ) (line : Line)
+    (reply : Option Reply) (first before after : ℕ) → IsSoFar area script answers number h rest first before
+    → lines_of rest ≡ bytes ∷ lines_of behind → IsLine number bytes line → IsAnswered area before after (demand_of area line) h reply new
+    → IsSoFar area script (answers ++ one number reply) (number + 1) new behind first after
+IsSoFar-next area script answers number h new rest behind bytes line reply first before after so_far lines_are read answered = record {
+  done = so_far.done ++ bytes ∷ [];
+  split =
+      so_far.split
+      ∙ (ap (λ (l : List (List ℕ)). so_far.done ++ l) lines_are ∙ sym (append_assoc so_far.done (bytes ∷ []) (lines_of behind)));
+  on = λ others lines are more end last comes.
+      let all = so_far.on (bytes ∷ others) (line ∷ lines) (read, are) (put number reply more) end last
+      (line_first area (demands_of area lines) more end before after last h new (demand_of area line) number reply
+      (subst (λ (n : ℕ). HasNumber n (demand_of area line)) read.number (asked-number area line.number line.kind)) answered comes) in
+      subst (λ (l : List (List ℕ)). ComesOf area l ((answers ++ one number reply) ++ more) end first last)
+      (sym (append_assoc so_far.done (bytes ∷ []) others))
+      (subst (λ (rs : List (ℕ × Reply)). ComesOf area (so_far.done ++ bytes ∷ others) rs end first last)
+      (ap (λ (rs : List (ℕ × Reply)). answers ++ rs) (put-one number reply more) ∙ sym (append_assoc answers (one number reply) more)) all);
 }
 
 -- nothing has no lines
@@ -253,32 +116,59 @@ lines_of-nil : lines_of [] ≡ []
 unfolding lines_of
 lines_of-nil = refl
 
-pub IsSoFar-end : (area : ℕ) (script written : List ℕ) (number : ℕ) (h : Machine) (rest : List ℕ) (first now : ℕ)
-    → IsSoFar area script written number h rest first now → rest ≡ [] → IsPlayed area script written first now
-IsSoFar-end area script written number h rest first now so_far none =
+pub text-append : (shown : Shown) (first second : List (ℕ × Reply)) → text_of shown (first ++ second) ≡ text_of shown first ++ text_of shown second
+text-append shown [] second = refl
+text-append shown ((number, reply) ∷ first) second =
+    ap (λ (t : List ℕ). text_shown shown number reply.body ++ t) (text-append shown first second)
+    ∙ sym (append_assoc (text_shown shown number reply.body) (text_of shown first) (text_of shown second))
+
+text-one : (shown : Shown) (number : ℕ) (reply : Option Reply) → text_of shown (one number reply) ≡ text_put shown number reply
+text-one shown number None = refl
+text-one shown number (Some reply) = append-nil (text_shown shown number reply.body)
+
+-- what is behind the end of a script comes to nothing
+pub IsSoFar-end : (shown : Shown) (area : ℕ) (script : List ℕ) (answers : List (ℕ × Reply)) (number : ℕ) (h : Machine) (rest : List ℕ) (first now : ℕ)
+    → IsSoFar area script answers number h rest first now → rest ≡ [] → IsPlayed shown area script (text_of shown answers) first now
+IsSoFar-end shown area script answers number h rest first now so_far none =
     let no_lines : lines_of rest ≡ [] = ap lines_of none ∙ lines_of-nil in
-    subst (λ (t : List ℕ). IsPlayed area script t first now) (append-nil written)
-    (so_far.on [] (subst (λ (l : List (List ℕ)). AreLines number l []) (sym no_lines) tt) [] now
-    (record { ways = []; lawful = refl; text_is = refl; counted = omega arith }))
+    record {
+      answers = answers;
+      end = h;
+      comes =
+          subst (λ (l : List (List ℕ)). ComesOf area l answers h first now)
+          (ap (λ (l : List (List ℕ)). so_far.done ++ l) (sym no_lines) ∙ sym so_far.split)
+          (subst (λ (rs : List (ℕ × Reply)). ComesOf area (so_far.done ++ []) rs h first now) (append-nil answers)
+          (so_far.on [] [] tt [] h now
+          (record { ways = []; lawful = refl; answers_are = refl; end_is = refl; counted = omega arith })));
+      text_is = refl;
+    }
 
 -- a prefix of what was written is a prefix of what the script comes to
-pub IsSoFar-part : (area : ℕ) (script written : List ℕ) (number : ℕ) (h : Machine) (rest front more : List ℕ) (first now : ℕ)
-    → IsSoFar area script written number h rest first now → written ≡ front ++ more → IsPlayedInPart area script front
-IsSoFar-part area script written number h rest front more first now so_far split = record {
-  rest = more ++ text;
+pub IsSoFar-part : (shown : Shown) (area : ℕ) (script : List ℕ) (answers : List (ℕ × Reply)) (number : ℕ) (h : Machine) (rest front more : List ℕ)
+    (first now : ℕ) → IsSoFar area script answers number h rest first now → text_of shown answers ≡ front ++ more
+    → IsPlayedInPart shown area script front
+IsSoFar-part shown area script answers number h rest front more first now so_far split = record {
+  rest = more ++ text_of shown others;
   before = first;
   after = now;
-  played =
-      subst (λ (t : List ℕ). IsPlayed area script t first now) (ap (λ (t : List ℕ). t ++ text) split ∙ append_assoc front more text)
-      (so_far.on lines (are_lines number (lines_of rest)) text now
-      (record { ways = []; lawful = told.lawful; text_is = refl; counted = told.counted }));
+  played = record {
+    answers = answers ++ others;
+    end = machine_behind_all [] h (demands_of area lines);
+    comes =
+        subst (λ (l : List (List ℕ)). ComesOf area l (answers ++ others) (machine_behind_all [] h (demands_of area lines)) first now) (sym so_far.split)
+        (so_far.on (lines_of rest) lines (are_lines number (lines_of rest)) others (machine_behind_all [] h (demands_of area lines)) now
+        (record { ways = []; lawful = told.lawful; answers_are = refl; end_is = refl; counted = told.counted }));
+    text_is =
+        sym (append_assoc front more (text_of shown others))
+        ∙ (ap (λ (t : List ℕ). t ++ text_of shown others) (sym split) ∙ sym (text-append shown answers others));
+  };
 }
   where
     lines : List Line
     lines = some_lines number (lines_of rest)
 
-    text : List ℕ
-    text = text_of (replies [] h (demands_of area lines))
+    others : List (ℕ × Reply)
+    others = replies [] h (demands_of area lines)
 
     told : AreTold area h (demands_of area lines) now
     told = are_told area h number (lines_of rest) now
@@ -316,56 +206,61 @@ Sends-after a b c text left new_left first second = record {
 -- ---- the loop
 
 -- the script is played up to the rest, and the sink took all of its text but what waits
-pub record IsGoing (area : ℕ) (script : List ℕ) (before now : Option (List ℕ)) (number : ℕ) (machine : Machine) (rest waiting : List ℕ)
-    (first steps : ℕ) : Type 0 where
-  pub written : List ℕ
-  pub so_far : IsSoFar area script written number machine rest first steps
-  pub sends : Sends before now written waiting
+pub record IsGoing (shown : Shown) (area : ℕ) (script : List ℕ) (before now : Option (List ℕ)) (number : ℕ) (machine : Machine)
+    (rest waiting : List ℕ) (first steps : ℕ) : Type 0 where
+  pub answers : List (ℕ × Reply)
+  pub so_far : IsSoFar area script answers number machine rest first steps
+  pub sends : Sends before now (text_of shown answers) waiting
   pub numbered : number + length rest ≤ length script + 1
 
 -- the store in which nothing has happened
-pub IsGoing-start : (area : ℕ) (script : List ℕ) (taken : Option (List ℕ)) (waiting : List ℕ) (h : Machine) (steps : ℕ) → h ≡ idle → waiting ≡ []
-    → IsGoing area script taken taken 1 h script waiting steps steps
-IsGoing-start area script taken waiting h steps empty none =
-    subst (λ (m : Machine). IsGoing area script taken taken 1 m script waiting steps steps) (sym empty)
+pub IsGoing-start : (shown : Shown) (area : ℕ) (script : List ℕ) (taken : Option (List ℕ)) (waiting : List ℕ) (h : Machine) (steps : ℕ) → h ≡ idle
+    → waiting ≡ [] → IsGoing shown area script taken taken 1 h script waiting steps steps
+IsGoing-start shown area script taken waiting h steps empty none =
+    subst (λ (m : Machine). IsGoing shown area script taken taken 1 m script waiting steps steps) (sym empty)
     (record {
-      written = [];
+      answers = [];
       so_far = IsSoFar-start area script steps;
       sends = subst (Sends taken taken []) (sym none) (Sends-start taken);
       numbered = omega arith;
     })
 
 -- a line is played with the area that the limits have
-pub next_in : (limits same : Limits) → limits ≡ same → (bytes : List ℕ) (number : ℕ) (old new : Machine) (before after : Option (List ℕ))
-    (waiting new_waiting : List ℕ) (steps later : ℕ) → PlaysNext limits.area bytes number old new before after waiting new_waiting steps later
-    → PlaysNext same.area bytes number old new before after waiting new_waiting steps later
-next_in limits same is bytes number old new before after waiting new_waiting steps later next =
-    subst (λ (l : Limits). PlaysNext l.area bytes number old new before after waiting new_waiting steps later) is next
+pub next_in : (shown : Shown) (limits same : Limits) → limits ≡ same → (bytes : List ℕ) (number : ℕ) (old new : Machine) (before after : Option (List ℕ))
+    (waiting new_waiting : List ℕ) (steps later : ℕ) → PlaysNext shown limits.area bytes number old new before after waiting new_waiting steps later
+    → PlaysNext shown same.area bytes number old new before after waiting new_waiting steps later
+next_in shown limits same is bytes number old new before after waiting new_waiting steps later next =
+    subst (λ (l : Limits). PlaysNext shown l.area bytes number old new before after waiting new_waiting steps later) is next
 
-pub IsGoing-next : (area : ℕ) (script : List ℕ) (before now between after : Option (List ℕ)) (number : ℕ) (h new : Machine)
-    (rest behind line waiting middle new_waiting : List ℕ) (first steps later : ℕ) → IsGoing area script before now number h rest waiting first steps
+pub IsGoing-next : (shown : Shown) (area : ℕ) (script : List ℕ) (before now between after : Option (List ℕ)) (number : ℕ) (h new : Machine)
+    (rest behind line waiting middle new_waiting : List ℕ) (first steps later : ℕ)
+    → IsGoing shown area script before now number h rest waiting first steps
     → lines_of rest ≡ line ∷ lines_of behind → length behind + 1 ≤ length rest
-    → PlaysNext area line number h new now between waiting middle steps later → Sends between after middle new_waiting
-    → IsGoing area script before after (number + 1) new behind new_waiting first later
-IsGoing-next area script before now between after number h new rest behind line waiting middle new_waiting first steps later going lines_are shorter next sends =
-    let text = text_put number next.reply in
-    let put = Sends-more before now going.written waiting text (waiting ++ text) going.sends refl in
+    → PlaysNext shown area line number h new now between waiting middle steps later → Sends between after middle new_waiting
+    → IsGoing shown area script before after (number + 1) new behind new_waiting first later
+IsGoing-next shown area script before now between after number h new rest behind line waiting middle new_waiting first steps later going lines_are
+    shorter next sends =
+    let text = text_put shown number next.reply in
+    let put = Sends-more before now (text_of shown going.answers) waiting text (waiting ++ text) going.sends refl in
+    let written = text-append shown going.answers (one number next.reply)
+    ∙ ap (λ (t : List ℕ). text_of shown going.answers ++ t) (text-one shown number next.reply) in
     record {
-      written = going.written ++ text;
-      so_far = IsSoFar-next area script going.written number h new rest behind line next.plays.line next.reply first steps later going.so_far lines_are
+      answers = going.answers ++ one number next.reply;
+      so_far = IsSoFar-next area script going.answers number h new rest behind line next.plays.line next.reply first steps later going.so_far lines_are
           next.plays.read.is_line next.plays.answers.answered;
-      sends = Sends-after before between after _ middle new_waiting (Sends-after before now between _ _ middle put next.sends) sends;
+      sends = subst (λ (t : List ℕ). Sends before after t new_waiting) (sym written)
+          (Sends-after before between after _ middle new_waiting (Sends-after before now between _ _ middle put next.sends) sends);
       numbered = omega (arith, going.numbered);
     }
 
-pub IsGoing-end : (area : ℕ) (script : List ℕ) (before now after : Option (List ℕ)) (number : ℕ) (h : Machine) (rest waiting new_waiting : List ℕ)
-    (first steps : ℕ) → IsGoing area script before now number h rest waiting first steps → length rest ≤ 0 → Sends now after waiting new_waiting
-    → new_waiting ≡ [] → Plays area script before after first steps
-IsGoing-end area script before now after number h rest waiting new_waiting first steps going over sends none =
-    let all = Sends-after before now after going.written waiting new_waiting going.sends sends in
+pub IsGoing-end : (shown : Shown) (area : ℕ) (script : List ℕ) (before now after : Option (List ℕ)) (number : ℕ) (h : Machine)
+    (rest waiting new_waiting : List ℕ) (first steps : ℕ) → IsGoing shown area script before now number h rest waiting first steps → length rest ≤ 0
+    → Sends now after waiting new_waiting → new_waiting ≡ [] → Plays shown area script before after first steps
+IsGoing-end shown area script before now after number h rest waiting new_waiting first steps going over sends none =
+    let all = Sends-after before now after (text_of shown going.answers) waiting new_waiting going.sends sends in
     record {
-      text = going.written;
-      played = IsSoFar-end area script going.written number h rest first steps going.so_far (empty rest over);
+      text = text_of shown going.answers;
+      played = IsSoFar-end shown area script going.answers number h rest first steps going.so_far (empty rest over);
       took = subst (Took before after) (sym (all.split ∙ (ap (λ (t : List ℕ). all.sent ++ t) none ∙ append-nil all.sent))) all.took;
     }
   where
@@ -374,30 +269,31 @@ IsGoing-end area script before now after number h rest waiting new_waiting first
     empty (x ∷ xs) e = absurd (omega arith)
 
 -- where it stops the sink took a prefix of the text
-pub IsGoing-part : (area : ℕ) (script : List ℕ) (before now after : Option (List ℕ)) (number : ℕ) (h : Machine) (rest waiting : List ℕ) (first steps : ℕ)
-    → IsGoing area script before now number h rest waiting first steps → SendsPart now after waiting → PlaysInPart area script before after
-IsGoing-part area script before now after number h rest waiting first steps going part =
-    let all = Sends-after before now after going.written waiting part.left going.sends part.sends in
+pub IsGoing-part : (shown : Shown) (area : ℕ) (script : List ℕ) (before now after : Option (List ℕ)) (number : ℕ) (h : Machine) (rest waiting : List ℕ)
+    (first steps : ℕ) → IsGoing shown area script before now number h rest waiting first steps → SendsPart now after waiting
+    → PlaysInPart shown area script before after
+IsGoing-part shown area script before now after number h rest waiting first steps going part =
+    let all = Sends-after before now after (text_of shown going.answers) waiting part.left going.sends part.sends in
     record {
       text = all.sent;
-      played = IsSoFar-part area script going.written number h rest all.sent part.left first steps going.so_far all.split;
+      played = IsSoFar-part shown area script going.answers number h rest all.sent part.left first steps going.so_far all.split;
       took = all.took;
     }
 
 -- a fault right after a line
-pub IsGoing-stuck : (area : ℕ) (script : List ℕ) (before now between after : Option (List ℕ)) (number : ℕ) (h new : Machine)
-    (rest behind line waiting middle : List ℕ) (first steps later : ℕ) → IsGoing area script before now number h rest waiting first steps
+pub IsGoing-stuck : (shown : Shown) (area : ℕ) (script : List ℕ) (before now between after : Option (List ℕ)) (number : ℕ) (h new : Machine)
+    (rest behind line waiting middle : List ℕ) (first steps later : ℕ) → IsGoing shown area script before now number h rest waiting first steps
     → lines_of rest ≡ line ∷ lines_of behind → length behind + 1 ≤ length rest
-    → PlaysNext area line number h new now between waiting middle steps later → SendsPart between after middle
-    → PlaysInPart area script before after
-IsGoing-stuck area script before now between after number h new rest behind line waiting middle first steps later going lines_are shorter next part =
-    IsGoing-part area script before between after (number + 1) new behind middle first later
-    (IsGoing-next area script before now between between number h new rest behind line waiting middle middle first steps later going lines_are shorter next
-    (Sends-none between middle middle refl))
+    → PlaysNext shown area line number h new now between waiting middle steps later → SendsPart between after middle
+    → PlaysInPart shown area script before after
+IsGoing-stuck shown area script before now between after number h new rest behind line waiting middle first steps later going lines_are shorter next part =
+    IsGoing-part shown area script before between after (number + 1) new behind middle first later
+    (IsGoing-next shown area script before now between between number h new rest behind line waiting middle middle first steps later going lines_are
+    shorter next (Sends-none between middle middle refl))
     part
 
 -- before its first byte a prefix of every script's text was written
-pub PlaysInPart-nil : (area : ℕ) (script : List ℕ) (taken now : Option (List ℕ)) → now ≡ taken → PlaysInPart area script taken now
-PlaysInPart-nil area script taken now same =
-    subst (λ (after : Option (List ℕ)). PlaysInPart area script taken after) (sym same)
-    (record { text = []; played = IsSoFar-part area script [] 1 idle script [] [] 0 0 (IsSoFar-start area script 0) refl; took = Took-nil taken })
+pub PlaysInPart-nil : (shown : Shown) (area : ℕ) (script : List ℕ) (taken now : Option (List ℕ)) → now ≡ taken → PlaysInPart shown area script taken now
+PlaysInPart-nil shown area script taken now same =
+    subst (λ (after : Option (List ℕ)). PlaysInPart shown area script taken after) (sym same)
+    (record { text = []; played = IsSoFar-part shown area script [] 1 idle script [] [] 0 0 (IsSoFar-start area script 0) refl; took = Took-nil taken })

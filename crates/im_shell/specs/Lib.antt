@@ -1,5 +1,4 @@
 pub mod Exits
 pub mod Play
-pub mod Requests
 pub mod Texts
 pub mod inner

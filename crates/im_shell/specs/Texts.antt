@@ -1,9 +1,47 @@
 -- The text of the replies to lines.
-use Rattle.std.specs.Prelude.{ℕ, List, [], ◌∷◌, ◌++◌}
-use Rattle.im_text.specs.Replies.{reply_text}
+use Rattle.std.specs.Prelude.{ℕ, Bool, true, false, List, [], ◌∷◌, ◌++◌, Option, Some, None, if◌then◌else◌}
+use Rattle.im_replies.specs.declared.body.Body.{Body}
+use Rattle.im_replies.specs.declared.body.Body.TheVariants as body
 use Rattle.im_replies.specs.declared.reply.Reply.{Reply}
+use Rattle.im_shell.specs.declared.shown.Shown.{Shown}
+use Rattle.im_shell.specs.declared.shown.Shown.TheVariants.{All, Outcomes}
+use Rattle.im_text.specs.Replies.{reply_text}
 
--- the replies to lines, each with its line's number
-abbrev pub text_of : List (ℕ × Reply) → List ℕ
-text_of [] = []
-text_of ((number, reply) ∷ replies) = reply_text number reply.body ++ text_of replies
+-- the reply is an answer to a query or says that a line was refused
+abbrev pub is_outcome : Body → Bool
+is_outcome (body.Created table scn) = false
+is_outcome (body.Altered table) = false
+is_outcome (body.Begun scn) = false
+is_outcome (body.Inserted rows first) = false
+is_outcome (body.Updated rows) = false
+is_outcome (body.Deleted rows) = false
+is_outcome (body.Committed scn) = false
+is_outcome body.RolledBack = false
+is_outcome (body.Answer scn records) = true
+is_outcome (body.Opened cursor scn extents) = false
+is_outcome (body.Step extent how) = false
+is_outcome (body.End cursor) = false
+is_outcome (body.Closed cursor) = false
+is_outcome (body.Plan scn served) = false
+is_outcome (body.Ran builds) = false
+is_outcome (body.Build built) = false
+is_outcome body.Idle = false
+is_outcome (body.Ended ending) = false
+is_outcome body.Nothing = false
+is_outcome (body.Trickle credits) = false
+is_outcome (body.Evicted table extent used) = false
+is_outcome (body.Error fault) = true
+
+-- the reply is shown
+abbrev pub is_shown : Shown → Body → Bool
+is_shown All body = true
+is_shown Outcomes body = is_outcome body
+
+-- the text of a reply to the line of this number, where it is shown
+abbrev pub text_shown : Shown → ℕ → Body → List ℕ
+text_shown shown number body = if is_shown shown body then reply_text number body else []
+
+-- the text of the replies to lines, each with its line's number
+abbrev pub text_of : Shown → List (ℕ × Reply) → List ℕ
+text_of shown [] = []
+text_of shown ((number, reply) ∷ replies) = text_shown shown number reply.body ++ text_of shown replies

@@ -10,6 +10,7 @@
 #![tactic(auto)]
 
 mod play;
+mod shown;
 mod status;
 mod top;
 

@@ -8,6 +8,7 @@ ghost use Rattle.im_words.specs.Command.{Refuses};
 ghost use Rattle.im_words.specs.Good.{IsGood};
 
 use crate::play::{Stop, play_script};
+use crate::shown::Shown;
 use crate::status::Status;
 use im_edge::{Gate, ReadError, Sink, Source, read_all};
 use im_values::Steps;
@@ -66,7 +67,16 @@ pub fn run<R: Threads + Wait + Sync, S: Source, K: Sink, G: Gate + Sync, L: Ledg
         Err(ReadError::TooLong) => return Status::ScriptTooLong,
         Err(ReadError::NoMemory) => return Status::NoMemory,
     };
-    match play_script(alloc, rt, gate, asked.area, script.as_slice(), sink, steps) {
+    match play_script(
+        alloc,
+        rt,
+        gate,
+        Shown::All,
+        asked.area,
+        script.as_slice(),
+        sink,
+        steps,
+    ) {
         Ok(()) => Status::Done,
         Err(Stop::WriteFault) => Status::WriteFault,
         Err(Stop::NoMemory) => Status::NoMemory,

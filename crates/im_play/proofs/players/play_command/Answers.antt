@@ -1,8 +1,8 @@
 use Rattle.std.proofs.Common.{subst}
 use Rattle.im_reach.specs.Sides.{Known}
-use Rattle.im_shell.specs.inner.Answers.{IsCommandAnswer, command_of, machine_of}
-use Rattle.im_shell.proofs.SessionsLemmas.{answer-command, between-command, holding-now, looked}
-use Rattle.im_shell.proofs.play.play_command.Goals as goal
+use Rattle.im_play.specs.Between.{IsCommandAnswer, command_of, machine_of}
+use Rattle.im_play.proofs.SessionsLemmas.{answer-command, between-command, holding-now, looked}
+use Rattle.im_play.proofs.players.play_command.Goals as goal
 
 pub command-requires-clause-agrees : goal.command-requires-clause-agrees
 command-requires-clause-agrees g c =

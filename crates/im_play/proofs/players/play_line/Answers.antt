@@ -1,5 +1,5 @@
-use Rattle.im_shell.proofs.SessionsLemmas.{answers-command, answers-session}
-use Rattle.im_shell.proofs.play.play_line.Goals as goal
+use Rattle.im_play.proofs.SessionsLemmas.{answers-command, answers-session}
+use Rattle.im_play.proofs.players.play_line.Goals as goal
 
 pub returns-in-Session-clause-answers : goal.returns-in-Session-clause-answers
 returns-in-Session-clause-answers g c =

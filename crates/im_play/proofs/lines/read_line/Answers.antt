@@ -1,5 +1,5 @@
-use Rattle.im_shell.proofs.KnownLemmas.{known_line}
-use Rattle.im_shell.proofs.play.read_line.Goals as goal
+use Rattle.im_play.proofs.KnownLemmas.{known_line}
+use Rattle.im_play.proofs.lines.read_line.Goals as goal
 
 pub returns-clause-read : goal.returns-clause-read
 returns-clause-read c = record { is_line = c.line_of.ensures.is }

@@ -6,23 +6,20 @@ use Rattle.std.proofs.lemmas.List.Elements.{All-append, All-nil, All-weaker}
 use Rattle.im_history.specs.declared.entry.Entry.{Entry}
 use Rattle.im_history.specs.declared.limits.Limits.{Limits}
 use Rattle.im_history.specs.declared.task.Task.{Task}
-use Rattle.im_history.specs.Cursors.{opened}
-use Rattle.im_history.specs.History.{History, replay}
+use Rattle.im_history.specs.History.{History}
 use Rattle.im_history.specs.Legal.{IsLawful}
-use Rattle.im_history.specs.Transactions.{begun}
-use Rattle.im_history.proofs.UnitLaws.{held-nil}
 use Rattle.im_plan.specs.Goes.{Line as Whole, Nobody}
 use Rattle.im_reach.specs.Sides.{Known, sole, speaks}
 use Rattle.im_replies.specs.declared.reply.Reply.{Reply}
 use Rattle.im_session.specs.Reads.{IsCounted}
 use Rattle.im_session.specs.Sessions.{Agrees, IsPlayed, Kept, state_of}
 use Rattle.im_session.proofs.ForCallers.{IsOwn, agrees-other, agrees-own, line-alone, line-own, played-alone, played-own}
-use Rattle.im_shell.specs.Play.{Machine, alone_at, idle, state_in, unused}
-use Rattle.im_shell.specs.Requests.{BACKGROUND, asked, script_limits}
+use Rattle.im_play.specs.Machine.{Machine, alone_at, state_in}
+use Rattle.im_play.specs.Requests.{BACKGROUND, asked, script_limits}
 use Rattle.im_script.specs.declared.line.Line.{Line}
 use Rattle.im_script.specs.declared.line.LineKind.{LineKind}
 use Rattle.im_script.specs.declared.line.LineKind.TheVariants as kind
-use Rattle.im_shell.specs.inner.Answers.{Answers, AreSessions, IsAnswer, IsAnswered, IsBetween, IsCommandAnswer, IsHolding, background_side, command_of, machine_of, nothing_in, request_of, unused_background, unused_from, unused_session}
+use Rattle.im_play.specs.Between.{Answers, AreSessions, IsAnswer, IsAnswered, IsBetween, IsCommandAnswer, IsHolding, background_side, command_of, machine_of, request_of}
 use Rattle.im_statements.specs.Background as command
 use Rattle.im_statements.specs.Background.{Answered, command_amends, command_plan}
 use Rattle.im_statements.specs.Outcomes.{Outcome, Replied, State, fresh, kept_after}
@@ -133,7 +130,7 @@ holding-now kept now holding lawful =
     (not-background kept holding.who) holding.after.between holding.after.lawful.apart)
     holding.agrees
 
-holding-new : (kept : background.Kept) (now : Known) → kept.who ≡ BACKGROUND → background.Agrees kept now → IsHolding kept now
+pub holding-new : (kept : background.Kept) (now : Known) → kept.who ≡ BACKGROUND → background.Agrees kept now → IsHolding kept now
 holding-new kept now who agrees = record {
   who = who;
   at = now.log;
@@ -313,62 +310,3 @@ pub answers-command : (area before after : ℕ) (line : Line) (s : Stmt) (old ne
 answers-command area before after line s old new reply is answer = record {
   answered = subst (λ (k : LineKind). IsAnswered area before after (asked area line.number k) old (Some reply) new) (sym is) (answer line.number);
 }
-
--- ---- none keeps anything
-
-pub unused-states : (who count : ℕ) → map (λ s. state_of s.cursors) (unused_from who count) ≡ unused count
-unused-states who zero = refl
-unused-states who (suc left) = ap (λ (states : List State). fresh ∷ states) (unused-states (suc who) left)
-
-pub unused-length : (who count : ℕ) → length (unused_from who count) ≡ count
-unused-length who zero = refl
-unused-length who (suc left) = ap suc (unused-length (suc who) left)
-
-pub unused-last : (who count : ℕ) → unused_from who count ++ unused_session (who + count) ∷ [] ≡ unused_from who (suc count)
-unused-last who zero = ap (λ (n : ℕ). unused_session n ∷ []) (let same : who + 0 ≡ who = omega arith in same)
-unused-last who (suc left) =
-    ap (λ (sessions : List Kept). unused_session who ∷ sessions)
-    (ap (λ (n : ℕ). unused_from (suc who) left ++ unused_session n ∷ []) (let same : who + suc left ≡ suc who + left = omega arith in same)
-    ∙ unused-last (suc who) left)
-
-pub unused-push : (items after : List Kept) (new : Kept) (who : ℕ) → items ≡ unused_from 0 who → new ≡ unused_session who
-    → after ≡ items ++ new ∷ [] → after ≡ unused_from 0 (who + 1)
-unused-push items after new who is new_is pushed =
-    pushed
-    ∙ (ap (λ (sessions : List Kept). sessions ++ new ∷ []) is
-    ∙ (ap (λ (session : Kept). unused_from 0 who ++ session ∷ []) (new_is ∙ ap unused_session (let e : who ≡ 0 + who = omega arith in e))
-    ∙ (unused-last 0 who ∙ ap (unused_from 0) (let e : suc who ≡ who + 1 = omega arith in e))))
-
-pub unused-all : (items : List Kept) (who : ℕ) → items ≡ unused_from 0 who → who ≡ SESSIONS + 1 → items ≡ unused_from 0 (SESSIONS + 1)
-unused-all items who is all = is ∙ ap (unused_from 0) all
-
--- sessions that keep nothing agree with a store in which nothing has happened
-unused-agree : (who count : ℕ) (now : Known) → now.log ≡ [] → AreSessions who (unused_from who count) now
-unfolding begun opened replay
-unused-agree who zero now empty = tt
-unused-agree who (suc left) now empty = (
-  refl,
-  λ one. record { cursors = record { closed = rw empty refl; queries = rw empty tt }; sound = tt; apart = tt; transaction = rw empty refl },
-  unused-agree (suc who) left now empty,
-)
-
--- and so does a background that holds nothing
-unused-holds : (now : Known) → now.log ≡ [] → IsHolding unused_background now
-unused-holds now empty =
-    holding-new unused_background now refl
-    (record { builds = rw (empty, held-nil) refl; ready = tt; own = tt })
-
-pub between-start : (area : ℕ) (now : Known) (sessions : List Kept) (kept : background.Kept) → now ≡ nothing_in area
-    → sessions ≡ unused_from 0 (SESSIONS + 1) → kept ≡ unused_background → IsBetween now sessions kept
-between-start area now sessions kept is unused_is kept_is = rw (is, unused_is, kept_is) (record {
-  side = refl;
-  limits = refl;
-  count = unused-length 0 (SESSIONS + 1);
-  agree = unused-agree 0 (SESSIONS + 1) _ refl;
-  holding = unused-holds _ refl;
-})
-
-pub machine-start : (area : ℕ) (now : Known) (sessions : List Kept) (kept : background.Kept) → now ≡ nothing_in area
-    → sessions ≡ unused_from 0 (SESSIONS + 1) → kept ≡ unused_background → machine_of now sessions kept ≡ idle
-machine-start area now sessions kept is unused_is kept_is =
-    rw (is, unused_is, kept_is) (ap (λ (states : List State). record { history = []; states = states; builds = [] }) (unused-states 0 (SESSIONS + 1)))

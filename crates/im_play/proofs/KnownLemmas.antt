@@ -10,7 +10,7 @@ use Rattle.im_script.specs.declared.line.LineKind.{LineKind}
 use Rattle.im_script.specs.declared.line.LineKind.TheVariants as kind
 use Rattle.im_script.specs.Forms.{form_of}
 use Rattle.im_script.specs.Lines.{IsLine, HasKind, Says, SpeaksAs, NamesOneOf16, statement, bad_byte, bad_token, no_memory}
-use Rattle.im_shell.specs.inner.Answers.{IsKnown, HasStatement}
+use Rattle.im_play.specs.Lines.{IsKnown, HasStatement}
 
 -- the statement of a line is one of the language
 abbrev OfLanguage : LineKind → Type 0

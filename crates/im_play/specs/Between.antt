@@ -1,18 +1,15 @@
 -- How one line is played over a store, its sessions and its background, and what holds between two lines.
 use Rattle.std.specs.Prelude.{◌≡◌, ℕ, zero, suc, ◌+◌, ◌≤◌, false, List, [], ◌∷◌, length, map, Option, Some, None, ⊤, slice_set}
 use Rattle.im_history.specs.History.{History}
-use Rattle.im_syntax.specs.Rules.{IsStmt}
 use Rattle.im_syntax.specs.declared.statement.Stmt.{Stmt}
 use Rattle.im_plan.specs.Goes.{After, Line as Whole, Nobody}
 use Rattle.im_reach.specs.Sides.{AreOthers, Known, StoreSide, sole}
 use Rattle.im_script.specs.declared.line.Line.{Line}
-use Rattle.im_script.specs.declared.line.LineKind.{LineKind}
-use Rattle.im_script.specs.declared.line.LineKind.TheVariants as line
 use Rattle.im_session.specs.Reads.{IsCounted}
 use Rattle.im_session.specs.Sessions.{Agrees, Kept, state_of}
 use Rattle.im_replies.specs.declared.reply.Reply.{Reply}
-use Rattle.im_shell.specs.Play.{Machine, alone_at, state_in}
-use Rattle.im_shell.specs.Requests.{BACKGROUND, Command, Request, Demand, Nothing, Told, Asks, Orders, demand_of, script_limits}
+use Rattle.im_play.specs.Machine.{Machine, alone_at, state_in}
+use Rattle.im_play.specs.Requests.{BACKGROUND, Command, Request, Demand, Nothing, Told, Asks, Orders, demand_of, script_limits}
 use Rattle.im_statements.specs.Background.{Answered, command_amends, command_plan}
 use Rattle.im_statements.specs.Outcomes.{Effect, Replied, kept_after}
 use Rattle.im_statements.specs.Statements.{statement_plan}
@@ -124,16 +121,3 @@ IsAnswered area before after (Orders command) old (Some reply) new = IsCommandAn
 -- a line was played to its reply, where it has one
 pub record Answers (area before after : ℕ) (line : Line) (old : Machine) (reply : Option Reply) (new : Machine) : Type 0 where
   pub answered : IsAnswered area before after (demand_of area line) old reply new
-
--- a line that has a statement has one of the language, of a session or of the background
-abbrev pub HasStatement : LineKind → Type 0
-HasStatement line.Skip = Unit {0}
-HasStatement line.Race = Unit {0}
-HasStatement (line.Long length) = Unit {0}
-HasStatement (line.Bad byte) = Unit {0}
-HasStatement (line.Session who statement) = (1 ≤ who) × (who ≤ SESSIONS) × IsStmt statement
-HasStatement (line.Background statement) = IsStmt statement
-HasStatement line.NoMemory = Unit {0}
-
-pub record IsKnown (kind : LineKind) : Type 0 where
-  pub statement : HasStatement kind

@@ -1,6 +1,6 @@
 use Rattle.std.proofs.Common.{arith}
-use Rattle.im_shell.proofs.SessionsLemmas.{unused-all, unused-push}
-use Rattle.im_shell.proofs.play.unused_sessions.Goals as goal
+use Rattle.im_play.proofs.ForCallers.{unused-all, unused-push}
+use Rattle.im_play.proofs.players.unused_sessions.Goals as goal
 
 pub loop-who-init : goal.loop-who-init
 loop-who-init c = c.in_ok-sessions.ensures.items

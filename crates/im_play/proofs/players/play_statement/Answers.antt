@@ -1,5 +1,5 @@
-use Rattle.im_shell.proofs.SessionsLemmas.{answer-after, between-after, session-agrees, session-number, session-there}
-use Rattle.im_shell.proofs.play.play_statement.Goals as goal
+use Rattle.im_play.proofs.SessionsLemmas.{answer-after, between-after, session-agrees, session-number, session-there}
+use Rattle.im_play.proofs.players.play_statement.Goals as goal
 
 pub execute-requires-clause-session : goal.execute-requires-clause-session
 execute-requires-clause-session g c =

@@ -1,0 +1,4 @@
+pub mod ComesLaws
+pub mod ForCallers
+mod KnownLemmas
+mod SessionsLemmas

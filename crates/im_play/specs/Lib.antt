@@ -1,0 +1,4 @@
+pub mod Between
+pub mod Lines
+pub mod Machine
+pub mod Requests

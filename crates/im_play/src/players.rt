@@ -1,0 +1,159 @@
+ghost use Rattle.std.specs.Prelude.{◌≡◌, ◌≤◌, ◌+◌, ℕ, IfOk};
+ghost use Rattle.im_history.specs.Legal.{IsLawful};
+ghost use Rattle.im_play.specs.Between.{
+  Answers,
+  IsAnswer,
+  IsBetween,
+  IsCommandAnswer,
+  command_of,
+  machine_of,
+  request_of,
+  unused_background,
+  unused_from,
+};
+ghost use Rattle.im_play.specs.Lines.{IsKnown};
+ghost use Rattle.im_reach.specs.Sides.{sole};
+ghost use Rattle.im_syntax.specs.Rules.{IsStmt};
+
+use im_edge::Gate;
+use im_reach::Reach;
+use im_replies::{Fault, Reply};
+use im_script::{Line, LineKind};
+use im_session::Session;
+use im_syntax::Stmt;
+use im_unit::ColumnUnit;
+use im_values::limits::SESSIONS;
+use im_values::{NoMemory, Steps};
+use im_worker::Background;
+use std::alloc::Global;
+use std::sync::Wait;
+use std::sync::ledger::Ledger;
+
+/// The number of the background, which is no session's.
+pub const BACKGROUND: u32 = 0;
+
+/// Those who play statements.
+#[derive(Drop)]
+pub struct Players {
+    /// The sessions by their numbers. Number 0 is not used: it is the background's.
+    pub sessions: Vec<Session>,
+    /// The background.
+    pub background: Background,
+}
+
+/// The sessions of a script by their numbers, none of which keeps anything. Number 0 is the background's.
+fn unused_sessions(alloc: Global) -> Result<Vec<Session>, NoMemory>
+    ensures { IfOk result (λ sessions. sessions.items ≡ unused_from 0 (SESSIONS + 1)) }
+{
+    let mut sessions = Vec::with_capacity(alloc, SESSIONS as usize + 1)?;
+    for who in 0..SESSIONS + 1 {
+        sessions.push(Session::new(alloc, who))?;
+    }
+    Ok(sessions)
+}
+
+impl Players {
+    /// The sessions and the background of a script, none of which keeps anything.
+    pub fn new(alloc: Global) -> Result<Players, NoMemory>
+        ensures sessions { IfOk result (λ players. players.sessions.items ≡ unused_from 0 (SESSIONS + 1)) }
+        ensures background { IfOk result (λ players. players.background ≡ unused_background) }
+    {
+        let sessions = unused_sessions(alloc)?;
+        Ok(Players {
+            sessions,
+            background: Background::new(alloc, BACKGROUND),
+        })
+    }
+}
+
+/// Plays a statement of a session.
+fn play_statement<R: Wait, H: Reach<ColumnUnit>, G: Gate, L: Ledger>(
+    rt: &R,
+    reach: &mut H,
+    gate: &G,
+    players: &mut Players,
+    who: u32,
+    statement: &Stmt,
+    steps: &mut Steps<L>,
+) -> Reply
+    requires one { 1 ≤ who }
+    requires session { who ≤ SESSIONS }
+    requires statement { IsStmt statement.now }
+    requires between { IsBetween (H.known reach.old) players.old.sessions.items players.old.background }
+    ensures between { IsBetween (H.known reach.new) players.new.sessions.items players.new.background }
+    ensures limits { (H.known reach.new).limits ≡ (H.known reach.old).limits }
+    ensures answer { (number : ℕ) → IsAnswer (H.known reach.old).limits.area steps.old steps.new
+        (request_of (H.known reach.old).limits.area number who statement.now)
+        (machine_of (H.known reach.old) players.old.sessions.items players.old.background) result
+        (machine_of (H.known reach.new) players.new.sessions.items players.new.background) }
+{
+    players.sessions[who as usize].execute(rt, reach, gate, statement, steps)
+}
+
+/// Looks at a store that nobody else has: its history is known to be legal then. The look itself is not used.
+fn look_on<R: Wait, H: Reach<ColumnUnit>>(rt: &R, reach: &mut H)
+    requires alone { (H.known reach.old).side ≡ sole }
+    ensures same { H.known reach.new ≡ H.known reach.old }
+    ensures lawful { IsLawful (H.known reach.new).limits (H.known reach.new).log }
+{
+    let _ = reach.look(rt, BACKGROUND);
+}
+
+/// Plays a statement of the background.
+fn play_command<R: Wait, H: Reach<ColumnUnit>, G: Gate, L: Ledger>(
+    rt: &R,
+    reach: &mut H,
+    gate: &G,
+    players: &mut Players,
+    statement: &Stmt,
+    steps: &mut Steps<L>,
+) -> Reply
+    requires statement { IsStmt statement.now }
+    requires between { IsBetween (H.known reach.old) players.old.sessions.items players.old.background }
+    ensures between { IsBetween (H.known reach.new) players.new.sessions.items players.new.background }
+    ensures limits { (H.known reach.new).limits ≡ (H.known reach.old).limits }
+    ensures answer { (number : ℕ) → IsCommandAnswer (H.known reach.old).limits.area steps.old steps.new
+        (command_of (H.known reach.old).limits.area number statement.now)
+        (machine_of (H.known reach.old) players.old.sessions.items players.old.background) result
+        (machine_of (H.known reach.new) players.new.sessions.items players.new.background) }
+{
+    look_on(rt, reach);
+    players
+        .background
+        .command(rt, reach, gate, statement, steps)
+}
+
+/// Plays one line. Blanks, comments and the end of a prelude have no reply.
+pub fn play_line<R: Wait, H: Reach<ColumnUnit>, G: Gate, L: Ledger>(
+    alloc: Global,
+    rt: &R,
+    reach: &mut H,
+    gate: &G,
+    players: &mut Players,
+    line: &Line,
+    steps: &mut Steps<L>,
+) -> Option<Reply>
+    requires known { IsKnown line.now.kind }
+    requires between { IsBetween (H.known reach.old) players.old.sessions.items players.old.background }
+    ensures between { IsBetween (H.known reach.new) players.new.sessions.items players.new.background }
+    ensures limits { (H.known reach.new).limits ≡ (H.known reach.old).limits }
+    ensures answers { Answers (H.known reach.old).limits.area steps.old steps.new line.now
+        (machine_of (H.known reach.old) players.old.sessions.items players.old.background) result
+        (machine_of (H.known reach.new) players.new.sessions.items players.new.background) }
+{
+    match &line.kind {
+        LineKind::Skip | LineKind::Race => None,
+        LineKind::Long(length) => Some(Reply::refusal(
+            alloc,
+            Fault::LineTooLong { length: *length },
+        )),
+        LineKind::Bad(byte) => Some(Reply::refusal(alloc, Fault::Syntax { byte: *byte })),
+        LineKind::Session(who, statement) => {
+            Some(play_statement(rt, reach, gate, players, *who, statement, steps))
+        }
+        LineKind::Background(statement) => {
+            Some(play_command(rt, reach, gate, players, statement, steps))
+        }
+        LineKind::NoMemory => Some(Reply::refusal(alloc, Fault::Memory { k: 0 })),
+    }
+}
