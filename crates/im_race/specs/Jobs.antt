@@ -1,0 +1,50 @@
+-- What a session does in a race: its lines one after the other and the piece that ends it, whatever others do meanwhile.
+use Rattle.std.specs.Prelude.{◌≡◌, ℕ, ◌==◌, List, [], ◌∷◌}
+use Rattle.im_history.specs.declared.limits.Limits.{Limits}
+use Rattle.im_history.specs.History.{History}
+use Rattle.im_plan.specs.Goes.{After, Goes, Line as Whole, Others}
+use Rattle.im_play.specs.Requests.{Demand, Nothing, Told, Asks, Orders, demand_of}
+use Rattle.im_replies.specs.declared.reply.Reply.{Reply}
+use Rattle.im_script.specs.declared.line.Line.{Line}
+use Rattle.im_session.specs.Ends.{end_plan}
+use Rattle.im_statements.specs.Outcomes.{Effect, Replied, State, kept_after}
+use Rattle.im_worker.specs.Work.{IsTold, Round, Worked}
+use Rattle.im_worker.specs.declared.work.Ended.{Ended}
+
+-- entries of others than this number
+abbrev pub OthersThan : ℕ → History → Type 0
+OthersThan who = Others (λ number. number == who)
+
+-- a line behind the prelude, and its reply
+pub record Answer : Type 0 where
+  pub line : Line
+  pub reply : Reply
+
+-- from the history `old` on, the session of this number plays a line that asks for this, and has this reply; then it goes on
+abbrev pub GoesOn : ℕ → (State → History → Type 0) → State → History → Reply → Demand → Type 0
+GoesOn who on state old reply Nothing = ⊥
+GoesOn who on state old reply (Told number told) = (reply ≡ told) × on state old
+GoesOn who on state old reply (Asks request) =
+    (effect : Effect) × (at : History)
+    × Whole (OthersThan who) who request.amends old (request.plan state) (Replied reply effect) at
+    × on (kept_after effect state) at
+GoesOn who on state old reply (Orders command) = ⊥
+
+-- from the history `old` on, the session of this number, which keeps this, plays these lines with these replies and then ends. At the
+-- history `new` it has left, and others may have gone on behind it
+abbrev pub Job : ℕ → ℕ → State → History → List Answer → History → Type 0
+Job area who state old [] new = Goes (OthersThan who) who old (end_plan who) tt new
+Job area who state old (answer ∷ answers) new =
+    GoesOn who (λ kept at. Job area who kept at answers new) state old answer.reply (demand_of area answer.line)
+
+-- from the history `old` on, a worker of this number did its job of so many turns, in a race of so many sessions, and ended so
+pub record Worker (limits : Limits) (turns sessions who : ℕ) (old : History) (ended : Ended) (new : History) : Type 0 where
+  pub rounds : List Round
+  pub worked : Worked (OthersThan who) limits who rounds old new
+  pub told : IsTold turns sessions rounds ended
+
+-- what a session did holds of any longer history that others went on to
+abbrev pub IsJudgedByTheWhole : Type 0
+IsJudgedByTheWhole =
+    (area who : ℕ) (state : State) (old at new : History) (answers : List Answer) → After (OthersThan who) at new
+    → Job area who state old answers at → Job area who state old answers new
