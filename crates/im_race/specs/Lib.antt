@@ -1,3 +1,4 @@
 pub mod Jobs
+pub mod Leaving
 pub mod Lines
 pub mod Race

@@ -4,9 +4,9 @@
 //! worker do in a race, whatever others do meanwhile, and `specs/Race.antt` what the report of a whole race must show.
 //!
 //! [`a_job_is_judged_by_the_whole_history`] is the law that what a session did, as far as it knew the history, holds of the whole one.
-//! Start with `specs/Race.antt`.
+//! [`nobody_leaves`] is the law that no line of a prelude makes a session leave. Start with `specs/Race.antt`.
 #![tactic(auto)]
 
 mod laws;
 
-pub use laws::a_job_is_judged_by_the_whole_history;
+pub use laws::{a_job_is_judged_by_the_whole_history, nobody_leaves};

@@ -1,0 +1,11 @@
+use Rattle.im_race.proofs.StayingLaws.{nobody-leaves, nobody-leaves-behind, nobody-leaves-dropped}
+use Rattle.im_race.proofs.laws.nobody_leaves.Goals as goal
+
+pub returns-clause-sessions : goal.returns-clause-sessions
+returns-clause-sessions c = nobody-leaves
+
+pub returns-clause-background : goal.returns-clause-background
+returns-clause-background c = nobody-leaves-behind
+
+pub returns-clause-dropped : goal.returns-clause-dropped
+returns-clause-dropped c = nobody-leaves-dropped
