@@ -7,6 +7,7 @@ use Rattle.im_history.proofs.UnitLaws.{held-nil}
 use Rattle.im_play.specs.Between.{AreSessions, IsBetween, IsHolding, machine_of, nothing_in, unused_background, unused_from, unused_session}
 use Rattle.im_play.specs.Machine.{idle, unused}
 use Rattle.im_play.proofs.SessionsLemmas.{holding-new}
+use Rattle.im_play.proofs.ThereLemmas.{there-start}
 use Rattle.im_reach.specs.Sides.{Known}
 use Rattle.im_session.specs.Sessions.{Kept, state_of}
 use Rattle.im_statements.specs.Outcomes.{State, fresh}
@@ -63,6 +64,7 @@ between-start area now sessions kept is unused_is kept_is = rw (is, unused_is, k
   count = unused-length 0 (SESSIONS + 1);
   agree = unused-agree 0 (SESSIONS + 1) _ refl;
   holding = unused-holds _ refl;
+  there = there-start;
 })
 
 pub machine-start : (area : ℕ) (now : Known) (sessions : List Kept) (kept : background.Kept) → now ≡ nothing_in area

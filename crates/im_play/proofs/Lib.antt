@@ -1,4 +1,8 @@
 pub mod ComesLaws
+mod DroppedLemmas
 pub mod ForCallers
-mod KnownLemmas
+pub mod KnownLemmas
+mod LinesLemmas
 mod SessionsLemmas
+pub mod StayingLaws
+mod ThereLemmas

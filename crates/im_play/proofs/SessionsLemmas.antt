@@ -3,6 +3,7 @@ use Rattle.std.proofs.Common.{◌≡◌, ℕ, zero, suc, ◌+◌, ◌<◌, ◌�
 use Rattle.std.specs.Prelude.{slice_get, slice_index_or, slice_set}
 use Rattle.std.proofs.lemmas.Bool.Decides.{nat_tests}
 use Rattle.std.proofs.lemmas.List.Elements.{All-append, All-nil, All-weaker}
+use Rattle.std.proofs.lemmas.Option.{slice_get_within}
 use Rattle.im_history.specs.declared.entry.Entry.{Entry}
 use Rattle.im_history.specs.declared.limits.Limits.{Limits}
 use Rattle.im_history.specs.declared.task.Task.{Task}
@@ -20,6 +21,7 @@ use Rattle.im_script.specs.declared.line.Line.{Line}
 use Rattle.im_script.specs.declared.line.LineKind.{LineKind}
 use Rattle.im_script.specs.declared.line.LineKind.TheVariants as kind
 use Rattle.im_play.specs.Between.{Answers, AreSessions, IsAnswer, IsAnswered, IsBetween, IsCommandAnswer, IsHolding, background_side, command_of, machine_of, request_of}
+use Rattle.im_play.proofs.ThereLemmas.{there-command, there-session}
 use Rattle.im_statements.specs.Background as command
 use Rattle.im_statements.specs.Background.{Answered, command_amends, command_plan}
 use Rattle.im_statements.specs.Outcomes.{Outcome, Replied, State, fresh, kept_after}
@@ -84,7 +86,7 @@ length-set (s ∷ ss) (suc at) after = ap suc (length-set ss at after)
 -- ---- one number goes on
 
 -- the sessions of other numbers agree as they did
-others-agree : (who : ℕ) (old new : Known) → IsOwn who old.log new.log → (first : ℕ) (sessions : List Kept)
+pub others-agree : (who : ℕ) (old new : Known) → IsOwn who old.log new.log → (first : ℕ) (sessions : List Kept)
     → ((number : ℕ) → first ≤ number → 1 ≤ number → (who == number) ≡ false) → AreSessions first sessions old → AreSessions first sessions new
 others-agree who old new own first [] apart are = tt
 others-agree who old new own first (session ∷ sessions) apart are = (
@@ -201,7 +203,15 @@ module _ (sessions : List Kept) (at : ℕ) (before : Kept) (kept : background.Ke
       holding =
           holding-own before.who kept old new (let e = number-is in omega (arith, e, first)) (own_of s before after old new reply between.side played)
           between.holding;
+      there = there-session s before after old new reply between.side few played between.there;
     }
+      where
+        few : before.who ≤ SESSIONS
+        few =
+            let inside = slice_get_within sessions at before is in
+            let count = between.count in
+            let e = number-is in
+            omega (arith, inside, count, e)
 
     pub limits-after : new.limits ≡ old.limits
     limits-after = ap (λ (k : Known). k.limits) played.known
@@ -263,11 +273,13 @@ module _ (sessions : List Kept) (kept after : background.Kept) (old new : Known)
       line-alone old.side kept.who (command_amends kept.who (tasks_of kept.builds)) old.log
       (command_plan old.limits kept.who played.rounds (tasks_of kept.builds) s) (Answered reply (tasks_of after.builds)) new.log between.side played.line
 
+  kept-own : IsOwn kept.who old.log new.log
+  kept-own =
+      line-own kept.who (command_amends kept.who (tasks_of kept.builds)) old.log
+      (command_plan old.limits kept.who played.rounds (tasks_of kept.builds) s) (Answered reply (tasks_of after.builds)) new.log command-alone
+
   command-own : IsOwn BACKGROUND old.log new.log
-  command-own =
-      subst (λ (n : ℕ). IsOwn n old.log new.log) who-is
-      (line-own kept.who (command_amends kept.who (tasks_of kept.builds)) old.log
-      (command_plan old.limits kept.who played.rounds (tasks_of kept.builds) s) (Answered reply (tasks_of after.builds)) new.log command-alone)
+  command-own = subst (λ (n : ℕ). IsOwn n old.log new.log) who-is kept-own
 
   pub between-command : IsBetween new sessions after
   between-command = record {
@@ -276,6 +288,7 @@ module _ (sessions : List Kept) (kept after : background.Kept) (old new : Known)
     count = between.count;
     agree = others-agree BACKGROUND old new command-own 0 sessions (λ number above one. grind (arith, nat_tests, one)) between.agree;
     holding = holding-new after new (played.same ∙ who-is) agrees;
+    there = there-command s kept after old new reply between.side (let e = who-is in omega (arith, e)) kept-own played between.there;
   }
 
   pub limits-command : new.limits ≡ old.limits

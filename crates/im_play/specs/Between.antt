@@ -1,6 +1,8 @@
 -- How one line is played over a store, its sessions and its background, and what holds between two lines.
-use Rattle.std.specs.Prelude.{◌≡◌, ℕ, zero, suc, ◌+◌, ◌≤◌, false, List, [], ◌∷◌, length, map, Option, Some, None, ⊤, slice_set}
+use Rattle.std.specs.Prelude.{◌≡◌, ℕ, zero, suc, ◌+◌, ◌≤◌, false, All, List, [], ◌∷◌, length, map, Option, Some, None, ⊤, slice_set}
+use Rattle.im_history.specs.declared.entry.Entry.{Entry}
 use Rattle.im_history.specs.History.{History}
+use Rattle.im_history.specs.Leaves.{has_left}
 use Rattle.im_syntax.specs.declared.statement.Stmt.{Stmt}
 use Rattle.im_plan.specs.Goes.{After, Line as Whole, Nobody}
 use Rattle.im_reach.specs.Sides.{AreOthers, Known, StoreSide, sole}
@@ -37,6 +39,11 @@ pub record IsHolding (kept : background.Kept) (now : Known) : Type 0 where
   pub agrees : background.Agrees kept (record now { log = at })
   pub after : After (AreOthers background_side) at now.log
 
+-- nobody has left, and each entry is that of a session or of the background
+pub record AreThere (log : History) : Type 0 where
+  pub stay : (who : ℕ) → has_left log who ≡ false
+  pub numbered : All (λ (entry : Entry). entry.who ≤ SESSIONS) log
+
 -- the store that a script is played over, its sessions and its background, between two lines
 pub record IsBetween (now : Known) (sessions : List Kept) (kept : background.Kept) : Type 0 where
   pub side : now.side ≡ sole
@@ -44,6 +51,7 @@ pub record IsBetween (now : Known) (sessions : List Kept) (kept : background.Kep
   pub count : length sessions ≡ SESSIONS + 1
   pub agree : AreSessions 0 sessions now
   pub holding : IsHolding kept now
+  pub there : AreThere now.log
 
 -- the machine that they are
 abbrev pub machine_of : Known → List Kept → background.Kept → Machine

@@ -1,4 +1,5 @@
 pub mod Between
+pub mod Leaving
 pub mod Lines
 pub mod Machine
 pub mod Requests

@@ -2,14 +2,14 @@
 use Rattle.std.specs.Prelude.{◌≡◌, ℕ, zero, suc, ◌+◌, ◌≤◌, Bool, true, false, ◌&&◌, List, [], ◌∷◌, Option, Some, None, slice_index_or, slice_set}
 use Rattle.im_history.specs.declared.task.Task.{Task}
 use Rattle.im_history.specs.History.{History}
-use Rattle.im_plan.specs.Alone.{Played, play_or_cut, may_lack}
+use Rattle.im_plan.specs.Alone.{Played, play, play_or_cut, may_lack}
 use Rattle.im_play.specs.Requests.{BACKGROUND, Command, Request, Demand, Nothing, Told, Asks, Orders, script_limits}
 use Rattle.im_reach.specs.Sides.{Known, sole}
 use Rattle.im_replies.specs.declared.reply.Reply.{Reply}
 use Rattle.im_session.specs.Reads.{IsCounted}
 use Rattle.im_statements.specs.Agreement.{kept_by}
 use Rattle.im_statements.specs.Background as background
-use Rattle.im_statements.specs.Background.{Answered, OutOfRounds}
+use Rattle.im_statements.specs.Background.{Answered, OutOfRounds, drop_all}
 use Rattle.im_statements.specs.Outcomes.{Outcome, Replied, State, Unfinished, fresh}
 use Rattle.im_values.specs.declared.limits.TheConstants.{SESSIONS}
 use Rattle.im_worker.specs.Reads as builds
@@ -84,6 +84,11 @@ with_answer number OutOfRounds replies = replies
 abbrev pub is_answered : background.Outcome → Bool
 is_answered (Answered reply builds) = true
 is_answered OutOfRounds = false
+
+-- the machine once the builds that are held are ended without their units
+abbrev pub without_builds : Machine → Machine
+without_builds machine =
+    record machine { history = (play BACKGROUND machine.history (drop_all machine.builds)).history; builds = [] }
 
 -- ---- the lines of a script
 

@@ -1,5 +1,5 @@
 -- What the lines of a script ask for.
-use Rattle.std.specs.Prelude.{ℕ, List, map}
+use Rattle.std.specs.Prelude.{ℕ, List, Option, Some, None, map}
 use Rattle.im_history.specs.declared.limits.Limits.{Limits}
 use Rattle.im_history.specs.declared.task.Task.{Task}
 use Rattle.im_plan.specs.Plan.{Plan}
@@ -45,6 +45,16 @@ pub data Demand : Type 0 where
 -- the number of the background, which is no session's
 abbrev pub BACKGROUND : ℕ
 BACKGROUND = 0
+
+-- the reply of a line that no player is asked for, where it has one
+abbrev pub settled_reply : LineKind → Option Reply
+settled_reply line.Skip = None
+settled_reply line.Race = None
+settled_reply (line.Long length) = Some (fault_reply (fault.LineTooLong length))
+settled_reply (line.Bad byte) = Some (fault_reply (fault.Syntax byte))
+settled_reply (line.Session who statement) = None
+settled_reply (line.Background statement) = None
+settled_reply line.NoMemory = Some (memory_reply 0)
 
 -- what a line of this kind asks for: blanks, comments and the end of a prelude for nothing; a line that is too long, that is
 -- no statement, or for whose reading there was no memory has its one reply; and a statement is played

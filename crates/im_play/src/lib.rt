@@ -4,13 +4,19 @@
 //! reference machine: what happened so far, and what each session and the background keep.
 //!
 //! The main promise is the clause `answers` of [`play_line`]: what the line asks for (`specs/Requests.antt`) is what the machine
-//! plays, and the reply is the machine's. Start with `specs/Requests.antt`, then `players.rt`.
+//! plays, and the reply is the machine's; [`settled`] answers the lines that no player is asked for. [`play_lines`] plays many, and
+//! [`Players::drop_held`] ends the builds that are held. [`nobody_leaves`] is the law that no line makes a session leave.
+//! Start with `specs/Requests.antt`, then `players.rt`.
 #![tactic(auto)]
 
+mod laws;
 mod lines;
 mod players;
 mod store;
+mod told;
 
+pub use laws::nobody_leaves;
 pub use lines::read_line;
-pub use players::{BACKGROUND, Players, play_line};
+pub use players::{BACKGROUND, Players, play_line, play_lines};
 pub use store::empty_store;
+pub use told::settled;

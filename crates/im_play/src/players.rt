@@ -1,4 +1,4 @@
-ghost use Rattle.std.specs.Prelude.{◌≡◌, ◌≤◌, ◌+◌, ℕ, IfOk};
+ghost use Rattle.std.specs.Prelude.{◌≡◌, ◌≤◌, ◌+◌, ℕ, All, IfOk};
 ghost use Rattle.im_history.specs.Legal.{IsLawful};
 ghost use Rattle.im_play.specs.Between.{
   Answers,
@@ -12,12 +12,15 @@ ghost use Rattle.im_play.specs.Between.{
   unused_from,
 };
 ghost use Rattle.im_play.specs.Lines.{IsKnown};
+ghost use Rattle.im_play.specs.Machine.{Comes, without_builds};
+ghost use Rattle.im_play.specs.Requests.{demands_of};
 ghost use Rattle.im_reach.specs.Sides.{sole};
 ghost use Rattle.im_syntax.specs.Rules.{IsStmt};
 
+use crate::told::settled;
 use im_edge::Gate;
 use im_reach::Reach;
-use im_replies::{Fault, Reply};
+use im_replies::Reply;
 use im_script::{Line, LineKind};
 use im_session::Session;
 use im_syntax::Stmt;
@@ -63,6 +66,18 @@ impl Players {
             sessions,
             background: Background::new(alloc, BACKGROUND),
         })
+    }
+
+    /// Ends all builds that the background holds without their units, the oldest first. It takes no memory.
+    pub fn drop_held<R: Wait, H: Reach<ColumnUnit>>(&mut self, rt: &R, reach: &mut H)
+        requires between { IsBetween (H.known reach.old) self.old.sessions.items self.old.background }
+        ensures between { IsBetween (H.known reach.new) self.new.sessions.items self.new.background }
+        ensures limits { (H.known reach.new).limits ≡ (H.known reach.old).limits }
+        ensures dropped { machine_of (H.known reach.new) self.new.sessions.items self.new.background
+            ≡ without_builds (machine_of (H.known reach.old) self.old.sessions.items self.old.background) }
+    {
+        look_on(rt, reach);
+        self.background.drop_held(rt, reach);
     }
 }
 
@@ -142,18 +157,44 @@ pub fn play_line<R: Wait, H: Reach<ColumnUnit>, G: Gate, L: Ledger>(
         (machine_of (H.known reach.new) players.new.sessions.items players.new.background) }
 {
     match &line.kind {
-        LineKind::Skip | LineKind::Race => None,
-        LineKind::Long(length) => Some(Reply::refusal(
-            alloc,
-            Fault::LineTooLong { length: *length },
-        )),
-        LineKind::Bad(byte) => Some(Reply::refusal(alloc, Fault::Syntax { byte: *byte })),
         LineKind::Session(who, statement) => {
             Some(play_statement(rt, reach, gate, players, *who, statement, steps))
         }
         LineKind::Background(statement) => {
             Some(play_command(rt, reach, gate, players, statement, steps))
         }
-        LineKind::NoMemory => Some(Reply::refusal(alloc, Fault::Memory { k: 0 })),
+        LineKind::Skip
+        | LineKind::Race
+        | LineKind::Long(_)
+        | LineKind::Bad(_)
+        | LineKind::NoMemory => settled(alloc, &line.kind),
     }
+}
+
+/// Plays lines one after the other, and answers their replies, each with its line's number.
+pub fn play_lines<R: Wait, H: Reach<ColumnUnit>, G: Gate, L: Ledger>(
+    alloc: Global,
+    rt: &R,
+    reach: &mut H,
+    gate: &G,
+    players: &mut Players,
+    lines: &[Line],
+    steps: &mut Steps<L>,
+) -> Result<Vec<(u64, Reply)>, NoMemory>
+    requires known { All (λ line. IsKnown line.kind) lines.now }
+    requires between { IsBetween (H.known reach.old) players.old.sessions.items players.old.background }
+    ensures between { IsBetween (H.known reach.new) players.new.sessions.items players.new.background }
+    ensures limits { (H.known reach.new).limits ≡ (H.known reach.old).limits }
+    ensures comes { IfOk result (λ replies. Comes (H.known reach.old).limits.area
+        (machine_of (H.known reach.old) players.old.sessions.items players.old.background)
+        (demands_of (H.known reach.old).limits.area lines.now) replies.items
+        (machine_of (H.known reach.new) players.new.sessions.items players.new.background) steps.old steps.new) }
+{
+    let mut replies = Vec::new(alloc);
+    for line in lines {
+        if let Some(reply) = play_line(alloc, rt, reach, gate, players, line, steps) {
+            replies.push((line.number, reply))?;
+        }
+    }
+    Ok(replies)
 }

@@ -1,2 +1,11 @@
+pub mod AnswersLemmas
+pub mod BesideLemmas
+pub mod ClosingLemmas
+mod DoneLemmas
+pub mod FinishLemmas
 pub mod JobLaws
-pub mod StayingLaws
+pub mod LinesLemmas
+pub mod OutcomesLemmas
+mod PlayingLemmas
+pub mod RaceLemmas
+pub mod SetUpLemmas

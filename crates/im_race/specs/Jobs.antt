@@ -13,29 +13,30 @@ use Rattle.im_worker.specs.declared.work.Ended.{Ended}
 
 -- entries of others than this number
 abbrev pub OthersThan : ℕ → History → Type 0
-OthersThan who = Others (λ number. number == who)
+OthersThan who = Others (λ number. who == number)
 
 -- a line behind the prelude, and its reply
 pub record Answer : Type 0 where
   pub line : Line
   pub reply : Reply
 
--- from the history `old` on, the session of this number plays a line that asks for this, and has this reply; then it goes on
-abbrev pub GoesOn : ℕ → (State → History → Type 0) → State → History → Reply → Demand → Type 0
-GoesOn who on state old reply Nothing = ⊥
-GoesOn who on state old reply (Told number told) = (reply ≡ told) × on state old
-GoesOn who on state old reply (Asks request) =
-    (effect : Effect) × (at : History)
+-- the session of this number, which keeps `state` at the history `old`, plays a line that asks for this, and has this reply; then it
+-- keeps `kept` at the history `at`
+abbrev pub Plays : ℕ → State → History → Reply → Demand → State → History → Type 0
+Plays who state old reply Nothing kept at = ⊥
+Plays who state old reply (Told number told) kept at = (reply ≡ told) × (kept ≡ state) × (at ≡ old)
+Plays who state old reply (Asks request) kept at =
+    (effect : Effect) × (kept ≡ kept_after effect state)
     × Whole (OthersThan who) who request.amends old (request.plan state) (Replied reply effect) at
-    × on (kept_after effect state) at
-GoesOn who on state old reply (Orders command) = ⊥
+Plays who state old reply (Orders command) kept at = ⊥
 
 -- from the history `old` on, the session of this number, which keeps this, plays these lines with these replies and then ends. At the
 -- history `new` it has left, and others may have gone on behind it
-abbrev pub Job : ℕ → ℕ → State → History → List Answer → History → Type 0
-Job area who state old [] new = Goes (OthersThan who) who old (end_plan who) tt new
-Job area who state old (answer ∷ answers) new =
-    GoesOn who (λ kept at. Job area who kept at answers new) state old answer.reply (demand_of area answer.line)
+abbrev pub HasPlayed : ℕ → ℕ → State → History → List Answer → History → Type 0
+HasPlayed area who state old [] new = Goes (OthersThan who) who old (end_plan who) tt new
+HasPlayed area who state old (answer ∷ answers) new =
+    (kept : State) × (at : History) × Plays who state old answer.reply (demand_of area answer.line) kept at
+    × HasPlayed area who kept at answers new
 
 -- from the history `old` on, a worker of this number did its job of so many turns, in a race of so many sessions, and ended so
 pub record Worker (limits : Limits) (turns sessions who : ℕ) (old : History) (ended : Ended) (new : History) : Type 0 where
@@ -47,4 +48,4 @@ pub record Worker (limits : Limits) (turns sessions who : ℕ) (old : History) (
 abbrev pub IsJudgedByTheWhole : Type 0
 IsJudgedByTheWhole =
     (area who : ℕ) (state : State) (old at new : History) (answers : List Answer) → After (OthersThan who) at new
-    → Job area who state old answers at → Job area who state old answers new
+    → HasPlayed area who state old answers at → HasPlayed area who state old answers new

@@ -1,4 +1,5 @@
+pub mod inner
 pub mod Jobs
-pub mod Leaving
 pub mod Lines
 pub mod Race
+pub mod Report

@@ -1,5 +1,5 @@
 -- The lines of a race: those before the line `race>`, which one plays, and those behind it, which sessions play beside each other.
-use Rattle.std.specs.Prelude.{ℕ, zero, suc, ◌==◌, Bool, true, false, List, [], ◌∷◌, filter, map, Option, Some, None, if◌then◌else◌}
+use Rattle.std.specs.Prelude.{ℕ, zero, suc, ◌==◌, ◌&&◌, Bool, true, false, List, [], ◌∷◌, filter, map, Option, Some, None, if◌then◌else◌}
 use Rattle.std.specs.List.{list_any}
 use Rattle.im_play.specs.Requests.{BACKGROUND}
 use Rattle.im_script.specs.declared.line.Line.{Line}
@@ -46,9 +46,17 @@ names who (Some number) = number == who
 abbrev pub as_raced : Line → Line
 as_raced line = if names BACKGROUND line.who then record line { who = None; kind = kind.Bad line.first } else line
 
--- the lines that are raced, in order
+-- the session speaks in a line that has a reply
+abbrev pub speaks_in : ℕ → Line → Bool
+speaks_in who line = has_reply line.kind && names who line.who
+
+-- the lines that are raced, of those behind the prelude
+abbrev pub raced_of : List Line → List Line
+raced_of behind = map as_raced (filter (λ line. has_reply line.kind) behind)
+
+-- the lines of a script that are raced, in order
 abbrev pub raced : List Line → List Line
-raced lines = map as_raced (filter (λ line. has_reply line.kind) (behind_of lines))
+raced lines = raced_of (behind_of lines)
 
 -- the session speaks in one of these lines, so it has a job
 abbrev pub has_job : List Line → ℕ → Bool

@@ -4,15 +4,16 @@ use Rattle.im_history.specs.declared.limits.Limits.{Limits}
 use Rattle.im_history.specs.declared.entry.Entry.{Entry}
 use Rattle.im_history.specs.History.{History}
 use Rattle.im_history.specs.Legal.{IsLawful}
-use Rattle.im_plan.specs.Alone.{play}
 use Rattle.im_plan.specs.Goes.{After}
-use Rattle.im_play.specs.Machine.{Machine, Way, are_lawful, idle, machine_behind_all, replies, state_in}
-use Rattle.im_play.specs.Requests.{BACKGROUND, Demand, Nothing, Told, Asks, Orders, demand_of, demands_of, script_limits}
-use Rattle.im_race.specs.Jobs.{Answer, Job, Worker}
+use Rattle.im_play.specs.Machine.{Comes, Machine, idle, state_in, without_builds}
+use Rattle.im_play.specs.Requests.{Demand, Nothing, Told, Asks, Orders, demand_of, demands_of, script_limits}
+use Rattle.im_race.specs.Jobs.{Answer, HasPlayed, Worker}
 use Rattle.im_race.specs.Lines.{has_job, names, prelude_of, raced, sessions_in}
+use Rattle.im_race.specs.Report.{Report}
 use Rattle.im_replies.specs.declared.reply.Reply.{Reply}
 use Rattle.im_script.specs.declared.line.Line.{Line}
-use Rattle.im_statements.specs.Background.{drop_all}
+use Rattle.im_script.specs.Forms.{lines_of}
+use Rattle.im_script.specs.Lines.{AreLines}
 use Rattle.im_values.specs.declared.limits.TheConstants.{SESSIONS}
 use Rattle.im_worker.specs.declared.work.Ended.{Ended}
 
@@ -20,22 +21,9 @@ use Rattle.im_worker.specs.declared.work.Ended.{Ended}
 abbrev pub FIRST_WORKER : ℕ
 FIRST_WORKER = SESSIONS + 1
 
--- ---- the report
-
--- what a race shows: the replies to its prelude, the history, how each worker ended, and the lines behind the prelude with their replies
-pub record Report : Type 0 where
-  pub prelude : List (ℕ × Reply)
-  pub history : History
-  pub ends : List Ended
-  pub answers : List Answer
-
--- the machine behind the prelude, played in these ways
-abbrev pub prelude_machine : ℕ → List Way → List Line → Machine
-prelude_machine area ways lines = machine_behind_all ways idle (demands_of area (prelude_of lines))
-
 -- the history with which a race begins: the prelude's, with the builds that its background held cancelled
 abbrev pub base_of : Machine → History
-base_of machine = (play BACKGROUND machine.history (drop_all machine.builds)).history
+base_of machine = (without_builds machine).history
 
 -- those who take part: the sessions that have a job, and so many workers
 abbrev pub takes_part : List Line → ℕ → ℕ → Bool
@@ -57,21 +45,29 @@ AreWorkers limits turns sessions number (ended ∷ ends) old new =
 -- a lawful race of these lines, with this area, so many workers, and so many turns for each
 pub record IsRace (area workers turns : ℕ) (lines : List Line) (report : Report) : Type 0 where
   -- the prelude is the machine's
-  pub ways : List Way
-  pub ways_lawful : are_lawful ways idle (demands_of area (prelude_of lines)) ≡ true
-  pub prelude : report.prelude ≡ replies ways idle (demands_of area (prelude_of lines))
+  pub machine : Machine
+  pub before : ℕ
+  pub after : ℕ
+  pub prelude : Comes area idle (demands_of area (prelude_of lines)) report.prelude machine before after
   -- the history goes on from it by entries of those who take part, and is legal
-  pub grew : After (All (λ (entry : Entry). takes_part (raced lines) workers entry.who ≡ true)) (base_of (prelude_machine area ways lines))
-      report.history
+  pub grew : After (All (λ (entry : Entry). takes_part (raced lines) workers entry.who ≡ true)) (base_of machine) report.history
   pub lawful : IsLawful (script_limits area) report.history
   -- each line behind the prelude is answered, in order
-  pub answered : map (λ (answer : Answer). answer.line) report.answers ≡ raced lines
-  pub told : All (λ (answer : Answer). answer.line.who ≡ None → IsTold answer.reply (demand_of area answer.line)) report.answers
+  pub answers : List Answer
+  pub shown : report.answers ≡ map (λ (answer : Answer). (answer.line.number, answer.reply)) answers
+  pub answered : map (λ (answer : Answer). answer.line) answers ≡ raced lines
+  pub told : All (λ (answer : Answer). answer.line.who ≡ None → IsTold answer.reply (demand_of area answer.line)) answers
   -- each session played its lines and left, whatever others did meanwhile
   pub jobs : (who : ℕ) → has_job (raced lines) who ≡ true
-      → Job area who (state_in (prelude_machine area ways lines) who) (base_of (prelude_machine area ways lines))
-      (filter (λ answer. names who answer.line.who) report.answers) report.history
+      → HasPlayed area who (state_in machine who) (base_of machine)
+      (filter (λ answer. names who answer.line.who) answers) report.history
   -- each worker did its job
   pub ended : length report.ends ≡ workers
   pub did : AreWorkers (script_limits area) turns (length (sessions_in (raced lines))) FIRST_WORKER report.ends
-      (base_of (prelude_machine area ways lines)) report.history
+      (base_of machine) report.history
+
+-- a lawful race of a script
+pub record IsRaceOf (area workers turns : ℕ) (script : List ℕ) (report : Report) : Type 0 where
+  pub lines : List Line
+  pub are : AreLines 1 (lines_of script) lines
+  pub race : IsRace area workers turns lines report

@@ -1,12 +1,27 @@
-//! What a lawful race is: sessions and workers that play beside each other behind a prelude, and the one history of what they did.
+//! A race: the lines of a script's prelude, played one after the other, and those behind it, which sessions play beside each other
+//! and beside workers, over one store.
 //!
 //! `specs/Lines.antt` says which lines are the prelude's and which are raced, and by whom. `specs/Jobs.antt` has what a session and a
 //! worker do in a race, whatever others do meanwhile, and `specs/Race.antt` what the report of a whole race must show.
 //!
-//! [`a_job_is_judged_by_the_whole_history`] is the law that what a session did, as far as it knew the history, holds of the whole one.
-//! [`nobody_leaves`] is the law that no line of a prelude makes a session leave. Start with `specs/Race.antt`.
+//! The main promise is that of [`race`]: its report is that of a lawful race. It stands on
+//! [`a_job_is_judged_by_the_whole_history`]: what a session did, as far as it knew the history when it left, holds of the whole one.
+//!
+//! Start with `specs/Race.antt`, then `racing.rt` and `course.rt`.
 #![tactic(auto)]
 
+mod course;
+mod job;
+mod jobs;
 mod laws;
+mod lines;
+mod playing;
+mod racing;
+mod replies;
+mod report;
+mod sorting;
 
-pub use laws::{a_job_is_judged_by_the_whole_history, nobody_leaves};
+pub use course::Setting;
+pub use laws::a_job_is_judged_by_the_whole_history;
+pub use racing::race;
+pub use report::Report;

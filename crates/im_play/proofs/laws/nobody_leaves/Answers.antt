@@ -1,5 +1,5 @@
-use Rattle.im_race.proofs.StayingLaws.{nobody-leaves, nobody-leaves-behind, nobody-leaves-dropped}
-use Rattle.im_race.proofs.laws.nobody_leaves.Goals as goal
+use Rattle.im_play.proofs.StayingLaws.{nobody-leaves, nobody-leaves-behind, nobody-leaves-dropped}
+use Rattle.im_play.proofs.laws.nobody_leaves.Goals as goal
 
 pub returns-clause-sessions : goal.returns-clause-sessions
 returns-clause-sessions c = nobody-leaves

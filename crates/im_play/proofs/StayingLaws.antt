@@ -48,7 +48,7 @@ use Rattle.im_statements.specs.Background as command
 use Rattle.im_statements.specs.Background.{answer_with, begin_next, built_of, cancel, command_amends, command_plan, drop_all, end_by, ending_by, evict_found, evicted, finish, fits, run, stray, switch, with_choice}
 use Rattle.im_statements.specs.Cursors.{close_query, close_with, fetch_query, fetch_reply, step_query, with_query}
 use Rattle.im_statements.specs.Definitions.{create_table, created, join_memory}
-use Rattle.im_race.specs.Leaving.{NobodyLeaves, NobodyLeavesBehind, NobodyLeavesDropped}
+use Rattle.im_play.specs.Leaving.{NobodyLeaves, NobodyLeavesBehind, NobodyLeavesDropped}
 use Rattle.im_statements.specs.Outcomes.{Opens, Outcome, Query, Replied, State, query_at}
 use Rattle.im_statements.specs.Scans.{end_scan, explained, mark_at, rows_seen, scan, serve, serve_from}
 use Rattle.im_statements.specs.Statements.{found_plan, is_definition, named_plan, resolved_plan, statement_plan}

@@ -1,0 +1,129 @@
+// The jobs of a race, each done by a side of its own of the store.
+ghost use Rattle.std.specs.Prelude.{◌≡◌, ◌<◌, All, IfOk};
+ghost use Rattle.im_play.specs.Lines.{IsKnown};
+ghost use Rattle.im_race.specs.inner.Doing.{AreDone, IsDone, IsReady};
+ghost use Rattle.im_script.specs.Lines.{NamesOneOf16};
+
+use crate::job::{Done, Job, Outcome, Player};
+use crate::playing::{play_session, play_worker};
+use im_edge::Gate;
+use im_script::Line;
+use im_store::Store;
+use im_unit::ColumnUnit;
+use im_values::{NoMemory, Steps};
+use std::alloc::Global;
+use std::marker::Brand;
+use std::sync::Wait;
+use std::sync::ledger::{Blank, Ledger};
+
+/// How a race is held.
+#[derive(Clone, Copy, Debug, PartialEq, Eq)]
+pub struct Setting {
+    /// How many bytes the column units may take together.
+    pub area: u64,
+    /// How many workers there are, from 0 to 8.
+    pub workers: u32,
+    /// How many turns each of them has.
+    pub turns: u64,
+}
+
+/// What is known of a race by all who take part.
+#[derive(Clone, Copy)]
+pub struct Course<'a> {
+    pub setting: Setting,
+    /// The lines behind the prelude.
+    pub lines: &'a [Line],
+    /// How many sessions have a job.
+    pub sessions: u32,
+}
+
+/// Does a job, counting its steps.
+fn play_counting<R: Wait, G: Gate, L: Ledger>(
+    alloc: Global,
+    rt: &R,
+    store: &Store<ColumnUnit>,
+    gate: &G,
+    course: &Course<'_>,
+    job: Job,
+    blank: Blank,
+) -> Done
+    requires ready { IsReady course.now.setting.area store.now.id job }
+    requires known { All (λ line. IsKnown line.kind) course.now.lines.now }
+    requires names { All NamesOneOf16 course.now.lines.now }
+    requires name { blank.name ≡ L.name }
+    requires parts { blank.parts ≡ L.parts }
+    requires some { 0 < blank.parts }
+    ensures { IsDone course.now.setting.area course.now.setting.turns course.now.sessions course.now.lines.now job result }
+{
+    let Job { who, pass, player } = job;
+    let mut steps = Steps::<L>::new(blank);
+    let mut side = store.shared(pass);
+    let outcome = match player {
+        Player::Session(session) => {
+            play_session(
+                alloc,
+                rt,
+                &mut side,
+                gate,
+                session,
+                who,
+                course.lines,
+                &mut steps,
+            )
+        }
+        Player::Worker => Outcome::Ended(play_worker(
+            alloc,
+            rt,
+            &mut side,
+            gate,
+            who,
+            course.setting.turns,
+            course.sessions,
+            &mut steps,
+        )),
+    };
+    Done {
+        who,
+        pass: side.into_pass(),
+        outcome,
+    }
+}
+
+/// Does a job.
+fn play<R: Wait, G: Gate>(
+    alloc: Global,
+    rt: &R,
+    store: &Store<ColumnUnit>,
+    gate: &G,
+    course: &Course<'_>,
+    job: Job,
+) -> Done
+    requires ready { IsReady course.now.setting.area store.now.id job }
+    requires known { All (λ line. IsKnown line.kind) course.now.lines.now }
+    requires names { All NamesOneOf16 course.now.lines.now }
+    ensures { IsDone course.now.setting.area course.now.setting.turns course.now.sessions course.now.lines.now job result }
+{
+    play_counting::<R, G, Brand>(alloc, rt, store, gate, course, job, Blank::new(1))
+}
+
+/// Does all jobs, one after the other, in their order.
+pub fn play_all<R: Wait, G: Gate>(
+    alloc: Global,
+    rt: &R,
+    store: &Store<ColumnUnit>,
+    gate: &G,
+    course: &Course<'_>,
+    jobs: Vec<Job>,
+) -> Result<Vec<Done>, NoMemory>
+    requires ready { All (IsReady course.now.setting.area store.now.id) jobs.items }
+    requires known { All (λ line. IsKnown line.kind) course.now.lines.now }
+    requires names { All NamesOneOf16 course.now.lines.now }
+    ensures { IfOk result (λ done. AreDone course.now.setting.area course.now.setting.turns course.now.sessions course.now.lines.now
+        jobs.items done.items) }
+{
+    let mut all = Vec::new(alloc);
+    for job in jobs {
+        all.push(play(alloc, rt, store, gate, course, job))?;
+    }
+    Ok(all)
+}

@@ -1,0 +1,129 @@
+ghost use Rattle.std.specs.Prelude.{◌≡◌, ◌+◌, ◌≤◌, [], false, All, IfOk, length, map};
+ghost use Rattle.im_play.specs.Between.{AreSessions, AreThere};
+ghost use Rattle.im_play.specs.Lines.{IsKnown};
+ghost use Rattle.im_play.specs.Requests.{script_limits};
+ghost use Rattle.im_race.specs.inner.Closing.{IsBeside, IsClosed};
+ghost use Rattle.im_race.specs.Race.{IsRaceOf};
+ghost use Rattle.im_script.specs.Lines.{NamesOneOf16};
+ghost use Rattle.im_store.specs.Sides.{who_of};
+ghost use Rattle.im_turn.specs.Passes.{KnowsOwn};
+
+use crate::course::{Course, Setting, play_all};
+use crate::jobs::{add_workers, session_jobs};
+use crate::lines::split_race;
+use crate::report::Report;
+use crate::sorting::{answers, sort_outcomes};
+use im_edge::Gate;
+use im_history::History;
+use im_play::{Players, empty_store, play_lines};
+use im_reach::{Reach, Sole};
+use im_replies::Reply;
+use im_script::{Line, lines};
+use im_session::Session;
+use im_store::{Pass, Store};
+use im_unit::ColumnUnit;
+use im_values::limits::{SESSIONS, WORKERS};
+use im_values::{NoMemory, Steps};
+use std::alloc::Global;
+use std::sync::Wait;
+use std::sync::ledger::Ledger;
+
+/// Ends all passes, and hands out the history of the store.
+fn close(
+    store: Store<ColumnUnit>,
+    mut first: Pass<ColumnUnit>,
+    passes: Vec<Pass<ColumnUnit>>,
+) -> History
+    requires store { first.turn ≡ store.id }
+    requires first { first.who ≡ 0 }
+    requires idle { first.holding ≡ false }
+    requires none_joined { first.olds ≡ [] }
+    requires passes_store { All (λ pass. pass.turn ≡ store.id) passes.items }
+    requires passes_idle { All (λ pass. pass.holding ≡ false) passes.items }
+    requires numbers { map (λ pass. pass.who) passes.items ≡ first.gave }
+    ensures { IsClosed first passes.items result.entries }
+{
+    store.join_all(&mut first, passes);
+    let core = store.close(first);
+    core.known();
+    core.into_history()
+}
+
+/// Lets sessions and workers play beside each other over a store, and answers what they show.
+fn play_beside<R: Wait, G: Gate>(
+    alloc: Global,
+    rt: &R,
+    gate: &G,
+    setting: Setting,
+    store: Sole<ColumnUnit>,
+    sessions: Vec<Session>,
+    prelude: Vec<(u64, Reply)>,
+    lines: &[Line],
+) -> Result<Report, NoMemory>
+    requires limits { (⟦<Sole<ColumnUnit> as Reach<ColumnUnit>>⟧.known store).limits ≡ script_limits setting.area }
+    requires workers { setting.workers ≤ WORKERS }
+    requires count { length sessions.items ≡ SESSIONS + 1 }
+    requires agree { AreSessions 0 sessions.items (⟦<Sole<ColumnUnit> as Reach<ColumnUnit>>⟧.known store) }
+    requires there { AreThere (⟦<Sole<ColumnUnit> as Reach<ColumnUnit>>⟧.known store).log }
+    requires known { All (λ line. IsKnown line.kind) lines.now }
+    requires names { All NamesOneOf16 lines.now }
+    ensures beside { IfOk result (λ report. IsBeside setting.area setting.workers setting.turns sessions.items
+        (⟦<Sole<ColumnUnit> as Reach<ColumnUnit>>⟧.known store).log lines.now report) }
+    ensures prelude { IfOk result (λ report. report.prelude ≡ prelude.items) }
+{
+    let core = store.into_core();
+    core.known();
+    let Ok((store, mut first)) = Store::new(alloc, core) else {
+        return Err(NoMemory);
+    };
+    let mut jobs = session_jobs(alloc, &store, &mut first, sessions, lines)?;
+    let course = Course {
+        setting,
+        lines,
+        sessions: jobs.len() as u32,
+    };
+    add_workers(&store, &mut first, &mut jobs, setting.workers)?;
+    let done = play_all(alloc, rt, &store, gate, &course, jobs)?;
+    let mut outcomes = sort_outcomes(alloc, done)?;
+    let answers = answers(alloc, lines, outcomes.replies.as_mut_slice())?;
+    Ok(Report {
+        prelude,
+        history: close(store, first, outcomes.passes),
+        ends: outcomes.ends,
+        answers,
+    })
+}
+
+/// Plays a script as a race: the lines of its prelude one after the other, and then those behind it by their sessions, beside workers.
+/// The sessions come first, by rising numbers, and then the workers; each of them plays over a side of its own of the store.
+///
+/// Where no line ends a prelude, all lines are the prelude's, and the workers are alone. It may wait: in the gate, and for the turn of
+/// the store. An idle worker sleeps between its turns.
+pub fn race<R: Wait, G: Gate, L: Ledger>(
+    alloc: Global,
+    rt: &R,
+    gate: &G,
+    setting: Setting,
+    script: &[u8],
+    steps: &mut Steps<L>,
+) -> Result<Report, NoMemory>
+    requires workers { setting.workers ≤ WORKERS }
+    ensures { IfOk result (λ report. IsRaceOf setting.area setting.workers setting.turns script.now report) }
+{
+    let lines = lines(alloc, script)?;
+    let (prelude, behind) = split_race(lines.as_slice());
+    let mut store = empty_store(alloc, setting.area)?;
+    let mut players = Players::new(alloc)?;
+    let replies = play_lines(alloc, rt, &mut store, gate, &mut players, prelude, steps)?;
+    players.drop_held(rt, &mut store);
+    play_beside(
+        alloc,
+        rt,
+        gate,
+        setting,
+        store,
+        players.sessions,
+        replies,
+        behind,
+    )
+}
