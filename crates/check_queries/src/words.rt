@@ -59,6 +59,38 @@ fn words_that_clap_takes_come_to_what_stands_in_them(rt: HostRuntime) -> Result<
                 ..USUAL
             },
         ),
+        (
+            "ime race",
+            Asked {
+                mode: Mode::Race,
+                ..USUAL
+            },
+        ),
+        (
+            "ime --turns=20 race --workers 3",
+            Asked {
+                mode: Mode::Race,
+                workers: 3,
+                turns: 20,
+                ..USUAL
+            },
+        ),
+        (
+            "ime gen",
+            Asked {
+                mode: Mode::Gen,
+                ..USUAL
+            },
+        ),
+        (
+            "ime --seed 0 gen --rows=7",
+            Asked {
+                mode: Mode::Gen,
+                rows: 7,
+                seed: 0,
+                ..USUAL
+            },
+        ),
         // Not good words, but `clap` takes them.
         ("ime run --area 05", Asked { area: 5, ..USUAL }),
         ("ime run --area=+5", Asked { area: 5, ..USUAL }),
@@ -76,10 +108,11 @@ fn words_that_clap_refuses_are_wrong(rt: HostRuntime) -> Result<(), Fail> {
     let cases = [
         "ime",
         "ime walk",
-        "ime race",
-        "ime gen",
         "ime Run",
+        "ime rac",
+        "ime gens",
         "ime run run",
+        "ime race gen",
         "ime run --area 1073741825",
         "ime run --workers 0",
         "ime run --workers 9",

@@ -1,1 +1,4 @@
+mod ModeLemmas
 mod PlayLemmas
+mod ReportLemmas
+mod SentLemmas

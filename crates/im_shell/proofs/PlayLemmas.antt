@@ -1,8 +1,7 @@
 -- A script that is played and written line by line comes to the text of its replies.
-use Rattle.std.proofs.Common.{◌≡◌, ◌≤◌, ℕ, ◌+◌, true, List, [], ◌∷◌, ◌++◌, length, take, drop, Option, Some, None, Result, Ok, Err, OnErr, refl, sym, ap, ◌∙◌, subst, arith, append-nil, append_assoc}
-use Rattle.std.proofs.lemmas.List.{take-append-drop}
-use Rattle.im_edge.specs.Writing.{Took, TookPart}
-use Rattle.im_edge.proofs.ForCallers.{Took-nil, Took-append}
+use Rattle.std.proofs.Common.{◌≡◌, ◌≤◌, ℕ, ◌+◌, true, List, [], ◌∷◌, ◌++◌, length, Option, Some, None, refl, sym, ap, ◌∙◌, subst, arith, append-nil, append_assoc}
+use Rattle.im_edge.specs.Writing.{Took}
+use Rattle.im_edge.proofs.ForCallers.{Took-nil}
 use Rattle.im_history.specs.declared.limits.Limits.{Limits}
 use Rattle.im_play.specs.Between.{IsAnswered}
 use Rattle.im_play.specs.Machine.{AreCounted, Machine, are_lawful, idle, machine_behind_all, put, replies}
@@ -19,12 +18,9 @@ use Rattle.im_script.specs.Lines.{AreLines, IsLine, HasKind, no_memory}
 use Rattle.im_shell.specs.declared.shown.Shown.{Shown}
 use Rattle.im_shell.specs.Play.{ComesOf, IsPlayed, IsPlayedInPart, Plays, PlaysInPart}
 use Rattle.im_shell.specs.Texts.{text_of, text_shown}
-use Rattle.im_shell.specs.inner.Going.{text_put, Sends, SendsPart, IsSoFar, PlaysNext}
-
--- a fact that holds anyway holds where a call failed
-pub OnErr-always : {T E P : Type 0} (r : Result T E) → P → OnErr r P
-OnErr-always (Ok value) p = tt
-OnErr-always (Err error) p = p
+use Rattle.im_shell.specs.inner.Going.{text_put, IsSoFar, PlaysNext}
+use Rattle.im_shell.specs.inner.Sent.{Sends, SendsPart}
+use Rattle.im_shell.proofs.SentLemmas.{Sends-start, Sends-none, Sends-more, Sends-after}
 
 -- ---- any lines can be read: those with a statement at least so that their reading ran out of memory
 
@@ -172,36 +168,6 @@ IsSoFar-part shown area script answers number h rest front more first now so_far
 
     told : AreTold area h (demands_of area lines) now
     told = are_told area h number (lines_of rest) now
-
--- ---- what was sent
-
-pub Sends-start : (taken : Option (List ℕ)) → Sends taken taken [] []
-Sends-start taken = record { sent = []; took = Took-nil taken; split = refl }
-
--- all of it waits still
-pub Sends-none : (taken : Option (List ℕ)) (text left : List ℕ) → left ≡ text → Sends taken taken text left
-Sends-none taken text left same = record { sent = []; took = Took-nil taken; split = sym same }
-
--- what a fault left
-pub SendsPart-took : (before after : Option (List ℕ)) (text : List ℕ) → TookPart before after text → SendsPart before after text
-SendsPart-took before after text part = record {
-  left = drop part.count text;
-  sends = record { sent = take part.count text; took = part.took; split = sym (take-append-drop part.count text) };
-}
-
-pub Sends-more : (a b : Option (List ℕ)) (text left more new_left : List ℕ) → Sends a b text left → new_left ≡ left ++ more → Sends a b (text ++ more) new_left
-Sends-more a b text left more new_left sends left_is = record {
-  sent = sends.sent;
-  took = sends.took;
-  split = ap (λ (t : List ℕ). t ++ more) sends.split ∙ (append_assoc sends.sent left more ∙ ap (λ (t : List ℕ). sends.sent ++ t) (sym left_is));
-}
-
-pub Sends-after : (a b c : Option (List ℕ)) (text left new_left : List ℕ) → Sends a b text left → Sends b c left new_left → Sends a c text new_left
-Sends-after a b c text left new_left first second = record {
-  sent = first.sent ++ second.sent;
-  took = Took-append a b c first.sent second.sent first.took second.took;
-  split = first.split ∙ (ap (λ (t : List ℕ). first.sent ++ t) second.split ∙ sym (append_assoc first.sent second.sent new_left));
-}
 
 -- ---- the loop
 

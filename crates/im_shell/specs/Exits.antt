@@ -15,7 +15,7 @@ code_of status.ScriptTooLong = 5
 -- the line on standard error: there is none where the whole script was played
 abbrev pub line_of : Status → Option (List ℕ)
 line_of status.Done = None
-line_of status.Usage = Some (codes "ime: usage: ime run [--area N] [--workers N] [--turns N] [--rows N] [--seed N]")
+line_of status.Usage = Some (codes "ime: usage: ime run|race|gen [--area N] [--workers N] [--turns N] [--rows N] [--seed N]")
 line_of status.ReadFault = Some (codes "ime: read failed")
 line_of status.WriteFault = Some (codes "ime: write failed")
 line_of status.NoMemory = Some (codes "ime: no memory")

@@ -1,4 +1,5 @@
 pub mod Exits
 pub mod Play
+pub mod Reports
 pub mod Texts
 pub mod inner

@@ -1,5 +1,5 @@
 -- The text of the replies to lines.
-use Rattle.std.specs.Prelude.{ℕ, Bool, true, false, List, [], ◌∷◌, ◌++◌, Option, Some, None, if◌then◌else◌}
+use Rattle.std.specs.Prelude.{ℕ, Bool, true, false, List, [], ◌∷◌, ◌++◌, if◌then◌else◌}
 use Rattle.im_replies.specs.declared.body.Body.{Body}
 use Rattle.im_replies.specs.declared.body.Body.TheVariants as body
 use Rattle.im_replies.specs.declared.reply.Reply.{Reply}

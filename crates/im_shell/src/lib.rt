@@ -1,17 +1,21 @@
-//! The program's one call, [`run`]: it reads a script from a source, plays it line by line over a store, and writes the
-//! replies to a sink.
+//! The program's one call, [`run`]: it takes a script, from a source or made, plays it line by line or as a race, and writes the
+//! replies or the report to a sink.
 //!
-//! What must be believed is in `specs/`. The lines of a script are played by `im_play`, over a store that nobody else has, and replies
-//! are written by `im_text`. `Play.antt` says what a script comes to, and `Exits.antt` has the exit statuses. What stands in
-//! `specs/inner/` is for the proofs alone.
+//! What must be believed is in `specs/`. The lines of a script are played by `im_play`, over a store that nobody else has, races are
+//! held by `im_race`, and texts are those of `im_text`. `Play.antt` says what each mode comes to, `Reports.antt` has the text of a
+//! report, and `Exits.antt` the exit statuses. What stands in `specs/inner/` is for the proofs alone.
 //!
-//! The main promise is the clause `done` of [`run`]. Start with `top.rt`, then `specs/Play.antt`.
+//! The main promise is the clause `done` of [`run`]. Start with `top.rt`, then `specs/Play.antt`, then `modes.rt`.
 #![tactic(auto)]
 
+mod modes;
+mod part;
 mod play;
+mod report;
 mod shown;
 mod status;
 mod top;
+mod writing;
 
 pub use im_words::Word;
 pub use status::Status;

@@ -1,55 +1,25 @@
 ghost use Rattle.std.specs.Prelude.{◌≡◌, ◌≤◌, ◌+◌, [], ◌++◌, OnOk, OnErr, IsErrOf};
 ghost use Rattle.im_edge.specs.Faults.{Rose};
-ghost use Rattle.im_shell.specs.declared.play.Stop.TheVariants as stop;
-ghost use Rattle.im_shell.specs.inner.Going.{text_put, Sends, SendsPart, PlaysBytes, PlaysNext};
+ghost use Rattle.im_shell.specs.inner.Going.{text_put, PlaysBytes, PlaysNext};
+ghost use Rattle.im_shell.specs.inner.Sent.{Sends, SendsPart};
 ghost use Rattle.im_play.specs.Between.{IsBetween, machine_of, nothing_in, unused_background, unused_from};
 ghost use Rattle.im_shell.specs.Play.{Plays, PlaysInPart};
-ghost use Rattle.im_text.specs.Replies.{reply_text};
 
+use crate::part::Part;
 use crate::shown::Shown;
-use im_edge::{Gate, Sink, WriteFault, write_all};
+use crate::writing::{PIECE, Stop, flush, flush_piece, put};
+use im_edge::{Gate, Sink};
 use im_play::{Players, empty_store, play_line, read_line};
 use im_reach::Reach;
-use im_replies::{Body, Reply};
+use im_replies::Reply;
 use im_script::first_line;
 use im_text::Waiting;
 use im_unit::ColumnUnit;
+use im_values::Steps;
 use im_values::limits::SESSIONS;
-use im_values::{NoMemory, Steps};
 use std::alloc::Global;
 use std::sync::Wait;
 use std::sync::ledger::Ledger;
-use thiserror::Error;
-
-/// Replies are handed to the sink once so many bytes wait, where there is no memory for a further one, and at the end.
-const PIECE: usize = 65536;
-
-/// Why a script was not played to its end.
-#[derive(Clone, Copy, Debug, PartialEq, Eq, Error)]
-pub enum Stop {
-    /// The sink met a fault.
-    #[error("write failed")]
-    WriteFault,
-    /// There was no memory for the text of a reply.
-    #[error("no memory")]
-    NoMemory,
-}
-
-impl From<WriteFault> for Stop {
-    ghost from_gives = { λ _ e. e ≡ stop.WriteFault };
-
-    fn from(_cause: WriteFault) -> Stop {
-        Stop::WriteFault
-    }
-}
-
-impl From<NoMemory> for Stop {
-    ghost from_gives = { λ _ e. e ≡ stop.NoMemory };
-
-    fn from(_cause: NoMemory) -> Stop {
-        Stop::NoMemory
-    }
-}
 
 /// Reads the next line, and plays it.
 fn play_bytes<R: Wait, H: Reach<ColumnUnit>, G: Gate, L: Ledger>(
@@ -73,54 +43,6 @@ fn play_bytes<R: Wait, H: Reach<ColumnUnit>, G: Gate, L: Ledger>(
     play_line(alloc, rt, reach, gate, players, &line, steps)
 }
 
-/// Writes all that waits.
-fn flush<K: Sink>(sink: &mut K, waiting: &mut Waiting) -> Result<(), WriteFault>
-    ensures ok { OnOk result (Sends (K.taken sink.old) (K.taken sink.new) waiting.old waiting.new) }
-    ensures none_left { OnOk result (waiting.new ≡ []) }
-    ensures err { OnErr result (SendsPart (K.taken sink.old) (K.taken sink.new) waiting.old) }
-    ensures cause { OnErr result (Rose (K.faults sink.old) (K.faults sink.new)) }
-    ensures later { K.faults sink.old ≤ K.faults sink.new }
-{
-    write_all(sink, waiting.bytes())?;
-    waiting.clear();
-    Ok(())
-}
-
-/// Writes all that waits, once it is a whole piece.
-fn flush_piece<K: Sink>(sink: &mut K, waiting: &mut Waiting) -> Result<(), WriteFault>
-    ensures ok { OnOk result (Sends (K.taken sink.old) (K.taken sink.new) waiting.old waiting.new) }
-    ensures err { OnErr result (SendsPart (K.taken sink.old) (K.taken sink.new) waiting.old) }
-    ensures cause { OnErr result (Rose (K.faults sink.old) (K.faults sink.new)) }
-    ensures later { K.faults sink.old ≤ K.faults sink.new }
-{
-    if waiting.bytes().len() < PIECE {
-        return Ok(());
-    }
-    flush(sink, waiting)
-}
-
-/// Puts the text of a reply behind what waits to be written. Where it finds no memory, what waits is written first, and then
-/// it is tried again.
-fn put_text<K: Sink>(
-    alloc: Global,
-    number: u64,
-    body: &Body,
-    sink: &mut K,
-    waiting: &mut Waiting,
-) -> Result<(), Stop>
-    ensures ok { OnOk result (Sends (K.taken sink.old) (K.taken sink.new) (waiting.old ++ reply_text number body.now) waiting.new) }
-    ensures err { OnErr result (SendsPart (K.taken sink.old) (K.taken sink.new) waiting.old) }
-    ensures cause { IsErrOf result Stop.WriteFault → Rose (K.faults sink.old) (K.faults sink.new) }
-    ensures later { K.faults sink.old ≤ K.faults sink.new }
-{
-    if waiting.put_reply(alloc, number, body).is_ok() {
-        return Ok(());
-    }
-    flush(sink, waiting)?;
-    waiting.put_reply(alloc, number, body)?;
-    Ok(())
-}
-
 /// Puts the text of a reply, where there is one that is shown, behind what waits to be written.
 fn put_reply<K: Sink>(
     alloc: Global,
@@ -137,7 +59,7 @@ fn put_reply<K: Sink>(
 {
     match reply {
         Some(reply) if shown.shows(&reply.body) => {
-            put_text(alloc, number, &reply.body, sink, waiting)
+            put(alloc, Part::Reply(number, &reply.body), sink, waiting)
         }
         _ => Ok(()),
     }

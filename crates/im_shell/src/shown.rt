@@ -3,7 +3,7 @@ ghost use Rattle.im_shell.specs.Texts as spec;
 
 use im_replies::Body;
 
-/// Which replies are written.
+/// Which replies are written: all of a script that is read, and the outcomes of one that is made.
 #[derive(Clone, Copy, Debug, PartialEq, Eq)]
 pub enum Shown {
     /// Every reply.

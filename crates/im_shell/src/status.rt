@@ -4,7 +4,7 @@ ghost use Rattle.im_shell.specs.Exits as exits;
 /// How a run ended.
 #[derive(Clone, Copy, Debug, PartialEq, Eq)]
 pub enum Status {
-    /// The whole script was played, and its replies were written.
+    /// The whole script was played, and its replies or its report were written.
     Done,
     /// The words ask for nothing that the program does. Nothing is read or written.
     Usage,
@@ -40,7 +40,7 @@ impl Status {
         match self {
             Status::Done => None,
             Status::Usage => Some(
-                "ime: usage: ime run [--area N] [--workers N] [--turns N] [--rows N] [--seed N]",
+                "ime: usage: ime run|race|gen [--area N] [--workers N] [--turns N] [--rows N] [--seed N]",
             ),
             Status::ReadFault => Some("ime: read failed"),
             Status::WriteFault => Some("ime: write failed"),

@@ -1,30 +1,30 @@
-ghost use Rattle.std.specs.Prelude.{◌≡◌, ◌≤◌, ◌⊎◌, ◌+◌, IfSome};
+ghost use Rattle.std.specs.Prelude.{◌≡◌, ◌≤◌, ◌⊎◌, ◌+◌};
 ghost use Rattle.im_edge.specs.Faults.{Rose};
 ghost use Rattle.im_edge.specs.Reading.{GaveAtMost, GaveCount};
 ghost use Rattle.im_edge.specs.Source.{IsSpent};
-ghost use Rattle.im_shell.specs.Play.{PlaysFor, PlaysInPartFor};
+ghost use Rattle.im_shell.specs.Play.{DoneFor, InPartFor};
 ghost use Rattle.im_words.specs.declared.asked.Asked.{Asked};
-ghost use Rattle.im_words.specs.Command.{Refuses};
+ghost use Rattle.im_words.specs.Command.{Refuses, Takes};
 ghost use Rattle.im_words.specs.Good.{IsGood};
 
-use crate::play::{Stop, play_script};
-use crate::shown::Shown;
+use crate::modes::{play_for, script_for};
 use crate::status::Status;
-use im_edge::{Gate, ReadError, Sink, Source, read_all};
+use crate::writing::Stop;
+use im_edge::{Gate, ReadError, Sink, Source};
 use im_values::Steps;
 use im_values::limits::MOST_SCRIPT_BYTES;
-use im_words::{Word, WordsFault, read_words};
+use im_words::{Mode, Word, WordsFault, read_words};
 use std::alloc::Global;
 use std::sync::Wait;
 use std::sync::ledger::Ledger;
 use std::thread::Threads;
 
-/// Runs the program: reads a script from the source to its end, plays it line by line, and writes the replies to the
-/// sink.
+/// Runs the program: reads a script from the source to its end, plays it line by line or as a race, and writes the replies or
+/// the report to the sink. Or it makes a large script, plays that, and reads nothing.
 ///
 /// `words` are the program's name and those of its command (`im_words`). A line that runs out of memory has a reply that says
-/// so, and the script goes on; [`Status::NoMemory`] is for the reading of the script, and for a text that does not fit even
-/// once all before it is written.
+/// so, and the script goes on; [`Status::NoMemory`] is for the reading or making of the script, for a race that cannot be held,
+/// and for a text that does not fit even once all before it is written.
 pub fn run<R: Threads + Wait + Sync, S: Source, K: Sink, G: Gate + Sync, L: Ledger>(
     rt: &R,
     alloc: Global,
@@ -34,13 +34,15 @@ pub fn run<R: Threads + Wait + Sync, S: Source, K: Sink, G: Gate + Sync, L: Ledg
     gate: &G,
     steps: &mut Steps<L>,
 ) -> Status
-    // Where the source shows what it had left, that is the script. Where memory ran out before the script was read, the sink is as
-    // it was.
-    ensures done { result ≡ Status.Done → IfSome (S.left source.old) (λ script.
-        PlaysFor words.now script (K.taken sink.old) (K.taken sink.new) steps.old steps.new) }
-    ensures in_part { (result ≡ Status.WriteFault) ⊎ (result ≡ Status.NoMemory) → IfSome (S.left source.old) (λ script.
-        (sink.new ≡ sink.old) ⊎ PlaysInPartFor words.now script (K.taken sink.old) (K.taken sink.new)) }
-    ensures read_to_end { result ≡ Status.Done → IsSpent (S.left source.new) }
+    // Where memory ran out before the script was there, and in a race before its report was, the sink is as it was.
+    ensures done { result ≡ Status.Done → DoneFor words.now (S.left source.old) (K.taken sink.old) (K.taken sink.new) steps.old steps.new }
+    ensures in_part { (result ≡ Status.WriteFault) ⊎ (result ≡ Status.NoMemory)
+        → (sink.new ≡ sink.old) ⊎ InPartFor words.now (S.left source.old) (K.taken sink.old) (K.taken sink.new) }
+
+    // A script that is made is not read, and any other is read to its end.
+    ensures unread { (asked : Asked) → Takes words.now asked → asked.mode ≡ Mode.Gen → source.new ≡ source.old }
+    ensures read_to_end { result ≡ Status.Done → (asked : Asked) → Takes words.now asked → ¬ (asked.mode ≡ Mode.Gen)
+        → IsSpent (S.left source.new) }
 
     // The command's words are refused exactly where the reader of words refuses them, and good words never are.
     ensures usage { result ≡ Status.Usage → Refuses words.now }
@@ -61,22 +63,13 @@ pub fn run<R: Threads + Wait + Sync, S: Source, K: Sink, G: Gate + Sync, L: Ledg
         Err(WordsFault::Usage) => return Status::Usage,
         Err(WordsFault::NoMemory) => return Status::NoMemory,
     };
-    let script = match read_all(alloc, source, MOST_SCRIPT_BYTES) {
+    let script = match script_for(alloc, asked, source) {
         Ok(script) => script,
         Err(ReadError::Fault) => return Status::ReadFault,
         Err(ReadError::TooLong) => return Status::ScriptTooLong,
         Err(ReadError::NoMemory) => return Status::NoMemory,
     };
-    match play_script(
-        alloc,
-        rt,
-        gate,
-        Shown::All,
-        asked.area,
-        script.as_slice(),
-        sink,
-        steps,
-    ) {
+    match play_for(alloc, rt, gate, asked, script.as_slice(), sink, steps) {
         Ok(()) => Status::Done,
         Err(Stop::WriteFault) => Status::WriteFault,
         Err(Stop::NoMemory) => Status::NoMemory,

@@ -12,7 +12,7 @@ use Rattle.im_words.proofs.ItemLemmas.{row_for, still_fresh}
 use Rattle.im_words.proofs.StepLemmas.{IsAtMode, IsPlain, Passes, Settles, Walks, between, item_walks, position_after, rules, shape}
 use Rattle.im_words.specs.Command.{ModeNames}
 use Rattle.im_words.specs.Good.{Item, Text, about, apart, joined, mode, spelled}
-use Rattle.im_words.specs.declared.mode.Mode.TheVariants.{Run}
+use Rattle.im_words.specs.declared.mode.Mode.{Mode}
 
 -- ---- words one after another
 
@@ -69,15 +69,15 @@ earlier id rows r none = go (has_row id rows) refl
         let bad : true ≡ false = sym there ∙ none in
         cc
 
-came : (rows : List Row) → has_row (codes "mode") (rows ++ row_for (mode Run) ∷ []) ≡ true
-came rows = list_any-append (λ x. bytes_eq x.id (codes "mode")) rows (row_for (mode Run) ∷ []) ∙ go (has_row (codes "mode") rows)
+came : (m : Mode) (rows : List Row) → has_row (codes "mode") (rows ++ row_for (mode m) ∷ []) ≡ true
+came m rows = list_any-append (λ x. bytes_eq x.id (codes "mode")) rows (row_for (mode m) ∷ []) ∙ go (has_row (codes "mode") rows)
   where
     go : (b : Bool) → (b || true) ≡ true
     go true = refl
     go false = refl
 
 still_ready : (x : Item) (rows : List Row) (n : ℕ) → IsReady rows n → IsReady (rows ++ row_for x ∷ []) (position_after x n)
-still_ready (mode Run) rows n ready = λ none. let bad : true ≡ false = sym (came rows) ∙ none in cc
+still_ready (mode m) rows n ready = λ none. let bad : true ≡ false = sym (came m rows) ∙ none in cc
 still_ready (apart s number) rows n ready = λ none. ready (earlier (codes "mode") rows (row_for (apart s number)) none)
 still_ready (joined s number) rows n ready = λ none. ready (earlier (codes "mode") rows (row_for (joined s number)) none)
 

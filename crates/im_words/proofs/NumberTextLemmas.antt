@@ -1,5 +1,5 @@
 -- What `clap` makes of a number of good words.
-use Rattle.std.proofs.Common.{◌≡◌, ◌∙◌, ◌<◌, ◌==◌, ap, refl, Bool, true, false, [], ◌∷◌, Some, arith, codes, cond, drop}
+use Rattle.std.proofs.Common.{◌≡◌, ◌∙◌, ◌<◌, ◌==◌, ap, refl, Bool, true, false, [], ◌∷◌, Some, arith, cond, drop}
 use Rattle.std.specs.List.{list_any}
 use Rattle.std.specs.Prelude.{◌^◌}
 use Rattle.std.specs.Str.{bytes_eq}
@@ -12,10 +12,11 @@ use Rattle.clap.proofs.ValueTestLemmas.{Accepts-accepts}
 use Rattle.clap.proofs.WalkLemmas.{list_any-map}
 use Rattle.im_words.proofs.StepLemmas.{IsPlain, IsPlainWord, Passes}
 use Rattle.im_words.specs.Asked.{number_by}
-use Rattle.im_words.specs.Command.{AreModes, ModeNames}
-use Rattle.im_words.specs.Good.{HasNumber, IsNumberFor, Item, Text, apart, joined, mode}
+use Rattle.im_words.specs.Command.{AreModes, ModeNames, mode_names}
+use Rattle.im_words.specs.Good.{HasNumber, IsNumberFor, Item, Text, apart, joined, mode, name_of_mode}
 use Rattle.im_words.specs.Setting.{least_of, most_of}
-use Rattle.im_words.specs.declared.mode.Mode.TheVariants.{Run}
+use Rattle.im_words.specs.declared.mode.Mode.{Mode}
+use Rattle.im_words.specs.declared.mode.Mode.TheVariants.{Run, Race, Gen}
 use Rattle.im_words.specs.declared.setting.Setting.{Setting}
 use Rattle.im_words.specs.declared.setting.Setting.TheVariants.{Area, Workers, Turns, Rows, Seed}
 
@@ -56,11 +57,16 @@ items_plain (mode m) number = tt
 items_plain (apart s t) number = plain_word t number.digits
 items_plain (joined s t) number = tt
 
-names_run : (names : ModeNames) → AreModes names → list_any (λ name. bytes_eq name.now (codes "run")) names.now ≡ true
-names_run names are = list_any-map (λ name. bytes_eq name (codes "run")) (λ name. name.now) names.now
-    ∙ ap (list_any (λ name. bytes_eq name (codes "run"))) are
+is_named : (m : Mode) → list_any (λ name. bytes_eq name (name_of_mode m)) mode_names ≡ true
+is_named Run = refl
+is_named Race = refl
+is_named Gen = refl
+
+mode_passes : (names : ModeNames) → AreModes names → (m : Mode) → list_any (λ name. bytes_eq name.now (name_of_mode m)) names.now ≡ true
+mode_passes names are m = list_any-map (λ name. bytes_eq name (name_of_mode m)) (λ name. name.now) names.now
+    ∙ (ap (list_any (λ name. bytes_eq name (name_of_mode m))) are ∙ is_named m)
 
 pub items_pass : (names : ModeNames) → AreModes names → (x : Item) → HasNumber x → Passes names x
-items_pass names are (mode Run) number = names_run names are
+items_pass names are (mode m) number = mode_passes names are m
 items_pass names are (apart s t) number = is_taken s t number
 items_pass names are (joined s t) number = is_taken s t number

@@ -3,6 +3,7 @@ use Rattle.std.proofs.Common.{◌≡◌, ◌⊎◌, ◌∙◌, ◌&&◌, ◌==�
 use Rattle.std.specs.List.{AllByRecursion, fold}
 use Rattle.std.specs.Prelude.{IfSome, encode_utf8, find, if◌then◌else◌, is_some, not, slice_get}
 use Rattle.std.specs.Str.{bytes_eq, chars}
+use Rattle.std.proofs.lemmas.Option.{same_Some}
 use Rattle.clap.specs.Faults.{flag_word_fault, option_fault, long_fault, other_fault, positional_fault, react_fault, repeat_fault, settle_fault, step_fault, turn_fault, set_fault, level_fault, use_fault, walk_fault, word_fault}
 use Rattle.clap.specs.Kinds.{Kinds, range_kinds, value_kinds, values_kinds}
 use Rattle.clap.specs.Lexer.{long_of, short_of}
@@ -19,7 +20,7 @@ use Rattle.clap.proofs.FaultLemmas.{leaf_fault}
 use Rattle.im_words.proofs.GoodLemmas.{or_none}
 use Rattle.im_words.proofs.ItemLemmas.{full, full_mode, no_row}
 use Rattle.im_words.proofs.StepLemmas.{rules, shape}
-use Rattle.im_words.proofs.TakenLemmas.{no_defaults, not_setting, one_name, rules_plain, same_text}
+use Rattle.im_words.proofs.TakenLemmas.{no_defaults, not_setting, one_name, rules_plain}
 use Rattle.im_words.specs.Command.{ModeNames, command_with}
 use Rattle.im_words.specs.Good.{Text}
 use Rattle.im_words.specs.Setting.{least_of, most_of, name_of}
@@ -73,7 +74,7 @@ module _ (names : ModeNames) where
     where
       go : (b : Bool) → is_unsigned_in (least_of s) (most_of s) v ≡ b → is_unsigned_in (least_of r) (most_of r) t ≡ true
       go true b = subst (λ x. is_unsigned_in (least_of x) (most_of x) t ≡ true) (one_name s r same)
-          (subst (λ u. is_unsigned_in (least_of s) (most_of s) u ≡ true) (same_text v t is) b)
+          (subst (λ u. is_unsigned_in (least_of s) (most_of s) u ≡ true) (same_Some v t is) b)
       go false b =
           let refused = (or_none (value_kinds false (parsers.Unsigned (least_of s) (most_of s)) v)
           (values_kinds false (parsers.Unsigned (least_of s) (most_of s)) vs) none).0 in

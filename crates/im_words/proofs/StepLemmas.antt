@@ -13,9 +13,10 @@ use Rattle.clap.specs.Walk.{Held, Row, Rule, Walk, arg_by_id, has_row, idle, is_
 use Rattle.clap.proofs.OnLiterals.{clap_on_literals}
 use Rattle.im_words.proofs.ItemLemmas.{full, full_mode, row_for, rule_for, used_first}
 use Rattle.im_words.specs.Command.{ModeNames, command_with}
-use Rattle.im_words.specs.Good.{Item, Text, about, apart, joined, mode, said, spelled}
+use Rattle.im_words.specs.Good.{Item, Text, about, apart, joined, mode, name_of_mode, said, spelled}
 use Rattle.im_words.specs.Setting.{name_of}
-use Rattle.im_words.specs.declared.mode.Mode.TheVariants.{Run}
+use Rattle.im_words.specs.declared.mode.Mode.{Mode}
+use Rattle.im_words.specs.declared.mode.Mode.TheVariants.{Run, Race, Gen}
 use Rattle.im_words.specs.declared.setting.Setting.{Setting}
 use Rattle.im_words.specs.declared.setting.Setting.TheVariants.{Area, Workers, Turns, Rows, Seed}
 
@@ -138,27 +139,31 @@ value_fault : (names : ModeNames) (s : Setting) (number : Text) (h : Held) (n : 
     → turn_fault (shape names) [] (waiting_for (name_of s) h n) number ≡ []
 value_fault names s number h n p = rw (p.no_end, p.no_long, p.no_short) refl
 
--- `run`
+-- the name of a mode
+mode_plain : (m : Mode) → IsPlainWord (name_of_mode m)
+mode_plain Run = record { no_end = refl; no_long = refl; no_short = refl }
+mode_plain Race = record { no_end = refl; no_long = refl; no_short = refl }
+mode_plain Gen = record { no_end = refl; no_long = refl; no_short = refl }
+
 abbrev mode_held : ModeNames → Text → Held → Held
 mode_held names word h = record h { rows = settled_rows (rules names) h.pending h.rows; pending = Some (codes "mode", word ∷ []) }
 
-mode_goes : (names : ModeNames) (h : Held)
-    → walked (rules names) [] (between h 1) (codes "run") ≡ between (mode_held names (codes "run") h) 2
+mode_goes : (names : ModeNames) (word : Text) (h : Held) → IsPlainWord word
+    → walked (rules names) [] (between h 1) word ≡ between (mode_held names word h) 2
 unfolding clap_on_literals
-mode_goes names h = go (is_pending (full_mode names) h.pending) refl
+mode_goes names word h p = go (is_pending (full_mode names) h.pending) refl
   where
-    go : (b : Bool) → is_pending (full_mode names) h.pending ≡ b
-        → walked (rules names) [] (between h 1) (codes "run") ≡ between (mode_held names (codes "run") h) 2
-    go true b = rw b refl
-    go false b = rw b refl
+    go : (b : Bool) → is_pending (full_mode names) h.pending ≡ b → walked (rules names) [] (between h 1) word ≡ between (mode_held names word h) 2
+    go true b = rw (p.no_end, p.no_long, p.no_short, b) refl
+    go false b = rw (p.no_end, p.no_long, p.no_short, b) refl
 
-mode_fault : (names : ModeNames) (h : Held) → settle_fault (rules names) false h ≡ []
-    → turn_fault (shape names) [] (between h 1) (codes "run") ≡ []
-mode_fault names h none = go (is_pending (full_mode names) h.pending) refl
+mode_fault : (names : ModeNames) (word : Text) (h : Held) → IsPlainWord word → settle_fault (rules names) false h ≡ []
+    → turn_fault (shape names) [] (between h 1) word ≡ []
+mode_fault names word h p none = go (is_pending (full_mode names) h.pending) refl
   where
-    go : (b : Bool) → is_pending (full_mode names) h.pending ≡ b → turn_fault (shape names) [] (between h 1) (codes "run") ≡ []
-    go true b = rw (b, none) refl
-    go false b = rw (b, none) refl
+    go : (b : Bool) → is_pending (full_mode names) h.pending ≡ b → turn_fault (shape names) [] (between h 1) word ≡ []
+    go true b = rw (p.no_end, p.no_long, p.no_short, b, none) refl
+    go false b = rw (p.no_end, p.no_long, p.no_short, b, none) refl
 
 -- these words take the walk on with no fault, to where all these rows are kept
 pub record Walks (names : ModeNames) (from : Walk) (words : List Text) (all : List Row) (n : ℕ) : Type 0 where
@@ -184,15 +189,15 @@ IsAtMode (mode m) n = n ≡ 1
 IsAtMode (apart s number) n = ⊤
 IsAtMode (joined s number) n = ⊤
 
-mode_walks : (names : ModeNames) (h : Held) (rows : List Row) → Settles names h rows → has_row (codes "mode") rows ≡ false
-    → Passes names (mode Run) → Walks names (between h 1) (spelled (mode Run)) (rows ++ row_for (mode Run) ∷ []) 2
+mode_walks : (names : ModeNames) (m : Mode) (h : Held) (rows : List Row) → Settles names h rows → has_row (codes "mode") rows ≡ false
+    → Passes names (mode m) → Walks names (between h 1) (spelled (mode m)) (rows ++ row_for (mode m) ∷ []) 2
 unfolding clap_on_literals
-mode_walks names h rows settles fresh passes = record {
-  held = mode_held names (codes "run") h;
-  goes = mode_goes names h;
-  fault = rw (mode_fault names h settles.fault) refl;
-  settles = subst (λ kept. Settles names (record h { rows = kept; pending = Some (codes "mode", codes "run" ∷ []) }) (rows ++ row_for (mode Run) ∷ []))
-      (sym settles.kept) (settles_pending names (mode Run) rows h.skip fresh passes);
+mode_walks names m h rows settles fresh passes = record {
+  held = mode_held names (name_of_mode m) h;
+  goes = mode_goes names (name_of_mode m) h (mode_plain m);
+  fault = rw (mode_fault names (name_of_mode m) h (mode_plain m) settles.fault) refl;
+  settles = subst (λ kept. Settles names (record h { rows = kept; pending = Some (codes "mode", name_of_mode m ∷ []) }) (rows ++ row_for (mode m) ∷ []))
+      (sym settles.kept) (settles_pending names (mode m) rows h.skip fresh passes);
 }
 
 apart_walks : (names : ModeNames) (s : Setting) (number : Text) (h : Held) (n : ℕ) (rows : List Row) → Settles names h rows
@@ -226,8 +231,8 @@ joined_walks names s number h n rows settles fresh passes = record {
 pub item_walks : (names : ModeNames) (x : Item) (h : Held) (n : ℕ) (rows : List Row) → Settles names h rows
     → has_row (about x) rows ≡ false → Passes names x → IsPlain x → IsAtMode x n
     → Walks names (between h n) (spelled x) (rows ++ row_for x ∷ []) (position_after x n)
-item_walks names (mode Run) h n rows settles fresh passes plain at =
-    subst (λ k. Walks names (between h k) (spelled (mode Run)) (rows ++ row_for (mode Run) ∷ []) 2) (sym at)
-    (mode_walks names h rows settles fresh passes)
+item_walks names (mode m) h n rows settles fresh passes plain at =
+    subst (λ k. Walks names (between h k) (spelled (mode m)) (rows ++ row_for (mode m) ∷ []) 2) (sym at)
+    (mode_walks names m h rows settles fresh passes)
 item_walks names (apart s number) h n rows settles fresh passes plain at = apart_walks names s number h n rows settles fresh passes plain
 item_walks names (joined s number) h n rows settles fresh passes plain at = joined_walks names s number h n rows settles fresh passes

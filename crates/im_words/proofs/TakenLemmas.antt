@@ -1,8 +1,8 @@
 -- Good words are taken, and come to what stands in them.
 use Rattle.std.proofs.Common.{◌≡◌, ◌≢◌, ◌∙◌, ap, refl, sym, subst, Bool, true, false, List, [], ◌∷◌, Option, Some, None, arith, codes, cond, map, suc}
 use Rattle.std.specs.List.{All, AllByRecursion, AllPairs, flat_map, fold, slice_index_or}
-use Rattle.std.specs.Prelude.{unwrap_or}
 use Rattle.std.specs.Str.{bytes_eq}
+use Rattle.std.proofs.lemmas.Option.{same_Some}
 use Rattle.std.proofs.lemmas.Slice.Eq.{bytes_eq-Decides}
 use Rattle.clap.specs.Faults.{default_fault, defaults_fault, level_fault, walk_fault}
 use Rattle.clap.specs.Simple.{built}
@@ -14,13 +14,13 @@ use Rattle.im_words.proofs.GoodLemmas.{AreTaken, Ends, items_walk}
 use Rattle.im_words.proofs.ItemLemmas.{row_for}
 use Rattle.im_words.proofs.NumberTextLemmas.{items_pass, items_plain, number_is}
 use Rattle.im_words.proofs.StepLemmas.{Settles, rules, shape}
-use Rattle.im_words.specs.Asked.{asked_in, mode_by, number_by, number_in}
+use Rattle.im_words.specs.Asked.{asked_in, mode_called, mode_in, number_by, number_in}
 use Rattle.im_words.specs.Command.{AreModes, ModeNames, command_with}
-use Rattle.im_words.specs.Good.{HasNumber, IsGood, IsNumberFor, Item, Text, about, apart, joined, mode, mode_among, number_among, said_of, spelled}
+use Rattle.im_words.specs.Good.{HasNumber, IsGood, IsNumberFor, Item, Text, about, apart, joined, mode, mode_among, name_of_mode, number_among, said_of, spelled}
 use Rattle.im_words.specs.Setting.{name_of}
 use Rattle.im_words.specs.declared.asked.Asked.{Asked}
 use Rattle.im_words.specs.declared.mode.Mode.{Mode}
-use Rattle.im_words.specs.declared.mode.Mode.TheVariants.{Run}
+use Rattle.im_words.specs.declared.mode.Mode.TheVariants.{Run, Race, Gen}
 use Rattle.im_words.specs.declared.setting.Setting.{Setting}
 use Rattle.im_words.specs.declared.setting.Setting.TheVariants.{Area, Workers, Turns, Rows, Seed}
 
@@ -63,7 +63,7 @@ not_mode Seed = refl
 
 mode_given : (items : List Item) (m : Mode) → mode_among items ≡ Some m → is_given (codes "mode") (map row_for items) ≡ true
 mode_given [] m h = cc
-mode_given (mode Run ∷ rest) m h = refl
+mode_given (mode k ∷ rest) m h = refl
 mode_given (apart s number ∷ rest) m h = rw (not_mode s) (mode_given rest m h)
 mode_given (joined s number ∷ rest) m h = rw (not_mode s) (mode_given rest m h)
 
@@ -123,9 +123,6 @@ found_of_items id (x ∷ rest) = go (bytes_eq (about x) id) refl (found_of_items
     go true b same = rw b refl
     go false b same = rw b same
 
-pub same_text : (a b : Text) → Some a ≡ Some b → a ≡ b
-same_text a b e = ap (λ o. unwrap_or o a) e
-
 said_number : (s : Setting) (items : List Item) → All HasNumber items → (t : Text) → said_of (name_of s) items ≡ Some t → IsNumberFor s t
 said_number s [] numbers t is = cc
 said_number s (mode m ∷ rest) numbers t is =
@@ -137,7 +134,7 @@ said_number s (apart a u ∷ rest) numbers t is =
     go true b later =
         let here : Some u ≡ Some t = rw b at is in
         let number : IsNumberFor a u = numbers 0 (apart a u) (omega arith) in
-        subst (λ r. IsNumberFor r t) (one_name a s b) (subst (λ v. IsNumberFor a v) (same_text u t here) number)
+        subst (λ r. IsNumberFor r t) (one_name a s b) (subst (λ v. IsNumberFor a v) (same_Some u t here) number)
     go false b later = later (rw b at is)
 said_number s (joined a u ∷ rest) numbers t is =
     go (bytes_eq (name_of a) (name_of s)) refl (said_number s rest (λ k d lt. numbers (suc k) d (omega (arith, lt))) t)
@@ -146,7 +143,7 @@ said_number s (joined a u ∷ rest) numbers t is =
     go true b later =
         let here : Some u ≡ Some t = rw b at is in
         let number : IsNumberFor a u = numbers 0 (joined a u) (omega arith) in
-        subst (λ r. IsNumberFor r t) (one_name a s b) (subst (λ v. IsNumberFor a v) (same_text u t here) number)
+        subst (λ r. IsNumberFor r t) (one_name a s b) (subst (λ v. IsNumberFor a v) (same_Some u t here) number)
     go false b later = later (rw b at is)
 
 number_said : (s : Setting) (items : List Item) → All HasNumber items → number_in (map row_for items) s ≡ number_among items s
@@ -156,12 +153,16 @@ number_said s items numbers = ap (number_by s) (found_of_items (name_of s) items
     go None o = rw o refl
     go (Some t) o = rw o (number_is s t (said_number s items numbers t o))
 
-is_run : (m : Mode) → m ≡ Run
-is_run Run = refl
+called_so : (m : Mode) → mode_called (name_of_mode m) ≡ m
+called_so Run = refl
+called_so Race = refl
+called_so Gen = refl
 
-read_as_run : (o : Option Text) → mode_by o ≡ Run
-read_as_run None = refl
-read_as_run (Some name) = refl
+mode_said : (items : List Item) (m : Mode) → mode_among items ≡ Some m → mode_in (map row_for items) ≡ m
+mode_said [] m h = cc
+mode_said (mode k ∷ rest) m h = called_so k ∙ same_Some k m h
+mode_said (apart s number ∷ rest) m h = rw (not_mode s) (mode_said rest m h)
+mode_said (joined s number ∷ rest) m h = rw (not_mode s) (mode_said rest m h)
 
 asked_same : (a b : Asked) → a.mode ≡ b.mode → a.area ≡ b.area → a.workers ≡ b.workers → a.turns ≡ b.turns → a.rows ≡ b.rows
     → a.seed ≡ b.seed → a ≡ b
@@ -194,7 +195,7 @@ good_words names are words asked g =
     let rows = rows_kept names (flat_map spelled g.items) e.walks.held (map row_for g.items) held e.walks.settles in (
       ap (fault_of (command_with names)) g.spelling ∙ (leaf_fault (built (command_with names)) nothing_held (flat_map spelled g.items) refl ∙ level),
       ap (λ ws. asked_in (matches_of (command_with names) ws)) g.spelling ∙ (ap asked_in rows ∙ asked_same (asked_in (map row_for g.items)) asked
-          (read_as_run _ ∙ sym (is_run asked.mode))
+          (mode_said g.items asked.mode g.mode)
           (number_said Area g.items g.numbers ∙ sym g.area) (number_said Workers g.items g.numbers ∙ sym g.workers)
           (number_said Turns g.items g.numbers ∙ sym g.turns) (number_said Rows g.items g.numbers ∙ sym g.rows)
           (number_said Seed g.items g.numbers ∙ sym g.seed)),

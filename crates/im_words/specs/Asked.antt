@@ -1,18 +1,19 @@
 -- What is read of the matches that `clap` found.
-use Rattle.std.specs.Prelude.{◌≡◌, ◌≤◌, ℕ, List, Option, Some, None, codes, true}
+use Rattle.std.specs.Prelude.{◌≡◌, ◌≤◌, ℕ, List, Option, Some, None, codes, if◌then◌else◌, true}
+use Rattle.std.specs.Str.{bytes_eq}
 use Rattle.std.specs.Str.Parse.{digits_value, without_leading_plus}
 use Rattle.clap.specs.ValueTests.{is_unsigned_in}
 use Rattle.clap.specs.Words.{Row, Text, first_of, one_of}
 use Rattle.im_words.specs.Setting.{name_of, least_of, most_of, usual_of}
 use Rattle.im_words.specs.declared.asked.Asked.{Asked}
 use Rattle.im_words.specs.declared.mode.Mode.{Mode}
-use Rattle.im_words.specs.declared.mode.Mode.TheVariants.{Run}
+use Rattle.im_words.specs.declared.mode.Mode.TheVariants.{Run, Race, Gen}
 use Rattle.im_words.specs.declared.setting.Setting.{Setting}
 use Rattle.im_words.specs.declared.setting.Setting.TheVariants.{Area, Workers, Turns, Rows, Seed}
 
--- the mode of a name: today there is one, and `clap` refuses every other name
+-- the mode of a name: `clap` refuses every name but those of the modes
 abbrev pub mode_called : Text → Mode
-mode_called name = Run
+mode_called name = if bytes_eq name (codes "race") then Race else (if bytes_eq name (codes "gen") then Gen else Run)
 
 -- the mode of the first value of the mode's argument
 abbrev pub mode_by : Option Text → Mode

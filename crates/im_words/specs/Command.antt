@@ -29,9 +29,13 @@ setting_rule s = record (new_rule (name_of s)) {
 abbrev pub ModeNames : Type 0
 ModeNames = Bor (List (Bor Text))
 
+-- the names of the modes
+abbrev pub mode_names : List Text
+mode_names = codes "run" ∷ codes "race" ∷ codes "gen" ∷ []
+
 -- the names are those of the modes
 abbrev pub AreModes : ModeNames → Type 0
-AreModes names = map (λ name. name.now) names.now ≡ codes "run" ∷ []
+AreModes names = map (λ name. name.now) names.now ≡ mode_names
 
 -- the argument that is the name of a mode, and may not be left out
 abbrev pub mode_rule : ModeNames → Rule
@@ -67,7 +71,7 @@ abbrev pub somewhere : {X : Type 0} → X → Bor X
 somewhere x = record { ref_ptr = (0, 0); now = x }
 
 abbrev pub modes : ModeNames
-modes = somewhere (somewhere (codes "run") ∷ [])
+modes = somewhere (map somewhere mode_names)
 
 abbrev pub command : App
 command = command_with modes

@@ -7,7 +7,7 @@ use Rattle.im_words.specs.Asked.{IsFor}
 use Rattle.im_words.specs.Setting.{name_of, usual_of}
 use Rattle.im_words.specs.declared.asked.Asked.{Asked}
 use Rattle.im_words.specs.declared.mode.Mode.{Mode}
-use Rattle.im_words.specs.declared.mode.Mode.TheVariants.{Run}
+use Rattle.im_words.specs.declared.mode.Mode.TheVariants.{Run, Race, Gen}
 use Rattle.im_words.specs.declared.setting.Setting.{Setting}
 use Rattle.im_words.specs.declared.setting.Setting.TheVariants.{Area, Workers, Turns, Rows, Seed}
 
@@ -23,6 +23,8 @@ pub data Item : Type 0 where
 
 abbrev pub name_of_mode : Mode → Text
 name_of_mode Run = codes "run"
+name_of_mode Race = codes "race"
+name_of_mode Gen = codes "gen"
 
 -- the words of an item: `run`, `--area 5` or `--area=5`
 abbrev pub spelled : Item → List Text

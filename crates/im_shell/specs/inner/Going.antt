@@ -1,6 +1,5 @@
 -- A script that is read, played and written line by line: how far it is.
 use Rattle.std.specs.Prelude.{◌≡◌, ℕ, List, [], ◌++◌, Option, Some, None}
-use Rattle.im_edge.specs.Writing.{Took}
 use Rattle.im_play.specs.Between.{Answers}
 use Rattle.im_play.specs.Lines.{IsRead}
 use Rattle.im_play.specs.Machine.{Comes, Machine}
@@ -12,17 +11,7 @@ use Rattle.im_script.specs.Lines.{AreLines}
 use Rattle.im_shell.specs.declared.shown.Shown.{Shown}
 use Rattle.im_shell.specs.Play.{ComesOf}
 use Rattle.im_shell.specs.Texts.{text_shown}
-
--- the sink took a prefix of this text; what is left waits to be written
-pub record Sends (before after : Option (List ℕ)) (text left : List ℕ) : Type 0 where
-  pub sent : List ℕ
-  pub took : Took before after sent
-  pub split : text ≡ sent ++ left
-
--- the sink took a prefix of this text
-pub record SendsPart (before after : Option (List ℕ)) (text : List ℕ) : Type 0 where
-  pub left : List ℕ
-  pub sends : Sends before after text left
+use Rattle.im_shell.specs.inner.Sent.{Sends}
 
 -- the script is played up to the rest, with these replies so far: whatever lines of some bytes come to from here, these lines behind
 -- those so far come to the replies so far and then theirs

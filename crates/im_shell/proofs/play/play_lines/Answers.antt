@@ -1,5 +1,6 @@
 use Rattle.std.proofs.Common.{arith, refl, ◌∙◌}
-use Rattle.im_shell.proofs.PlayLemmas.{OnErr-always, IsGoing-start, IsGoing-next, IsGoing-end, IsGoing-part, IsGoing-stuck, next_in}
+use Rattle.im_shell.proofs.SentLemmas.{OnErr-always}
+use Rattle.im_shell.proofs.PlayLemmas.{IsGoing-start, IsGoing-next, IsGoing-end, IsGoing-part, IsGoing-stuck, next_in}
 use Rattle.im_play.proofs.ForCallers.{between-start, machine-start}
 use Rattle.im_shell.proofs.play.play_lines.Goals as goal
 

@@ -1,5 +1,6 @@
 use Rattle.std.proofs.Common.{refl}
-use Rattle.im_shell.proofs.PlayLemmas.{OnErr-always, PlaysInPart-nil}
+use Rattle.im_shell.proofs.PlayLemmas.{PlaysInPart-nil}
+use Rattle.im_shell.proofs.SentLemmas.{OnErr-always}
 use Rattle.im_shell.proofs.play.play_script.Goals as goal
 
 pub returns-in_err-store-clause-err : goal.returns-in_err-store-clause-err
