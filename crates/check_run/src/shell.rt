@@ -223,7 +223,9 @@ const ENDS: [(Status, u8, Option<&str>); 6] = [
     (
         Status::Usage,
         1,
-        Some("ime: usage: ime run|race|gen [--area N] [--workers N] [--turns N] [--rows N] [--seed N]"),
+        Some(
+            "ime: usage: ime run|race|gen [--area N] [--workers N] [--turns N] [--rows N] [--seed N]",
+        ),
     ),
     (Status::ReadFault, 2, Some("ime: read failed")),
     (Status::WriteFault, 3, Some("ime: write failed")),
