@@ -1,8 +1,8 @@
 //! Plays each script of `data/`, and compares the text that it comes to with the text that stands beside it.
 //!
 //! `data/examples/` has the scripts that the manual shows, `data/scripts/` others. What `NAME.ime` is to come to is
-//! `NAME.out`; `OPTIONS` has the further words of those that need some. A folder is answered by one line: how many scripts came
-//! to their texts, or the name of one that did not.
+//! `NAME.out`; `COMMANDS` has the words of those that are not played by `ime run`. A folder is answered by one line: how many
+//! scripts came to their texts, or the name of one that did not.
 #![tactic(auto)]
 
 ghost use Rattle.std.specs.Prelude.{◌≡◌, ◌<◌};
@@ -25,25 +25,30 @@ const PIECE: usize = 1000;
 /// How many bytes a text may have.
 const ROOM: usize = 1_000_000;
 
-/// Scripts that are played by more words than `ime run`, and those words.
-const OPTIONS: [(&str, &[&str]); 1] = [("full_area", &["--area", "60"])];
+/// Scripts that are played by other words than `run`, and those words.
+const COMMANDS: [(&str, &[&str]); 4] = [
+    ("full_area", &["run", "--area", "60"]),
+    ("race_locked_row", &["race"]),
+    ("race_of_one", &["race"]),
+    ("race_of_workers", &["race"]),
+];
 
-/// Puts words behind others.
-fn push_all(alloc: Global, words: &mut Vec<Word>, texts: &[&str]) -> Result<(), NoMemory> {
-    for text in texts {
-        words.push(Word::of(String::from_str(alloc, text)?))?;
+/// The words behind the program's name of the command that plays the script of this name.
+fn command(name: &str) -> &'static [&'static str] {
+    for (script, words) in COMMANDS {
+        if script == name {
+            return words;
+        }
     }
-    Ok(())
+    &["run"]
 }
 
 /// The words of the command that plays the script of this name.
 fn words(alloc: Global, name: &str) -> Result<Vec<Word>, NoMemory> {
     let mut words = Vec::new(alloc);
-    push_all(alloc, &mut words, &["ime", "run"])?;
-    for (script, options) in OPTIONS {
-        if script == name {
-            push_all(alloc, &mut words, options)?;
-        }
+    words.push(Word::of(String::from_str(alloc, "ime")?))?;
+    for text in command(name) {
+        words.push(Word::of(String::from_str(alloc, text)?))?;
     }
     Ok(words)
 }

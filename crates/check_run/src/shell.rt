@@ -1,6 +1,6 @@
 ghost use Rattle.std.specs.Prelude.{◌≡◌, ◌<◌};
 
-use im_edge::{MemSink, MemSource, OpenGate};
+use im_edge::{Gate, MemSink, MemSource, OpenGate};
 use im_shell::{Status, Word, run};
 use im_values::Steps;
 use std::alloc::Global;
@@ -19,6 +19,17 @@ const TWO_ROWS: &str =
 const TWO_ROWS_TEXT: &str =
     "1,created,1,1\n2,inserted,1,0\n3,inserted,1,1\n4,committed,2\n5,answer,2,1\n5,row,2\n";
 
+/// What it comes to as a race: nobody speaks behind its prelude, and no table is a member of the column store.
+const TWO_ROWS_RACED: &str =
+    "1,created,1,1\n2,inserted,1,0\n3,inserted,1,1\n4,committed,2\n5,answer,2,1\n5,row,2\nhistory,6\n\
+    h,0,1,create,T,32,64,K,0\nh,1,1,write,1\nc,1,1,0,put,10\nh,2,1,write,1\nc,2,1,1,put,20\nh,3,1,commit\n\
+    h,4,1,open,0,1\nh,5,1,shut,0\nworker,17,over,6\n";
+
+/// What a script that is made comes to, of one order of the amount 38.
+const ONE_ORDER_TEXT: &str =
+    "5,answer,2,1\n5,row,1,38\n6,answer,2,1\n6,row,EAST,1,38,38,38\n9,answer,3,1\n9,row,1,1000\n\
+    12,answer,3,1\n12,row,EAST,1000\n";
+
 /// A script whose last line goes on with more rows, up to the most changes that a transaction may have and past them.
 const CHANGES_BEFORE_THE_LIMIT: &str =
     "1> CREATE TABLE T (K NUMBER)\n1> INSERT INTO T VALUES (1), (2)\n1> INSERT INTO T VALUES (3)";
@@ -28,7 +39,7 @@ const SIXTEEN: &str = "-- fifteen here\n";
 
 /// A script, in which pieces it is read and written, which calls fail, and what comes of it.
 #[derive(Clone, Copy)]
-struct Case<'a> {
+pub struct Case<'a> {
     script: &'a str,
     read_piece: usize,
     read_fails: u64,
@@ -39,7 +50,7 @@ struct Case<'a> {
 }
 
 /// A script that meets no fault.
-fn plain<'a>(script: &'a str, text: &'a str) -> Case<'a> {
+pub fn plain<'a>(script: &'a str, text: &'a str) -> Case<'a> {
     Case {
         script,
         read_piece: 7,
@@ -68,11 +79,12 @@ fn words(alloc: Global, texts: &[&str]) -> Result<Vec<Word>, Fail> {
 }
 
 /// Runs a case, and answers its status and the text that was taken.
-fn outcome<R: Threads + Wait + Sync, L: Ledger>(
+fn outcome<R: Threads + Wait + Sync, G: Gate + Sync, L: Ledger>(
     rt: &R,
     alloc: Global,
     command: &[&str],
     case: &Case,
+    gate: &G,
     blank: Blank,
 ) -> Result<(Status, Vec<u8>), Fail>
     requires name { blank.name ≡ L.name }
@@ -93,10 +105,22 @@ fn outcome<R: Threads + Wait + Sync, L: Ledger>(
         words.as_slice(),
         &mut source,
         &mut sink,
-        &OpenGate,
+        gate,
         &mut steps,
     );
     Ok((status, Vec::from_slice(alloc, sink.taken())?))
+}
+
+/// Runs a command on a case with a gate, and answers its status and the text that was taken.
+pub fn played<R: Abort + Threads + Wait + Sync, G: Gate + Sync>(
+    rt: &R,
+    alloc: Global,
+    command: &[&str],
+    case: &Case,
+    gate: &G,
+) -> Result<(Status, Vec<u8>), Fail> {
+    assert!(rt; case.read_piece > 0 && case.write_piece > 0);
+    outcome::<R, G, Brand>(rt, alloc, command, case, gate, Blank::new(1))
 }
 
 /// Runs a command on a case, and compares its status and text.
@@ -106,8 +130,7 @@ fn check<R: Abort + Threads + Wait + Sync>(
     command: &[&str],
     case: &Case,
 ) -> Result<(), Fail> {
-    assert!(rt; case.read_piece > 0 && case.write_piece > 0);
-    let (status, text) = outcome::<R, Brand>(rt, alloc, command, case, Blank::new(1))?;
+    let (status, text) = played(rt, alloc, command, case, &OpenGate)?;
     assert_eq!(rt; status, case.status);
     assert_eq!(rt; text.as_slice(), case.text.as_bytes());
     Ok(())
@@ -206,7 +229,14 @@ fn a_fault_of_the_source_or_the_sink_ends_a_run(rt: HostRuntime) -> Result<(), F
 
 #[test]
 fn wrong_words_are_refused(rt: HostRuntime) -> Result<(), Fail> {
-    let commands: [&[&str]; 4] = [&[], &["ime"], &["ime", "walk"], &["ime", "run", "run"]];
+    let commands: [&[&str]; 6] = [
+        &[],
+        &["ime"],
+        &["ime", "walk"],
+        &["ime", "races"],
+        &["ime", "run", "run"],
+        &["ime", "run", "race"],
+    ];
     for command in commands {
         let case = Case {
             status: Status::Usage,
@@ -215,6 +245,14 @@ fn wrong_words_are_refused(rt: HostRuntime) -> Result<(), Fail> {
         check(&rt, rt.alloc(), command, &case)?;
     }
     Ok(())
+}
+
+#[test]
+fn race_and_gen_are_taken(rt: HostRuntime) -> Result<(), Fail> {
+    let raced = plain(TWO_ROWS, TWO_ROWS_RACED);
+    check(&rt, rt.alloc(), &["ime", "race"], &raced)?;
+    let made = plain("", ONE_ORDER_TEXT);
+    check(&rt, rt.alloc(), &["ime", "gen", "--rows", "1"], &made)
 }
 
 /// Each way in which a run may end, with the exit status and what stands on standard error.

@@ -1,4 +1,4 @@
-use Rattle.check_run.proofs.shell.check.Given as goal
+use Rattle.check_run.proofs.shell.played.Given as goal
 
 -- the ledger of each count is the blank's
 abbrev pub ghosts-outcome : goal.ghosts-outcome

@@ -1,0 +1,167 @@
+// The entries of a history.
+use super::record::{Record, Value};
+use super::wrong::{Wrong, check};
+use std::alloc::Global;
+
+/// The number of the first worker.
+pub const FIRST_WORKER: usize = 17;
+
+/// What an entry records, as far as it matters here.
+#[derive(Clone, Copy, PartialEq, Eq)]
+pub enum What {
+    /// So many row numbers make an extent of the table.
+    Create {
+        extent: usize,
+    },
+    Memory,
+    /// Whether the transaction keeps its first snapshot.
+    Begin {
+        keeps: bool,
+    },
+    Open {
+        cursor: usize,
+        table: usize,
+    },
+    Shut {
+        cursor: usize,
+    },
+    Write {
+        changes: usize,
+    },
+    Commit,
+    Rollback,
+    Build {
+        id: usize,
+        table: usize,
+        extent: usize,
+    },
+    Switch {
+        id: usize,
+    },
+    Cancel {
+        id: usize,
+    },
+    /// Credits, or a unit that was thrown out.
+    Other,
+    Leave,
+}
+
+/// What was done to a row.
+#[derive(Drop)]
+pub struct Change {
+    pub table: usize,
+    pub row: usize,
+    /// The values of the row, unless it was taken away.
+    pub values: Option<Vec<Value>>,
+}
+
+/// An entry of a history.
+#[derive(Drop)]
+pub struct Entry<'a> {
+    pub who: usize,
+    pub what: What,
+    /// Those of a write.
+    pub changes: Vec<Change>,
+    /// As it stands in the report.
+    pub record: Record<'a>,
+}
+
+/// What an entry records.
+fn what_of(record: &Record<'_>) -> Result<What, Wrong> {
+    Ok(match record.field(3) {
+        "create" => What::Create {
+            extent: record.count(5)?.saturating_mul(record.count(6)?),
+        },
+        "memory" => What::Memory,
+        "begin" => What::Begin {
+            keeps: record.field(4) != "committed",
+        },
+        "open" => What::Open {
+            cursor: record.count(4)?,
+            table: record.count(5)?,
+        },
+        "shut" => What::Shut {
+            cursor: record.count(4)?,
+        },
+        "write" => What::Write {
+            changes: record.count(4)?,
+        },
+        "commit" => What::Commit,
+        "rollback" => What::Rollback,
+        "build" => What::Build {
+            id: record.count(4)?,
+            table: record.count(5)?,
+            extent: record.count(6)?,
+        },
+        "switch" => What::Switch {
+            id: record.count(4)?,
+        },
+        "cancel" => What::Cancel {
+            id: record.count(4)?,
+        },
+        "trickle" | "evict" => What::Other,
+        "leave" => What::Leave,
+        _ => return Err(record.wrong()),
+    })
+}
+
+impl<'a> Entry<'a> {
+    /// The entry that a record is, so far without changes.
+    pub fn read(alloc: Global, record: Record<'a>) -> Result<Entry<'a>, Wrong> {
+        Ok(Entry {
+            who: record.count(2)?,
+            what: what_of(&record)?,
+            changes: Vec::new(alloc),
+            record,
+        })
+    }
+
+    /// Whether it has as many changes as it should have.
+    pub fn is_whole(&self) -> bool {
+        match self.what {
+            What::Write { changes } => self.changes.len() == changes,
+            _ => self.changes.is_empty(),
+        }
+    }
+
+    /// Which column of the table that it creates has this name, from 0.
+    pub fn column(&self, name: &str) -> Option<usize> {
+        let mut found = None;
+        for at in 0..self.record.len() {
+            if at >= 7 && at % 2 == 1 && self.record.field(at) == name {
+                found = Some((at - 7) / 2);
+            }
+        }
+        found
+    }
+}
+
+/// The values of a row, which are the fields of a record from one on.
+fn values_of(alloc: Global, record: &Record<'_>, first: usize) -> Result<Vec<Value>, Wrong> {
+    let mut values = Vec::new(alloc);
+    for at in first..record.len() {
+        values.push(record.value(at)?)?;
+    }
+    Ok(values)
+}
+
+impl Change {
+    /// The change that a record is.
+    pub fn read(alloc: Global, record: &Record<'_>) -> Result<Change, Wrong> {
+        let values = match record.field(4) {
+            "put" => Some(values_of(alloc, record, 5)?),
+            _ => {
+                check(
+                    record.field(4) == "out" && record.len() == 5,
+                    record.wrong(),
+                )?;
+                None
+            }
+        };
+        Ok(Change {
+            table: record.count(2)?,
+            row: record.count(3)?,
+            values,
+        })
+    }
+}

@@ -1,0 +1,189 @@
+// What a history says of rows, by replay.
+use super::entry::{Change, Entry, What};
+use super::record::Value;
+use super::wrong::Wrong;
+use std::alloc::Global;
+use std::collections::{BTreeMap, BTreeSet};
+
+/// What a cursor sees.
+#[derive(Clone, Copy)]
+pub struct View {
+    pub who: usize,
+    pub table: usize,
+    /// The place at which the cursor was opened.
+    pub place: usize,
+    /// How many entries its snapshot has.
+    pub snapshot: usize,
+}
+
+/// The SCN at a place: how many commits and creations stand before it.
+pub fn scn(entries: &[Entry<'_>], place: usize) -> usize {
+    entries
+        .iter()
+        .take(place)
+        .filter(|entry| matches!(entry.what, What::Commit | What::Create { .. }))
+        .count()
+}
+
+/// The place behind the last transaction of a number that ended before a place.
+fn transaction_start(entries: &[Entry<'_>], place: usize, who: usize) -> usize {
+    let mut start = 0;
+    for (at, entry) in entries.iter().enumerate().take(place) {
+        if entry.who == who && matches!(entry.what, What::Commit | What::Rollback) {
+            start = at;
+        }
+    }
+    start
+}
+
+/// Whether a transaction of a number is open at a place.
+pub fn is_open(entries: &[Entry<'_>], place: usize, who: usize) -> bool {
+    let start = transaction_start(entries, place, who);
+    entries.iter().take(place).skip(start).any(|entry| {
+        entry.who == who && matches!(entry.what, What::Begin { .. } | What::Write { .. })
+    })
+}
+
+/// How many entries the snapshot of a statement has that a number began at a place.
+fn snapshot(entries: &[Entry<'_>], place: usize, who: usize) -> usize {
+    let start = transaction_start(entries, place, who);
+    let mut snapshot = place;
+    for (at, entry) in entries.iter().enumerate().take(place).skip(start) {
+        if entry.who == who && entry.what == (What::Begin { keeps: true }) {
+            snapshot = at;
+        }
+    }
+    snapshot
+}
+
+/// What a cursor of a number sees that is open at a place.
+pub fn view_of(entries: &[Entry<'_>], place: usize, who: usize, cursor: usize) -> Option<View> {
+    let mut found = None;
+    for (at, entry) in entries.iter().enumerate().take(place) {
+        match entry.what {
+            What::Open {
+                cursor: opened,
+                table,
+            } if entry.who == who && opened == cursor => {
+                found = Some(View {
+                    who,
+                    table,
+                    place: at,
+                    snapshot: snapshot(entries, at, who),
+                })
+            }
+            _ => {}
+        }
+    }
+    found
+}
+
+/// Rows by their numbers.
+pub type Rows = BTreeMap<usize, Value>;
+
+/// Makes a change to rows, of which a column is kept.
+fn make(rows: &mut Rows, change: &Change, column: usize) -> Result<(), Wrong> {
+    match &change.values {
+        Some(values) => {
+            let value = values.get(column).copied().unwrap_or(None);
+            rows.insert(change.row, value)?;
+        }
+        None => {
+            rows.remove(&change.row);
+        }
+    }
+    Ok(())
+}
+
+/// Makes the changes to a table that a number's transaction made before a place at which it was open.
+fn make_pending(
+    rows: &mut Rows,
+    entries: &[Entry<'_>],
+    place: usize,
+    who: usize,
+    table: usize,
+    column: usize,
+) -> Result<(), Wrong> {
+    let start = transaction_start(entries, place, who);
+    for entry in entries.iter().take(place).skip(start) {
+        if entry.who == who {
+            for change in &entry.changes {
+                if change.table == table {
+                    make(rows, change, column)?;
+                }
+            }
+        }
+    }
+    Ok(())
+}
+
+/// The rows that a view sees: those of its snapshot, with what its own session had pending put on top.
+pub fn rows_seen(
+    alloc: Global,
+    entries: &[Entry<'_>],
+    view: &View,
+    column: usize,
+) -> Result<Rows, Wrong> {
+    let mut rows = BTreeMap::new(alloc);
+    for (at, entry) in entries.iter().enumerate().take(view.snapshot) {
+        if entry.what == What::Commit {
+            make_pending(&mut rows, entries, at, entry.who, view.table, column)?;
+        }
+    }
+    make_pending(&mut rows, entries, view.place, view.who, view.table, column)?;
+    Ok(rows)
+}
+
+/// How many row numbers make an extent of a table.
+fn extent_rows(entries: &[Entry<'_>], table: usize) -> Option<usize> {
+    let mut tables: usize = 0;
+    for entry in entries {
+        if let What::Create { extent } = entry.what {
+            tables = tables.saturating_add(1);
+            if tables == table {
+                return Some(extent);
+            }
+        }
+    }
+    None
+}
+
+/// The row numbers of an extent that a number's transaction changed before a place at which it was open.
+fn add_touched(
+    rows: &mut BTreeSet<usize>,
+    entries: &[Entry<'_>],
+    place: usize,
+    who: usize,
+    table: usize,
+    extent: usize,
+) -> Result<(), Wrong> {
+    let start = transaction_start(entries, place, who);
+    let per = extent_rows(entries, table).unwrap_or(1);
+    for entry in entries.iter().take(place).skip(start) {
+        if entry.who == who {
+            for change in &entry.changes {
+                if change.table == table && change.row.checked_div(per) == Some(extent) {
+                    rows.insert(change.row)?;
+                }
+            }
+        }
+    }
+    Ok(())
+}
+
+/// How many row numbers of an extent the commits behind an SCN touched, up to the snapshot of a view.
+pub fn stale(
+    alloc: Global,
+    entries: &[Entry<'_>],
+    view: &View,
+    extent: usize,
+    since: usize,
+) -> Result<usize, Wrong> {
+    let mut rows = BTreeSet::new(alloc);
+    for (at, entry) in entries.iter().enumerate().take(view.snapshot) {
+        if entry.what == What::Commit && scn(entries, at) >= since {
+            add_touched(&mut rows, entries, at, entry.who, view.table, extent)?;
+        }
+    }
+    Ok(rows.len())
+}

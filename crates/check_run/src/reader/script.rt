@@ -1,0 +1,142 @@
+// The lines of a script, as far as they matter here.
+use super::entry::FIRST_WORKER;
+use super::wrong::Wrong;
+use std::alloc::Global;
+
+/// What a query asks of all rows of a table.
+#[derive(Clone, Copy)]
+pub enum Query<'a> {
+    Count { table: &'a str },
+    Sum { column: &'a str, table: &'a str },
+}
+
+/// A line that has a reply.
+#[derive(Drop)]
+pub struct Line<'a> {
+    pub number: usize,
+    /// The session that speaks in it.
+    pub who: Option<usize>,
+    words: Vec<&'a str>,
+}
+
+/// A script: the lines before the race, and those of the race.
+#[derive(Drop)]
+pub struct Script<'a> {
+    pub prelude: Vec<Line<'a>>,
+    pub race: Vec<Line<'a>>,
+}
+
+/// The query that words spell, where it is a sum or a count of a whole table.
+fn query_of<'a>(words: &[&'a str]) -> Option<Query<'a>> {
+    match words {
+        ["SELECT", "COUNT(*)", "FROM", table] => Some(Query::Count { table }),
+        ["SELECT", item, "FROM", table] => {
+            let column = item.strip_prefix("SUM(")?.strip_suffix(")")?;
+            Some(Query::Sum { column, table })
+        }
+        _ => None,
+    }
+}
+
+impl<'a> Line<'a> {
+    /// The line of a number, which has this text.
+    fn read(alloc: Global, number: usize, text: &'a str) -> Result<Line<'a>, Wrong> {
+        let (prefix, statement) = text.split_once('>').unwrap_or(("", text));
+        let mut words = Vec::new(alloc);
+        for word in statement.split_whitespace() {
+            words.push(word)?;
+        }
+        Ok(Line {
+            number,
+            who: prefix.trim().parse::<usize>().ok(),
+            words,
+        })
+    }
+
+    /// A word of its statement, or nothing past the last one.
+    fn word(&self, at: usize) -> &'a str {
+        self.words.get(at).copied().unwrap_or("")
+    }
+
+    /// The first word of its statement.
+    pub fn verb(&self) -> &'a str {
+        self.word(0)
+    }
+
+    /// The cursor that it scans by: that of a statement's own scan is cursor 0.
+    pub fn cursor(&self) -> usize {
+        match self.verb() {
+            "STEP" | "FETCH" => self.word(1).parse::<usize>().unwrap_or(0),
+            _ => 0,
+        }
+    }
+
+    /// Whether it opens this cursor of this session.
+    fn opens(&self, who: usize, cursor: usize) -> bool {
+        self.who == Some(who)
+            && self.verb() == "OPEN"
+            && self.word(1).parse::<usize>() == Ok(cursor)
+    }
+
+    /// The query that it has.
+    fn query(&self) -> Option<Query<'a>> {
+        let words = self.words.as_slice();
+        match self.verb() {
+            "OPEN" => query_of(words.get(3..)?),
+            _ => query_of(words),
+        }
+    }
+}
+
+impl<'a> Script<'a> {
+    /// Reads a text, line by line. Blank lines, comments and each `race>` have no reply.
+    pub fn read(alloc: Global, text: &'a str) -> Result<Script<'a>, Wrong> {
+        let mut script = Script {
+            prelude: Vec::new(alloc),
+            race: Vec::new(alloc),
+        };
+        let mut is_race = false;
+        for (index, text) in text.lines().enumerate() {
+            let text = text.trim();
+            if text == "race>" {
+                is_race = true;
+            } else if !text.is_empty() && !text.starts_with("--") {
+                script.add(is_race, Line::read(alloc, index.saturating_add(1), text)?)?;
+            }
+        }
+        Ok(script)
+    }
+
+    fn add(&mut self, is_race: bool, line: Line<'a>) -> Result<(), Wrong> {
+        if is_race {
+            self.race.push(line)?;
+        } else {
+            self.prelude.push(line)?;
+        }
+        Ok(())
+    }
+
+    /// Whether a session speaks in the race.
+    pub fn plays(&self, who: usize) -> bool {
+        self.race.iter().any(|line| line.who == Some(who))
+    }
+
+    /// How many sessions speak in the race.
+    pub fn sessions(&self) -> usize {
+        (1..FIRST_WORKER).filter(|who| self.plays(*who)).count()
+    }
+
+    /// The query that a line of a session answers: its own, or for FETCH that of its cursor.
+    pub fn query(&self, line: &Line<'a>, who: usize) -> Option<Query<'a>> {
+        if line.verb() != "FETCH" {
+            return line.query();
+        }
+        let mut found = None;
+        for other in self.prelude.iter().chain(self.race.iter()) {
+            if other.number < line.number && other.opens(who, line.cursor()) {
+                found = other.query();
+            }
+        }
+        found
+    }
+}
