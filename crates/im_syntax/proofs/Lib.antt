@@ -1,4 +1,6 @@
 pub mod ConditionParts
 pub mod Slots
 pub mod SpellLists
+pub mod Crossing
+mod CrossingConditions
 mod ChoicesLemmas
