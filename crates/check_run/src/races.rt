@@ -1,6 +1,6 @@
 use crate::reader::{Race, read_report};
 use crate::shell::{plain, played};
-use im_edge::{Gate, OpenGate};
+use im_edge::{Gate, HoldGate, OpenGate};
 use im_shell::Status;
 use std::alloc::Global;
 use std::process::Abort;
@@ -27,6 +27,11 @@ const PRELUDE_TEXT: &str =
 /// Each line behind the prelude is refused.
 const REFUSED: &str =
     "1> CREATE TABLE T (K NUMBER)\nrace>\n2> SELEC\n2> SELECT K FROM U\n  bg> RUN\n3> garbage";
+
+/// A session steps through a table of two extents, beside a worker that builds them.
+const STEPPED: &str = "1> CREATE TABLE T (K NUMBER) BLOCK 2 EXTENT 2 INMEMORY PRIORITY HIGH\n\
+    1> INSERT INTO T VALUES (1), (2), (3), (4), (5), (6)\n1> COMMIT\nrace>\n\
+    1> OPEN 1 FOR SELECT SUM(K) FROM T\n1> STEP 1\n1> STEP 1\n1> FETCH 1";
 
 /// The report of a race that is played whole.
 pub fn report_of<R: Abort + Threads + Wait + Sync, G: Gate + Sync>(
@@ -84,5 +89,57 @@ fn a_session_whose_lines_are_refused_leaves(rt: HostRuntime) -> Result<(), Fail>
     let text = text_of(report.as_slice());
     assert!(rt; text.contains(",2,leave\n") && text.contains(",3,leave\n"));
     assert!(rt; text.contains("\n5,error,01,syntax,3\n6,error,01,syntax,4\n"));
+    Ok(())
+}
+
+/// A field, from 0, of the first line of a report that has a word, as the place that it is.
+fn place_in(text: &str, word: &str, field: usize) -> Option<u64> {
+    let line = text.lines().find(|line| line.contains(word))?;
+    line.split(',').nth(field)?.parse::<u64>().ok()
+}
+
+/// Whether the second step came behind the first switch.
+fn steps_late(text: &str) -> Option<bool> {
+    let step = place_in(text, "mark,7,", 2)?;
+    let switch = place_in(text, ",17,switch,", 1)?;
+    Some(switch < step)
+}
+
+/// The report of the race of a session that steps under a gate.
+fn stepped<R: Abort + Threads + Wait + Sync>(
+    rt: &R,
+    alloc: Global,
+    gate: &HoldGate,
+) -> Result<Vec<u8>, Fail> {
+    let words = ["ime", "race", "--workers", "1", "--turns", "1000000"];
+    let report = report_of(rt, alloc, &words, STEPPED, gate)?;
+    let race = Race {
+        script: STEPPED,
+        prelude: 4,
+        workers: 1,
+    };
+    assert_eq!(rt; read_report(alloc, &race, report.as_slice()), Ok(()));
+    assert!(rt; !gate.gave_up());
+    let text = text_of(report.as_slice());
+    assert!(rt; text.contains("\nworker,17,over,"));
+    assert!(rt; text.ends_with("\n8,answer,2,1\n8,row,21\n"));
+    Ok(report)
+}
+
+#[test]
+fn a_step_waits_for_a_switch(rt: HostRuntime) -> Result<(), Fail> {
+    let gate = HoldGate::new((1, 2), (17, 1), 10_000_000);
+    let report = stepped(&rt, rt.alloc(), &gate)?;
+    assert_eq!(rt; steps_late(text_of(report.as_slice())), Some(true));
+    Ok(())
+}
+
+#[test]
+fn a_switch_waits_for_a_step(rt: HostRuntime) -> Result<(), Fail> {
+    let gate = HoldGate::new((17, 1), (1, 2), 10_000_000);
+    let report = stepped(&rt, rt.alloc(), &gate)?;
+    let text = text_of(report.as_slice());
+    assert_eq!(rt; steps_late(text), Some(false));
+    assert!(rt; text.contains("\n6,served,0,blocks\n") && text.contains("\n7,served,1,blocks\n"));
     Ok(())
 }

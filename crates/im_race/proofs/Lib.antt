@@ -1,6 +1,7 @@
 pub mod AnswersLemmas
 pub mod BesideLemmas
 pub mod ClosingLemmas
+pub mod Crossing
 mod DoneLemmas
 pub mod FinishLemmas
 pub mod JobLaws

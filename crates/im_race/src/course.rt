@@ -15,6 +15,8 @@ use std::alloc::Global;
 use std::marker::Brand;
 use std::sync::Wait;
 use std::sync::ledger::{Blank, Ledger};
+use std::thread;
+use std::thread::Threads;
 
 /// How a race is held.
 #[derive(Clone, Copy, Debug, PartialEq, Eq)]
@@ -106,8 +108,9 @@ fn play<R: Wait, G: Gate>(
     play_counting::<R, G, Brand>(alloc, rt, store, gate, course, job, Blank::new(1))
 }
 
-/// Does all jobs, one after the other, in their order.
-pub fn play_all<R: Wait, G: Gate>(
+/// Does all jobs, each on a thread of its own where one can be made, and one after the other in their order where none can.
+/// What came of them stands in their order.
+pub fn play_all<R: Threads + Wait + Sync, G: Gate + Sync>(
     alloc: Global,
     rt: &R,
     store: &Store<ColumnUnit>,
@@ -121,9 +124,18 @@ pub fn play_all<R: Wait, G: Gate>(
     ensures { IfOk result (λ done. AreDone course.now.setting.area course.now.setting.turns course.now.sessions course.now.lines.now
         jobs.items done.items) }
 {
-    let mut all = Vec::new(alloc);
-    for job in jobs {
-        all.push(play(alloc, rt, store, gate, course, job))?;
-    }
-    Ok(all)
+    let Ok(done) = thread::map_vec(
+        rt,
+        jobs,
+        &|job: Job| -> Done
+            requires ready { IsReady course.now.setting.area store.now.id job }
+            requires known { All (λ line. IsKnown line.kind) course.now.lines.now }
+            requires names { All NamesOneOf16 course.now.lines.now }
+            ensures { IsDone course.entry.now.setting.area course.entry.now.setting.turns course.entry.now.sessions
+                course.entry.now.lines.now job result }
+        { play(alloc, rt, store, gate, course, job) },
+    ) else {
+        return Err(NoMemory);
+    };
+    Ok(done)
 }

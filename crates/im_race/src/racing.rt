@@ -27,6 +27,7 @@ use im_values::{NoMemory, Steps};
 use std::alloc::Global;
 use std::sync::Wait;
 use std::sync::ledger::Ledger;
+use std::thread::Threads;
 
 /// Ends all passes, and hands out the history of the store.
 fn close(
@@ -50,7 +51,7 @@ fn close(
 }
 
 /// Lets sessions and workers play beside each other over a store, and answers what they show.
-fn play_beside<R: Wait, G: Gate>(
+fn play_beside<R: Threads + Wait + Sync, G: Gate + Sync>(
     alloc: Global,
     rt: &R,
     gate: &G,
@@ -99,7 +100,7 @@ fn play_beside<R: Wait, G: Gate>(
 ///
 /// Where no line ends a prelude, all lines are the prelude's, and the workers are alone. It may wait: in the gate, and for the turn of
 /// the store. An idle worker sleeps between its turns.
-pub fn race<R: Wait, G: Gate, L: Ledger>(
+pub fn race<R: Threads + Wait + Sync, G: Gate + Sync, L: Ledger>(
     alloc: Global,
     rt: &R,
     gate: &G,

@@ -1,5 +1,5 @@
 -- Jobs before and after they are done.
-use Rattle.std.specs.Prelude.{◌≡◌, ℕ, ◌<◌, ◌≤◌, false, All, List, [], ◌∷◌, filter, map, slice_index_or, ⊤}
+use Rattle.std.specs.Prelude.{◌≡◌, ℕ, ◌<◌, ◌≤◌, false, List, [], ◌∷◌, filter, map, slice_index_or, ⊤}
 use Rattle.im_history.specs.declared.entry.Entry.{Entry}
 use Rattle.im_history.specs.History.{History}
 use Rattle.im_history.specs.Leaves.{has_left}
@@ -17,7 +17,7 @@ use Rattle.im_script.specs.declared.line.Line.{Line}
 use Rattle.im_session.specs.Sessions.{Agrees, Kept, state_of}
 use Rattle.im_statements.specs.Outcomes.{State, fresh}
 use Rattle.im_store.specs.Sides.{known_by, limits_of, who_of}
-use Rattle.im_turn.specs.Passes.{KnowsOwn, PassState, new_pass}
+use Rattle.im_turn.specs.Passes.{KnowsOwn, PassState}
 use Rattle.im_turn.specs.Turns.{TurnId}
 use Rattle.im_values.specs.declared.limits.TheConstants.{NUMBERS, SESSIONS}
 use Rattle.im_worker.specs.Background.{builds_of}
@@ -69,14 +69,6 @@ abbrev pub IsFrom : List Kept → ℕ → Player → Type 0
 IsFrom sessions who (player.Session session) =
     state_of session.cursors ≡ slice_index_or (map (λ (s : Kept). state_of s.cursors) sessions) who fresh
 IsFrom sessions who player.Worker = SESSIONS < who
-
--- the jobs of these numbers were made, each with a pass that the first one split off
-pub record AreSetUp (sessions : List Kept) (old new : PassState Entry) (jobs : List Job) (numbers : List ℕ) : Type 0 where
-  pub pass : new ≡ record old { gave = numbers }
-  pub numbers_are : map (λ (job : Job). job.who) jobs ≡ numbers
-  pub ready : All (IsReady (limits_of old.fixed).area old.turn) jobs
-  pub passes : All (λ (job : Job). job.pass ≡ new_pass job.who old) jobs
-  pub from : All (λ (job : Job). IsFrom sessions job.who job.player) jobs
 
 -- what came of the job of a session, from the history `old` to the history `new`
 abbrev pub CameOfSession : ℕ → List Line → ℕ → Kept → History → Outcome → History → Type 0

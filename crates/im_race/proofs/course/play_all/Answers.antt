@@ -1,15 +1,22 @@
-use Rattle.std.proofs.Common.{[], subst, sym}
-use Rattle.im_race.specs.inner.Doing.{AreDone}
-use Rattle.im_race.proofs.DoneLemmas.{done-push}
+use Rattle.std.proofs.Common.{rules}
+use denote.Exit.{no}
+use denote.Param.Send.{sendable, arg_sync, param_sync, shr_sync}
+use Rattle.std.proofs.Crossing.{crosses, sync}
+use Rattle.im_race.proofs.Crossing.{captured_sync, course_sync, job_send, store_sync}
+use Rattle.im_race.proofs.DoneLemmas.{all-done}
 use Rattle.im_race.proofs.course.play_all.Goals as goal
 
-pub loop-job-init : goal.loop-job-init
-loop-job-init g c =
-    subst (AreDone c.args.course.now.setting.area c.args.course.now.setting.turns c.args.course.now.sessions c.args.course.now.lines.now [])
-    (sym c.new-all.ensures.items) tt
+pub map_vec-requires-send-J : goal.map_vec-requires-send-J
+map_vec-requires-send-J g c κs within = search (sendable, crosses, job_send) depth 60 fits 10000
 
-pub loop-job-preserved : goal.loop-job-preserved
-loop-job-preserved g c =
-    subst (AreDone c.args.course.now.setting.area c.args.course.now.setting.turns c.args.course.now.sessions c.args.course.now.lines.now _)
-    (sym c.in_ok-push.ensures.items)
-    (done-push _ _ _ _ c.loop-job.yielded c.loop-job.all.items c.in-Some.job c.play.result c.loop-job.invariant c.play.ensures)
+pub map_vec-requires-sync-F : goal.map_vec-requires-sync-F
+map_vec-requires-sync-F g c κs within =
+    param_sync 4 _ (arg_sync _ no _
+    (captured_sync _ _ _ _ _ _ (shr_sync _ _ _ sync) (shr_sync _ _ _ c.type_bounds.sync-R) (shr_sync _ _ _ store_sync) (shr_sync _ _ _ c.type_bounds.sync-G)
+    (shr_sync _ _ _ (course_sync _))))
+
+pub returns : goal.returns
+returns g c =
+    all-done c.args.course.now.setting.area c.args.course.now.setting.turns c.args.course.now.sessions c.args.course.now.lines.now c.args.jobs.items
+    c.in-Ok.done.items (search (rules, c.in-Ok.ensures.len)) (λ at other less. let gives = (c.in-Ok.ensures.each at other less).1 in
+    record { job = gives.job; job_is = gives.job_is gives.job; is = search (rules, gives.call) })

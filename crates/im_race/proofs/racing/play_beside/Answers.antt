@@ -16,7 +16,7 @@ overflow_cast-course g c =
     omega (arith, few, long)
 
 pub play_all-requires-clause-ready : goal.play_all-requires-clause-ready
-play_all-requires-clause-ready g c =
+play_all-requires-clause-ready g c κs within =
     let first = is-first c.args.setting.area c.args.sessions.items _ _ _ _ c.in-Ok.first (ap (λ (k : Known). k.limits) c.into_core-core.ensures)
     (ap (λ (k : Known). k.log) c.into_core-core.ensures) c.requires.limits c.requires.agree c.requires.there c.known.ensures c.in-Ok.ensures.pass in
     let jobs = are-jobs c.args.setting.area c.args.setting.workers c.args.sessions.items c.args.lines.now c.in-Ok.first c.session_jobs.new.first

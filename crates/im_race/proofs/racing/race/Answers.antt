@@ -20,13 +20,13 @@ play_lines-requires-clause-between g c =
     c.in_ok-players.ensures.sessions c.in_ok-players.ensures.background
 
 pub play_beside-requires-clause-known : goal.play_beside-requires-clause-known
-play_beside-requires-clause-known g c =
+play_beside-requires-clause-known g c κs within =
     subst (All (λ (line : Line). IsKnown line.kind)) (sym (c.split_race.ensures.behind ∙ ap behind_of c.as_slice.ensures.value))
     (all-behind (λ (line : Line). IsKnown line.kind) c.in_ok-lines.lines.items
     (known-lines 1 _ c.in_ok-lines.lines.items c.in_ok-lines.ensures.are c.in_ok-lines.ensures.names))
 
 pub play_beside-requires-clause-names : goal.play_beside-requires-clause-names
-play_beside-requires-clause-names g c =
+play_beside-requires-clause-names g c κs within =
     subst (All NamesOneOf16) (sym (c.split_race.ensures.behind ∙ ap behind_of c.as_slice.ensures.value)) (all-behind NamesOneOf16 c.in_ok-lines.lines.items c.in_ok-lines.ensures.names)
 
 pub returns : goal.returns
