@@ -162,6 +162,52 @@ fn a_column_has_codes_of_the_least_width(rt: HostRuntime) -> Result<(), Fail> {
     Ok(())
 }
 
+/// Whether a column lends the values of a list from a place on, and NULL past the last one.
+fn lends<'a>(column: &'a Column, values: &[Value], null: &'a Value, first: u64) -> bool {
+    if first > column.len() {
+        return false;
+    }
+    let mut lent = [null; 64];
+    column.lend_from(first, &mut lent);
+    for (k, value) in lent.iter().enumerate() {
+        let place = (first as usize).saturating_add(k);
+        if *value != values.get(place).unwrap_or(null) {
+            return false;
+        }
+    }
+    true
+}
+
+/// Whether a column lends the values of a list from each place on, the one past the last among them.
+fn lends_each(column: &Column, values: &[Value]) -> bool {
+    let null = Value::Null;
+    for first in 0..column.len() + 1 {
+        if !lends(column, values, &null, first) {
+            return false;
+        }
+    }
+    true
+}
+
+#[test]
+fn a_column_lends_its_values_from_each_place_on(rt: HostRuntime) -> Result<(), Fail> {
+    let alloc = rt.alloc();
+    for (i, (cells, _, _)) in CASES.iter().enumerate() {
+        let values = values_of(alloc, cells)?;
+        assert!(rt; values.len() < 1_000_000);
+        let column = built(alloc, values.as_slice())?;
+        assert!(rt; lends_each(&column, values.as_slice()), "case {i}");
+    }
+    for (count, width) in [(6, 3), (1000, 10), (8200, 14)] {
+        let values = scattered(alloc, Series::Numbers(-1), count)?;
+        assert!(rt; values.len() < 1_000_000);
+        let column = built(alloc, values.as_slice())?;
+        assert_eq!(rt; shape_of(&column), Coded(width));
+        assert!(rt; lends_each(&column, values.as_slice()), "{width} bits");
+    }
+    Ok(())
+}
+
 /// In which order the numbers of a list come: 1 and 2 in turn, or so many that rise from 1 and then NULLs.
 #[derive(Clone, Copy, Debug)]
 enum Order {

@@ -109,8 +109,8 @@ impl Column {
     {
         match &self.kept {
             Kept::Plain(values) => &values[i as usize],
-            Kept::Coded(dict, bits) => value_of(dict, &self.null, bits.get(i)),
-            Kept::Runs(dict, runs) => value_of(dict, &self.null, runs.get(i)),
+            Kept::Coded(dict, bits) => value_of(dict.values(), &self.null, bits.get(i)),
+            Kept::Runs(dict, runs) => value_of(dict.values(), &self.null, runs.get(i)),
         }
     }
 
@@ -124,11 +124,11 @@ impl Column {
             Kept::Plain(values) => lend_plain(values.as_slice(), &self.null, first as usize, out),
             Kept::Coded(dict, bits) => {
                 bits.codes_from(first, &mut codes);
-                lend_coded(dict, &self.null, &codes, out);
+                lend_coded(dict.values(), &self.null, &codes, out);
             }
             Kept::Runs(dict, runs) => {
                 codes_behind(runs, first, &mut codes);
-                lend_coded(dict, &self.null, &codes, out);
+                lend_coded(dict.values(), &self.null, &codes, out);
             }
         }
     }
@@ -156,16 +156,20 @@ impl Column {
 }
 
 /// The value of a code.
-fn value_of<'a>(dict: &'a Dict, null: &'a Value, code: u32) -> &'a Value
+fn value_of<'a>(dict: &'a [Value], null: &'a Value, code: u32) -> &'a Value
     requires code { code < length (coded dict.now) }
     requires null { null.now ≡ Null }
     ensures { slice_get (coded dict.now) code ≡ Some result.now }
 {
-    if code == 0 { null } else { dict.value(code) }
+    if code == 0 {
+        null
+    } else {
+        &dict[code as usize - 1]
+    }
 }
 
 /// The values of 64 codes, lent.
-fn lend_coded<'a>(dict: &'a Dict, null: &'a Value, codes: &[u32; 64], out: &mut [&'a Value; 64])
+fn lend_coded<'a>(dict: &'a [Value], null: &'a Value, codes: &[u32; 64], out: &mut [&'a Value; 64])
     requires codes { (k : ℕ) → slice_index codes.now k < length (coded dict.now) }
     requires null { null.now ≡ Null }
     ensures { AreLent (λ k. get_or (coded dict.now) (slice_index codes.now k) Null) 64 (lent out.new) }
@@ -181,9 +185,40 @@ fn lend_plain<'a>(values: &'a [Value], null: &'a Value, first: usize, out: &mut 
     requires null { null.now ≡ Null }
     ensures { AreLent (λ k. get_or values.now (first + k) Null) 64 (lent out.new) }
 {
+    if values.len() - first >= 64 {
+        lend_whole(values, first, out);
+    } else {
+        lend_rest(values, null, first, out);
+    }
+}
+
+/// The values at 64 places from one on, lent, where there are as many.
+fn lend_whole<'a>(values: &'a [Value], first: usize, out: &mut [&'a Value; 64])
+    requires { first + 64 ≤ length values.now }
+    ensures { AreLent (λ k. get_or values.now (first + k) Null) 64 (lent out.new) }
+{
+    for k in 0..64 {
+        out[k] = value_from(values, first, k);
+    }
+}
+
+/// The values from a place on, lent, and NULL past the last one.
+fn lend_rest<'a>(values: &'a [Value], null: &'a Value, first: usize, out: &mut [&'a Value; 64])
+    requires first { first ≤ length values.now }
+    requires null { null.now ≡ Null }
+    ensures { AreLent (λ k. get_or values.now (first + k) Null) 64 (lent out.new) }
+{
     for k in 0..64 {
         out[k] = value_behind(values, null, first, k);
     }
+}
+
+/// The value so many behind a place.
+fn value_from(values: &[Value], first: usize, k: usize) -> &Value
+    requires { first + k < length values.now }
+    ensures { result.now ≡ get_or values.now (first + k) Null }
+{
+    &values[first + k]
 }
 
 /// The value so many behind a place, and NULL past the last one.
@@ -193,7 +228,7 @@ fn value_behind<'a>(values: &'a [Value], null: &'a Value, first: usize, k: usize
     ensures { result.now ≡ get_or values.now (first + k) Null }
 {
     if k < values.len() - first {
-        &values[first + k]
+        value_from(values, first, k)
     } else {
         null
     }

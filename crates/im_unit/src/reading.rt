@@ -163,13 +163,15 @@ pub fn rows_of(alloc: Global, columns: &[Arc<Column>], count: u64) -> Result<Vec
 }
 
 /// Puts rows behind others, each as one that is there.
-fn put_rows(slots: &mut Vec<Option<Row>>, rows: Vec<Row>) -> Result<(), NoMemory>
-    ensures { OnOk result (slots.new.items ≡ slots.old.items ++ map Some rows.items) }
+fn put_rows(slots: &mut Vec<Option<Row>>, rows: Vec<Row>)
+    requires room { vec_len slots.old + vec_len rows ≤ vec_capacity slots.old }
+    ensures items { slots.new.items ≡ slots.old.items ++ map Some rows.items }
+    ensures len { vec_len slots.new ≡ vec_len slots.old + vec_len rows }
+    ensures capacity { vec_capacity slots.new ≡ vec_capacity slots.old }
 {
     for row in rows {
-        slots.push(Some(row))?;
+        slots.push_reserved(Some(row));
     }
-    Ok(())
 }
 
 /// All rows of columns, each as one that is there.
@@ -191,10 +193,8 @@ pub fn slots_of(
     for i in 0..count.div_ceil(PIECE) {
         let first = i * PIECE;
         let many = PIECE.min(count - first) as usize;
-        put_rows(
-            &mut slots,
-            rows_at(alloc, columns, first, many, &mut piece)?,
-        )?;
+        let rows = rows_at(alloc, columns, first, many, &mut piece)?;
+        put_rows(&mut slots, rows);
     }
     Ok(slots)
 }

@@ -2,7 +2,7 @@ use Rattle.std.proofs.Common.{◌≡◌, ◌+◌, get_or, length}
 use Rattle.im_values.specs.declared.value.Value.TheVariants.{Null}
 use Rattle.im_codes.specs.Dictionary.{lent}
 use Rattle.im_column.specs.Forms.{AreLent}
-use Rattle.im_column.proofs.column.lend_plain.Given as goal
+use Rattle.im_column.proofs.column.lend_rest.Given as goal
 
 abbrev pub invariant-loop-k : goal.invariant-loop-k
 invariant-loop-k l = record {
