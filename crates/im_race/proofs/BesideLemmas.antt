@@ -23,7 +23,7 @@ use Rattle.im_race.specs.declared.job.Player.TheVariants as player
 use Rattle.im_race.specs.inner.Answering.{IsOfSession, answers_by, ends_after, is_whole, no_replies, replies_after, shown}
 use Rattle.im_race.specs.inner.Closing.{IsBeside, IsClosed}
 use Rattle.im_race.specs.inner.Doing.{AreDone, CameOf, HasEnded, IsFrom, IsReady, MayBegin}
-use Rattle.im_race.specs.inner.SettingUp.{is_asked, session_jobs, worker_jobs}
+use Rattle.im_race.specs.inner.SettingUp.{AreJobs, IsFirst, IsSetUp, is_asked, session_jobs, worker_jobs}
 use Rattle.im_race.specs.Jobs.{Answer, HasPlayed}
 use Rattle.im_race.specs.Lines.{has_job, names, numbers_from, raced_of, sessions_in, speaks_in}
 use Rattle.im_race.specs.Race.{AreWorkers, FIRST_WORKER, takes_part}
@@ -33,7 +33,7 @@ use Rattle.im_race.proofs.ClosingLemmas.{all-take_part, all-unmap}
 use Rattle.im_race.proofs.FinishLemmas.{AreEnds, IsFinished, ends-in_order, finish-all, kept_by}
 use Rattle.im_race.proofs.LinesLemmas.{IsSession, has_job-raced, has_job-session, sessions-have_jobs}
 use Rattle.im_race.proofs.OutcomesLemmas.{HasCome, length-replies, session-replies}
-use Rattle.im_race.proofs.SetUpLemmas.{IsSetUp, session-numbers, sessions-known, sessions-set_up, worker-numbers, workers-same, workers-set_up}
+use Rattle.im_race.proofs.SetUpLemmas.{session-numbers, sessions-known, sessions-set_up, worker-numbers, workers-same, workers-set_up}
 use Rattle.im_reach.specs.Sides.{Known}
 use Rattle.im_replies.specs.declared.reply.Reply.{Reply}
 use Rattle.im_script.specs.declared.line.Line.{Line}
@@ -49,17 +49,6 @@ use Rattle.im_values.specs.declared.limits.TheConstants.{SESSIONS, WORKERS}
 use Rattle.im_worker.specs.declared.work.Ended.{Ended}
 
 -- ---- the first pass
-
--- what is known of the first pass of a store behind a prelude
-pub record IsFirst (area : ℕ) (kept : List Kept) (base : History) (first : PassState Entry) : Type 0 where
-  pub limits : limits_of first.fixed ≡ script_limits area
-  pub there : AreThere first.seen
-  pub lawful : IsLawful (limits_of first.fixed) first.seen
-  pub agree : AreSessions 0 kept (known_by first 0)
-  pub zeroth : first.who ≡ 0
-  pub none : first.mine ≡ []
-  pub from : first.base ≡ length first.seen
-  pub seen : first.seen ≡ base
 
 pub is-first : (area : ℕ) (kept : List Kept) (old : Known) (limits : Limits) (log : History) (turn : TurnId) (first : PassState Entry) → old.limits ≡ limits
     → old.log ≡ log → old.limits ≡ script_limits area → AreSessions 0 kept old → AreThere old.log → IsLawful limits log
@@ -97,11 +86,6 @@ pub numbers-of_sessions : (first : PassState Entry) (lines : List Line) (kept : 
 numbers-of_sessions first lines kept count =
     session-numbers first lines 0 kept
     ∙ (ap (λ (n : ℕ). filter (is_asked lines) (numbers_from 0 n)) count ∙ filter-same lines 1 SESSIONS (omega arith))
-
--- all jobs, and what is known of them
-pub record AreJobs (area workers : ℕ) (kept : List Kept) (lines : List Line) (first : PassState Entry) (jobs : List Job) : Type 0 where
-  pub numbers : map (λ (job : Job). job.who) jobs ≡ sessions_in (raced_of lines) ++ numbers_from FIRST_WORKER workers
-  pub set_up : All (IsSetUp area kept first) jobs
 
 pub are-jobs : (area workers : ℕ) (kept : List Kept) (lines : List Line) (first one : PassState Entry) (some all : List Job)
     → limits_of first.fixed ≡ script_limits area → AreThere first.seen → IsLawful (limits_of first.fixed) first.seen

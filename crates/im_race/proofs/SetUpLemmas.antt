@@ -12,8 +12,7 @@ use Rattle.im_history.proofs.UnitLaws.{held-nil}
 use Rattle.im_play.specs.Between.{AreSessions, AreThere}
 use Rattle.im_play.specs.Requests.{script_limits}
 use Rattle.im_race.specs.declared.job.Job.{Job}
-use Rattle.im_race.specs.inner.Doing.{IsFrom, IsReady}
-use Rattle.im_race.specs.inner.SettingUp.{is_asked, job_of, one_job, session_jobs, worker_jobs, worker_of}
+use Rattle.im_race.specs.inner.SettingUp.{IsSetUp, is_asked, job_of, one_job, session_jobs, worker_jobs, worker_of}
 use Rattle.im_race.specs.Lines.{numbers_from, speaks_in}
 use Rattle.im_reach.specs.Sides.{Known}
 use Rattle.im_script.specs.declared.line.Line.{Line}
@@ -149,12 +148,6 @@ workers-same first gave who (suc left) =
     ap (λ (jobs : List Job). worker_of first who ∷ jobs) (workers-same first gave (suc who) left)
 
 -- ---- they may be done
-
--- what holds of a job before it is done
-pub record IsSetUp (area : ℕ) (kept : List Kept) (first : PassState Entry) (job : Job) : Type 0 where
-  pub ready : IsReady area first.turn job
-  pub split : job.pass ≡ new_pass job.who first
-  pub from : IsFrom kept job.who job.player
 
 module _ (area : ℕ) (kept : List Kept) (first : PassState Entry) (limits : limits_of first.fixed ≡ script_limits area) (there : AreThere first.seen) where
   session-set_up : (who : ℕ) (session : Kept) → 1 ≤ who → who ≤ SESSIONS → session.who ≡ who → Agrees session (known_by first 0)

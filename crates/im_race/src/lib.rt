@@ -15,6 +15,7 @@ mod job;
 mod jobs;
 mod laws;
 mod lines;
+mod lineup;
 mod playing;
 mod racing;
 mod replies;

@@ -9,8 +9,8 @@ ghost use Rattle.im_store.specs.Sides.{who_of};
 ghost use Rattle.im_turn.specs.Passes.{KnowsOwn};
 
 use crate::course::{Course, Setting, play_all};
-use crate::jobs::{add_workers, session_jobs};
 use crate::lines::split_race;
+use crate::lineup::{Lineup, set_up};
 use crate::report::Report;
 use crate::sorting::{answers, sort_outcomes};
 use im_edge::Gate;
@@ -72,18 +72,17 @@ fn play_beside<R: Threads + Wait + Sync, G: Gate + Sync>(
         (⟦<Sole<ColumnUnit> as Reach<ColumnUnit>>⟧.known store).log lines.now report) }
     ensures prelude { IfOk result (λ report. report.prelude ≡ prelude.items) }
 {
-    let core = store.into_core();
-    core.known();
-    let Ok((store, mut first)) = Store::new(alloc, core) else {
-        return Err(NoMemory);
-    };
-    let mut jobs = session_jobs(alloc, &store, &mut first, sessions, lines)?;
+    let Lineup {
+        store,
+        first,
+        jobs,
+        sessions,
+    } = set_up(alloc, setting, store, sessions, lines)?;
     let course = Course {
         setting,
         lines,
-        sessions: jobs.len() as u32,
+        sessions,
     };
-    add_workers(&store, &mut first, &mut jobs, setting.workers)?;
     let done = play_all(alloc, rt, &store, gate, &course, jobs)?;
     let mut outcomes = sort_outcomes(alloc, done)?;
     let answers = answers(alloc, lines, outcomes.replies.as_mut_slice())?;
