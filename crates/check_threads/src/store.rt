@@ -16,7 +16,7 @@ use std::thread::{Threads, join};
 mod many;
 mod sessions;
 
-use sessions::letters;
+pub(crate) use sessions::{letters, statement};
 
 /// The limits of the engine.
 const AMPLE: Limits = Limits {
