@@ -1,12 +1,16 @@
--- What came of a race of which the report was not written to its end.
-use Rattle.std.proofs.Common.{ℕ, List, Option, Result, Ok, Err, OnErr, ◌⊎◌, inr}
+-- What came of what the words ask for.
+use Rattle.std.proofs.Common.{◌≡◌, ℕ, List, Option, None, Some, Result, Ok, Err, OnErr, ◌⊎◌, inl, inr, sym, ◌∙◌, subst}
 use Rattle.im_race.specs.Race.{IsRaceOf}
 use Rattle.im_race.specs.Report.{Report}
-use Rattle.im_shell.specs.Play.{RacesInPart}
+use Rattle.im_shell.specs.Play.{AreMeant, Does, DoesInPart, DoneFor, InPartFor, OfScript, RacesInPart}
 use Rattle.im_shell.specs.Reports.{report_text}
 use Rattle.im_shell.specs.inner.Sent.{SendsPart}
+use Rattle.im_words.specs.declared.asked.Asked.{Asked}
+use Rattle.im_words.specs.declared.mode.Mode.{Mode}
+use Rattle.im_words.specs.declared.mode.Mode.TheVariants.{Run, Race, Gen}
+use Rattle.im_words.specs.Command.{Takes}
 
--- a prefix of its report was written
+-- of a race a prefix of its report was written
 pub OnErr-raced : {T E : Type 0} (same : Type 0) (result : Result T E) (area workers turns : ℕ) (script : List ℕ) (before after : Option (List ℕ)) (report : Report)
     → IsRaceOf area workers turns script report → OnErr result (SendsPart before after (report_text report))
     → OnErr result (same ⊎ RacesInPart area workers turns script before after)
@@ -20,3 +24,34 @@ OnErr-raced same (Err error) area workers turns script before after report lawfu
       text_is = part.sends.split;
       took = part.sends.took;
     })
+
+-- what holds of the script that was played is a fact of the script
+of-script : (mode : Mode) (asked : Asked) (left : Option (List ℕ)) (P : List ℕ → Type 0) (script played : List ℕ)
+    → OfScript mode asked left (λ bytes. bytes ≡ script) → played ≡ script → P played → OfScript mode asked left P
+of-script Run asked None P script played is same holds = tt
+of-script Run asked (Some bytes) P script played is same holds = subst P (same ∙ sym is) holds
+of-script Race asked None P script played is same holds = tt
+of-script Race asked (Some bytes) P script played is same holds = subst P (same ∙ sym is) holds
+of-script Gen asked left P script played is same holds = subst P (same ∙ sym is) holds
+
+module _ (words : List (List ℕ)) (asked : Asked) (left before after : Option (List ℕ)) (script played : List ℕ) (taken : Takes words asked)
+    (meant : AreMeant words asked) (is : OfScript asked.mode asked left (λ bytes. bytes ≡ script)) (same : played ≡ script) where
+  -- it was done
+  pub done-for : (steps_before steps_after : ℕ) → Does asked.mode asked played before after steps_before steps_after
+      → DoneFor words left before after steps_before steps_after
+  done-for steps_before steps_after does = record {
+    asked = asked;
+    taken = taken;
+    meant = meant;
+    does = of-script asked.mode asked left (λ bytes. Does asked.mode asked bytes before after steps_before steps_after) script played is same does;
+  }
+
+  -- or in part
+  pub in-part-for : {A : Type 0} → A ⊎ DoesInPart asked.mode asked played before after → A ⊎ InPartFor words left before after
+  in-part-for (inl kept) = inl kept
+  in-part-for (inr does) = inr (record {
+    asked = asked;
+    taken = taken;
+    meant = meant;
+    does = of-script asked.mode asked left (λ bytes. DoesInPart asked.mode asked bytes before after) script played is same does;
+  })

@@ -18,6 +18,7 @@ use Rattle.im_words.specs.declared.asked.Asked.{Asked}
 use Rattle.im_words.specs.declared.mode.Mode.{Mode}
 use Rattle.im_words.specs.declared.mode.Mode.TheVariants.{Run, Race, Gen}
 use Rattle.im_words.specs.Command.{Takes}
+use Rattle.im_words.specs.Good.{IsGood}
 
 -- the lines of these bytes come to these replies and this machine, and the steps grew so
 pub record ComesOf (area : ℕ) (lines : List (List ℕ)) (answers : List (ℕ × Reply)) (end : Machine) (before after : ℕ) : Type 0 where
@@ -88,14 +89,20 @@ DoesInPart Run asked script before after = PlaysInPart All asked.area script bef
 DoesInPart Race asked script before after = RacesInPart asked.area asked.workers asked.turns script before after
 DoesInPart Gen asked script before after = PlaysInPart Outcomes asked.area script before after
 
+-- good words ask for what stands in them
+abbrev pub AreMeant : List (List ℕ) → Asked → Type 0
+AreMeant words asked = (good : Asked) → IsGood words good → asked ≡ good
+
 -- what the words ask for was done, from where the source had this left
 pub record DoneFor (words : List (List ℕ)) (left before after : Option (List ℕ)) (steps_before steps_after : ℕ) : Type 0 where
   pub asked : Asked
   pub taken : Takes words asked
+  pub meant : AreMeant words asked
   pub does : OfScript asked.mode asked left (λ script. Does asked.mode asked script before after steps_before steps_after)
 
 -- and in part
 pub record InPartFor (words : List (List ℕ)) (left before after : Option (List ℕ)) : Type 0 where
   pub asked : Asked
   pub taken : Takes words asked
+  pub meant : AreMeant words asked
   pub does : OfScript asked.mode asked left (λ script. DoesInPart asked.mode asked script before after)
