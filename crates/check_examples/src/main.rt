@@ -26,9 +26,11 @@ const PIECE: usize = 1000;
 const ROOM: usize = 1_000_000;
 
 /// Scripts that are played by other words than `run`, and those words.
-const COMMANDS: [(&str, &[&str]); 4] = [
+const COMMANDS: [(&str, &[&str]); 6] = [
     ("full_area", &["run", "--area", "60"]),
+    ("made_orders", &["gen", "--rows", "200", "--seed", "3"]),
     ("race_locked_row", &["race"]),
+    ("race_of_nobody", &["race"]),
     ("race_of_one", &["race"]),
     ("race_of_workers", &["race"]),
 ];

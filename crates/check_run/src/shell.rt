@@ -19,17 +19,6 @@ const TWO_ROWS: &str =
 const TWO_ROWS_TEXT: &str =
     "1,created,1,1\n2,inserted,1,0\n3,inserted,1,1\n4,committed,2\n5,answer,2,1\n5,row,2\n";
 
-/// What it comes to as a race: nobody speaks behind its prelude, and no table is a member of the column store.
-const TWO_ROWS_RACED: &str =
-    "1,created,1,1\n2,inserted,1,0\n3,inserted,1,1\n4,committed,2\n5,answer,2,1\n5,row,2\nhistory,6\n\
-    h,0,1,create,T,32,64,K,0\nh,1,1,write,1\nc,1,1,0,put,10\nh,2,1,write,1\nc,2,1,1,put,20\nh,3,1,commit\n\
-    h,4,1,open,0,1\nh,5,1,shut,0\nworker,17,over,6\n";
-
-/// What a script that is made comes to, of one order of the amount 38.
-const ONE_ORDER_TEXT: &str =
-    "5,answer,2,1\n5,row,1,38\n6,answer,2,1\n6,row,EAST,1,38,38,38\n9,answer,3,1\n9,row,1,1000\n\
-    12,answer,3,1\n12,row,EAST,1000\n";
-
 /// A script whose last line goes on with more rows, up to the most changes that a transaction may have and past them.
 const CHANGES_BEFORE_THE_LIMIT: &str =
     "1> CREATE TABLE T (K NUMBER)\n1> INSERT INTO T VALUES (1), (2)\n1> INSERT INTO T VALUES (3)";
@@ -187,25 +176,6 @@ fn a_script_that_is_too_long_is_not_played(rt: HostRuntime) -> Result<(), Fail> 
 }
 
 #[test]
-fn a_table_past_the_sixty_fourth_is_refused(rt: HostRuntime) -> Result<(), Fail> {
-    let alloc = rt.alloc();
-    let mut script = String::new(alloc);
-    let mut text = String::new(alloc);
-    for number in 1..65 {
-        script.push_str(&format!(in alloc; "1> CREATE TABLE T{number} (K NUMBER)\n")?)?;
-        text.push_str(&format!(in alloc; "{number},created,{number},{number}\n")?)?;
-    }
-    script.push_str("1> CREATE TABLE T (K NUMBER)\n1> COMMIT\n")?;
-    text.push_str("65,error,08,too-many-tables,64\n66,committed,65\n")?;
-    check(
-        &rt,
-        alloc,
-        &["ime", "run"],
-        &plain(script.as_str(), text.as_str()),
-    )
-}
-
-#[test]
 fn a_fault_of_the_source_or_the_sink_ends_a_run(rt: HostRuntime) -> Result<(), Fail> {
     let cases = [
         plain(TWO_ROWS, TWO_ROWS_TEXT),
@@ -245,14 +215,6 @@ fn wrong_words_are_refused(rt: HostRuntime) -> Result<(), Fail> {
         check(&rt, rt.alloc(), command, &case)?;
     }
     Ok(())
-}
-
-#[test]
-fn race_and_gen_are_taken(rt: HostRuntime) -> Result<(), Fail> {
-    let raced = plain(TWO_ROWS, TWO_ROWS_RACED);
-    check(&rt, rt.alloc(), &["ime", "race"], &raced)?;
-    let made = plain("", ONE_ORDER_TEXT);
-    check(&rt, rt.alloc(), &["ime", "gen", "--rows", "1"], &made)
 }
 
 /// Each way in which a run may end, with the exit status and what stands on standard error.
