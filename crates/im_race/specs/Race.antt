@@ -44,7 +44,7 @@ AreWorkers limits turns sessions number (ended ∷ ends) old new =
 
 -- a lawful race of these lines, with this area, so many workers, and so many turns for each
 pub record IsRace (area workers turns : ℕ) (lines : List Line) (report : Report) : Type 0 where
-  -- the prelude is the machine's
+  -- the prelude is the machine's; its steps are counted from some number to another, which no report shows
   pub machine : Machine
   pub before : ℕ
   pub after : ℕ
