@@ -97,7 +97,9 @@ module _ {U : Type 0} where
 
   pub IsBefore-switched : (old new : Kept U) (held : Held) (unit : U) (scn : ℕ) → IsSwitched old new held unit → IsBefore old scn → IsBefore new scn
   IsBefore-switched old new held unit scn switched before =
-      IsBefore-from new scn (λ t e. if is_on t e held then with_parts (told_at old t e) (grown unit (told_at old t e).growing) None else told_at old t e) switched.slots
+      IsBefore-from new scn
+      (λ t e. if is_on t e held then with_parts (told_at old t e) (grown unit (told_at old t e).growing) None else told_at old t e)
+      switched.slots
       (λ t e.
       AreTold-by (is_on t e held) _ (told_at old t e) scn (record {
         current =

@@ -66,7 +66,8 @@ pub same_equal : (a b : Value) → (value_eq.ghosts).eq a b ≡ true → a ≡ b
 same_equal a b e = same_is a b (sym (value_ties a b) ∙ e)
 
 -- where a lent value is equal to one, that one stands there
-pub found-equal : (seen : List (Bor Value)) (k : ℕ) (r : Bor Value) (value : Value) → k < length seen → r ≡ get_or seen k r → (value_eq.ghosts).eq r.now value ≡ true →
+pub found-equal : (seen : List (Bor Value)) (k : ℕ) (r : Bor Value) (value : Value) →
+    k < length seen → r ≡ get_or seen k r → (value_eq.ghosts).eq r.now value ≡ true →
     slice_get (lent seen) k ≡ Some value
 found-equal seen k r value inside is e =
     slice_get-get_or (lent seen) k value (omega (arith, length-lent seen)) ∙ ap Some (lent-at seen k r inside is value ∙ same_equal r.now value e)

@@ -83,11 +83,15 @@ run_count-at xs (suc i) some inside =
 -- a code that is the one before begins no run, and another begins one
 pub run_same : (xs : List ℕ) (i : ℕ) → 0 < i → i < length xs → get_or xs i 0 ≡ get_or xs (i - 1) 0 →
     codes.run_count (take (i + 1) xs) ≡ codes.run_count (take i xs) + 0
-run_same xs i some inside same = run_count-at xs i some inside ∙ ap (λ b. codes.run_count (take i xs) + cond b 0 1) (eq-eqb (get_or xs i 0) (get_or xs (i - 1) 0) same)
+run_same xs i some inside same =
+    run_count-at xs i some inside
+    ∙ ap (λ b. codes.run_count (take i xs) + cond b 0 1) (eq-eqb (get_or xs i 0) (get_or xs (i - 1) 0) same)
 
 pub run_other : (xs : List ℕ) (i : ℕ) → 0 < i → i < length xs → get_or xs i 0 ≢ get_or xs (i - 1) 0 →
     codes.run_count (take (i + 1) xs) ≡ codes.run_count (take i xs) + 1
-run_other xs i some inside other = run_count-at xs i some inside ∙ ap (λ b. codes.run_count (take i xs) + cond b 0 1) (ne_eqb (get_or xs i 0) (get_or xs (i - 1) 0) other)
+run_other xs i some inside other =
+    run_count-at xs i some inside
+    ∙ ap (λ b. codes.run_count (take i xs) + cond b 0 1) (ne_eqb (get_or xs i 0) (get_or xs (i - 1) 0) other)
 
 -- sizes of a dictionary and codes are those of the values
 coded-sized : (values dict : List Value) (list : List ℕ) (size : ℕ) → dict ≡ dictionary values → AreCodesOf values dict list →
@@ -152,7 +156,9 @@ short-dictionary values dict set short k d inside =
 
 -- values that follow each other rise
 pub rising-more : (values : List Value) (i : ℕ) → Follows values i → ((k : ℕ) → k < i → Follows values k) → (k : ℕ) → k < i + 1 → Follows values k
-rising-more values i here before k below = ⊎_elim (λ (under : k < i). before k under) (λ (at : i ≤ k). let e : i ≡ k = omega arith in rw (← e) here) (cases_lt k i)
+rising-more values i here before k below =
+    ⊎_elim (λ (under : k < i). before k under)
+    (λ (at : i ≤ k). let e : i ≡ k = omega arith in rw (← e) here) (cases_lt k i)
 
 pub rising-all : (values : List Value) (i : ℕ) → length values ≤ i → ((k : ℕ) → k < i → Follows values k) → AreRising values
 rising-all values i past before = record {

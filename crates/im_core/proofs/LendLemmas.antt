@@ -16,20 +16,29 @@ use Rattle.im_core.proofs.UnitLemmas.{unit-by}
 
 -- ---- the directory's unit and journal
 
-some_or_none : {U : Type 0} (content : U → Content) (h : History) (table extent : ℕ) (of : U) (b : Bool) → content of ≡ content_at h table extent (content of).scn → ◌≡◌ {A = Option Content} (if b then Some (content of) else None) (option_map (content_at h table extent) (if b then Some (content of).scn else None))
+some_or_none : {U : Type 0} (content : U → Content) (h : History) (table extent : ℕ) (of : U) (b : Bool)
+    → content of ≡ content_at h table extent (content of).scn
+    → ◌≡◌ {A = Option Content} (if b then Some (content of) else None)
+    (option_map (content_at h table extent) (if b then Some (content of).scn else None))
 some_or_none content h table extent of true holds = ap Some holds
 some_or_none content h table extent of false holds = refl
 
-holds_by : {U : Type 0} (content : U → Content) (h : History) (kept : Kept U) (table extent : ℕ) (of : U) (current : Option (Stock U)) → Agrees content h kept → (told_at kept table extent).current ≡ current → option_map (λ (stock : Stock U). stock.unit) current ≡ Some of → content of ≡ content_at h table extent (content of).scn
+holds_by : {U : Type 0} (content : U → Content) (h : History) (kept : Kept U) (table extent : ℕ) (of : U) (current : Option (Stock U))
+    → Agrees content h kept → (told_at kept table extent).current ≡ current
+    → option_map (λ (stock : Stock U). stock.unit) current ≡ Some of → content of ≡ content_at h table extent (content of).scn
 holds_by content h kept table extent of None agrees is found = cc
 holds_by content h kept table extent of (Some stock) agrees is found =
     let same : stock.unit ≡ of = cc in
     subst (λ u. content u ≡ content_at h table extent (content u).scn) same (agrees.stock table extent stock is).holds
 
 -- the current unit, unless it is newer
-pub lent-by : {U : Type 0} (content : U → Content) (h : History) (kept : Kept U) (table extent most : ℕ) (of : U) → Agrees content h kept → unit_in kept table extent ≡ Some of → ◌≡◌ {A = Option Content} (if nat_le (content of).scn most then Some (content of) else None) (option_map (content_at h table extent) (not_newer most (unit h table extent)))
+pub lent-by : {U : Type 0} (content : U → Content) (h : History) (kept : Kept U) (table extent most : ℕ) (of : U)
+    → Agrees content h kept → unit_in kept table extent ≡ Some of
+    → ◌≡◌ {A = Option Content} (if nat_le (content of).scn most then Some (content of) else None)
+    (option_map (content_at h table extent) (not_newer most (unit h table extent)))
 lent-by content h kept table extent most of agrees is =
-    some_or_none content h table extent of (nat_le (content of).scn most) (holds_by content h kept table extent of (told_at kept table extent).current agrees refl is)
+    some_or_none content h table extent of (nat_le (content of).scn most)
+    (holds_by content h kept table extent of (told_at kept table extent).current agrees refl is)
     ∙ ap (λ (o : Option ℕ). option_map (content_at h table extent) (not_newer most o)) (sym (unit-by content h kept table extent of agrees is))
 
 -- ---- what a view is lent

@@ -50,7 +50,8 @@ IsWithin-killed h place what held within = by _
     by false = within
 
 -- the build that begins
-IsWithin-begun : (h : History) (who id table extent : ℕ) (trickle : Bool) → MayBuild h id table extent trickle → IsWithin h (begun_at h who id table extent trickle)
+IsWithin-begun : (h : History) (who id table extent : ℕ) (trickle : Bool)
+    → MayBuild h id table extent trickle → IsWithin h (begun_at h who id table extent trickle)
 IsWithin-begun h who id table extent trickle may =
     let known = next-is h _ may.comes in
     record {

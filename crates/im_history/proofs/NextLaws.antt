@@ -63,7 +63,8 @@ extents-are h =
 all-by_priority : (P : Extent → Type 0) (h : History) (extents : List Extent) → All P extents → All P (by_priority h extents)
 all-by_priority P h extents all =
     all_flat (λ rank. Unit {0}) P (λ rank. filter (λ extent. has_rank rank (priority_of (table_at h extent.table))) extents) (range_with_len 0 5)
-    (λ rank is. All-filter (λ extent. has_rank rank (priority_of (table_at h extent.table))) P extents all) (all_range (λ rank. Unit {0}) 0 5 (λ i low high. tt))
+    (λ rank is. All-filter (λ extent. has_rank rank (priority_of (table_at h extent.table))) P extents all)
+    (all_range (λ rank. Unit {0}) 0 5 (λ i low high. tt))
 
 -- the first of them is so
 record IsChosen (P : Extent → Type 0) (trickle : Bool) (choice : Choice) : Type 0 where

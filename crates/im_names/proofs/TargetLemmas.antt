@@ -52,7 +52,8 @@ not_first a column false rest is lt later = later
 lacks : (n a column : ℕ) → a + n ≤ column → None ≡ position_from (nat_eq column) a (range_with_len a n)
 lacks zero a column le = refl
 lacks (suc n) a column le =
-    not_first a column (nat_eq column a) (position_from (nat_eq column) (a + 1) (range_with_len (a + 1) n)) refl (omega arith) (lacks n (a + 1) column (omega arith))
+    not_first a column (nat_eq column a)
+    (position_from (nat_eq column) (a + 1) (range_with_len (a + 1) n)) refl (omega arith) (lacks n (a + 1) column (omega arith))
 
 pub source_inside : (width column : ℕ) → column < width → Some column ≡ source (range_with_len 0 width) column
 source_inside width column lt = stands width 0 column (omega arith) (omega arith)

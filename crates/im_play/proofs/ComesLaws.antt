@@ -55,7 +55,8 @@ module _ (area : ℕ) (demands : List Demand) (answers : List (ℕ × Reply)) (e
       record {
         ways = rest.ways;
         lawful = rest.lawful;
-        answers_are = ap₂ (λ (m : ℕ) (r : Reply). (m, r) ∷ answers) (sym same) reply_is ∙ ap (λ (others : List (ℕ × Reply)). (n, told) ∷ others) rest.answers_are;
+        answers_are = ap₂ (λ (m : ℕ) (r : Reply). (m, r) ∷ answers) (sym same) reply_is
+            ∙ ap (λ (others : List (ℕ × Reply)). (n, told) ∷ others) rest.answers_are;
         end_is = rest.end_is;
         counted = rest.counted;
       }

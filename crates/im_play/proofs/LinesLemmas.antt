@@ -66,7 +66,8 @@ IsGoing-start lines old sessions kept answers steps none between = record {
   limits = refl;
   so_far = record {
     on = λ more end last comes.
-        subst (λ (so_far : List (ℕ × Reply)). Comes old.limits.area (machine_of old sessions kept) (demands_of old.limits.area lines) (so_far ++ more) end steps last)
+        subst (λ (so_far : List (ℕ × Reply)).
+        Comes old.limits.area (machine_of old sessions kept) (demands_of old.limits.area lines) (so_far ++ more) end steps last)
         (sym none) comes;
   };
 }
@@ -83,8 +84,10 @@ IsGoing-next lines at old start now new sessions after kept behind answers put_b
       between = between;
       limits = limits ∙ going.limits;
       so_far =
-          subst (λ (all : List (ℕ × Reply)). AreSoFar old.limits.area lines (drop (at + 1) lines) start (machine_of new after behind) all first later) (sym put_is)
-          (AreSoFar-next old.limits.area lines (drop (at + 1) lines) start (machine_of now sessions kept) (machine_of new after behind) answers first steps later line reply
+          subst (λ (all : List (ℕ × Reply)).
+          AreSoFar old.limits.area lines (drop (at + 1) lines) start (machine_of new after behind) all first later) (sym put_is)
+          (AreSoFar-next old.limits.area lines (drop (at + 1) lines) start (machine_of now sessions kept)
+          (machine_of new after behind) answers first steps later line reply
           (subst (λ (rest : List Line). AreSoFar old.limits.area lines rest start (machine_of now sessions kept) answers first steps) rest_is going.so_far)
           (subst (λ (l : Limits). Answers l.area steps later line (machine_of now sessions kept) reply (machine_of new after behind)) going.limits answered));
     }
@@ -99,6 +102,7 @@ IsGoing-end lines at old start now sessions kept answers first steps past going 
     subst (λ (all : List (ℕ × Reply)). Comes old.limits.area start (demands_of old.limits.area lines) all (machine_of now sessions kept) first steps)
     (append-nil answers)
     (going.so_far.on [] (machine_of now sessions kept) steps
-    (subst (λ (rest : List Line). Comes old.limits.area (machine_of now sessions kept) (demands_of old.limits.area rest) [] (machine_of now sessions kept) steps steps)
+    (subst (λ (rest : List Line).
+    Comes old.limits.area (machine_of now sessions kept) (demands_of old.limits.area rest) [] (machine_of now sessions kept) steps steps)
     (sym (drop_all at lines past))
     (record { ways = []; lawful = refl; answers_are = refl; end_is = refl; counted = omega arith })))

@@ -299,7 +299,8 @@ module _ (sessions : List Kept) (kept after : background.Kept) (old new : Known)
   answer-command number = record {
     rounds = played.rounds;
     line =
-        subst (λ (n : ℕ). Whole Nobody n (command_amends n tasks) old.log (command_plan (script_limits old.limits.area) n played.rounds tasks s) outcome new.log)
+        subst (λ (n : ℕ).
+        Whole Nobody n (command_amends n tasks) old.log (command_plan (script_limits old.limits.area) n played.rounds tasks s) outcome new.log)
         who-is
         (subst (λ (l : Limits). Whole Nobody kept.who (command_amends kept.who tasks) old.log (command_plan l kept.who played.rounds tasks s) outcome new.log)
         between.limits command-alone);

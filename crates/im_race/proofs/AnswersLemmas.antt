@@ -66,7 +66,8 @@ own-cons : (b : Bool) (replies : List (List Reply)) (line : Line) (lines : List 
     → map (λ (answer : Answer). answer.reply) rest ≡ slice_index_or left who []
     → own who (answers_by left lines) ≡ rest)
     → names who line.who ≡ b → who < length replies
-    → map (λ (answer : Answer). answer.line) answers ≡ cond b (line ∷ filter (λ (l : Line). names who l.who) lines) (filter (λ (l : Line). names who l.who) lines)
+    → map (λ (answer : Answer). answer.line) answers
+    ≡ cond b (line ∷ filter (λ (l : Line). names who l.who) lines) (filter (λ (l : Line). names who l.who) lines)
     → map (λ (answer : Answer). answer.reply) answers ≡ slice_index_or replies who []
     → cond b (record { line = line; reply = reply_by replies line.who line } ∷ own who (answers_by (left_by replies line.who) lines))
     (own who (answers_by (left_by replies line.who) lines)) ≡ answers

@@ -258,7 +258,8 @@ come area turns sessions kept lines base log who (outcome.Replies replies) finis
 come area turns sessions kept lines base log who (outcome.Ended ended) finished = finished.0
 come area turns sessions kept lines base log who outcome.NoMemory finished = absurd finished
 
-module _ (area turns workers sessions : ℕ) (kept : List Kept) (lines : List Line) (first : PassState Entry) (jobs : List Job) (dones : List Done) (log : History)
+module _ (area turns workers sessions : ℕ) (kept : List Kept) (lines : List Line) (first : PassState Entry)
+    (jobs : List Job) (dones : List Done) (log : History)
     (named : All NamesOneOf16 lines) (are : AreJobs area workers kept lines first jobs) (zeroth : first.who ≡ 0) (none : first.mine ≡ [])
     (from : first.base ≡ length first.seen) (limits : limits_of first.fixed ≡ script_limits area)
     (count : sessions ≡ length (sessions_in (raced_of lines))) (done : AreDone area turns sessions lines jobs dones)

@@ -22,5 +22,7 @@ module _ (area turns sessions : ℕ) (lines : List Line) where
       let first = each 0 done (omega arith) in
       let rest : length dones ≡ length jobs = (let both : suc (length dones) ≡ suc (length jobs) = same in omega (arith, both)) in (
         subst (λ (j : Job). IsDone area turns sessions lines j done) (sym first.job_is) first.is,
-        all-done jobs dones rest (λ at other less. let next = each (suc at) other (omega (arith, less)) in record { job = next.job; job_is = next.job_is; is = next.is }),
+        all-done jobs dones rest
+            (λ at other less. let next = each (suc at) other (omega (arith, less)) in
+            record { job = next.job; job_is = next.job_is; is = next.is }),
       )

@@ -119,7 +119,8 @@ pub session-replies : (Held : ℕ → List Reply → Type 0) (dones : List Done)
     → All (λ (d : Done). HasCome Held d.who d.outcome) dones → 1 ≤ who → who ≤ SESSIONS → has_job lines who ≡ true
     → Held who (slice_index_or (fold replies_after (no_replies (SESSIONS + 1)) dones) who [])
 session-replies Held dones lines workers who are come one most job =
-    let found : IsDoneAt dones who = done-of dones (sessions_in lines ++ numbers_from FIRST_WORKER workers) who are (session-takes_part lines workers who one most job) in
+    let found : IsDoneAt dones who = done-of dones (sessions_in lines ++ numbers_from FIRST_WORKER workers) who are
+    (session-takes_part lines workers who one most job) in
     let rises : Rises 1 (map (λ (d : Done). d.who) dones) = subst (Rises 1) (sym are) (numbers-apart lines workers) in
     let number : found.done.who ≡ who = found.number in
     let here : HasCome Held found.done.who found.done.outcome =

@@ -142,7 +142,8 @@ pub given-less : (gave : List ℕ) (who next : ℕ) → All (λ n. n < who) gave
 given-less gave who next below most = All-weaker (λ n. n < who) (λ n. n < next) (λ n under. omega (arith, under, most)) gave below
 
 -- what the first pass gave is no part of the passes that it splits off
-pub workers-same : (first : PassState Entry) (gave : List ℕ) (who count : ℕ) → worker_jobs (record first { gave = gave }) who count ≡ worker_jobs first who count
+pub workers-same : (first : PassState Entry) (gave : List ℕ) (who count : ℕ)
+    → worker_jobs (record first { gave = gave }) who count ≡ worker_jobs first who count
 workers-same first gave who zero = refl
 workers-same first gave who (suc left) =
     ap (λ (jobs : List Job). worker_of first who ∷ jobs) (workers-same first gave (suc who) left)

@@ -80,9 +80,11 @@ module _ (who : ℕ) (purpose : Purpose) (cursor : Cursor) (old new : Known) (mi
   open-now = open-went who 0 old new mine went open-before
 
   -- all extents were served, and the line went on
-  pub used-on : (last : Known) (reply : Reply) (marks : List Served) → Comes who 1 old (serving who purpose cursor old) new (behind who purpose cursor old marks) → last.side ≡ new.side
+  pub used-on : (last : Known) (reply : Reply) (marks : List Served)
+      → Comes who 1 old (serving who purpose cursor old) new (behind who purpose cursor old marks) → last.side ≡ new.side
       → is_cursor_open last.log who 0 ≡ true → Longer new last
-      → ((late : Known) → IsShut who last late → IsRest who 1 new (behind who purpose cursor old marks) (said reply) late) → IsUsed who purpose cursor old reply last
+      → ((late : Known) → IsShut who last late → IsRest who 1 new (behind who purpose cursor old marks) (said reply) late)
+      → IsUsed who purpose cursor old reply last
   used-on last reply marks comes side is_open longer rest = record {
     side = side ∙ side-went old new went;
     open_now = is_open;
@@ -99,12 +101,15 @@ module _ (who : ℕ) (purpose : Purpose) (cursor : Cursor) (old new : Known) (mi
     open_now = open-now;
     longer = longer-went old new went;
     rest = λ late shut.
-        subst (λ (n : ℕ). IsRest who 1 old (serve_from cursor.view cursor.bound.filter n (behind who purpose cursor old)) (said (memory_reply 1)) late) may.first
+        subst (λ (n : ℕ).
+        IsRest who 1 old (serve_from cursor.view cursor.bound.filter n (behind who purpose cursor old)) (said (memory_reply 1)) late) may.first
         (scan-stops who 1 old new late (serving who purpose cursor old) (speaks-went who old new went mine) open-now shut stops);
   }
 
   -- all extents were served, and the line ends with this reply
-  pub used-replied : (reply : Reply) (marks : List Served) → Comes who 1 old (serving who purpose cursor old) new (behind who purpose cursor old marks) → behind who purpose cursor old marks ≡ end_scan reply
+  pub used-replied : (reply : Reply) (marks : List Served)
+      → Comes who 1 old (serving who purpose cursor old) new (behind who purpose cursor old marks)
+      → behind who purpose cursor old marks ≡ end_scan reply
       → IsUsed who purpose cursor old reply new
   used-replied reply marks comes is = record {
     side = side-went old new went;

@@ -187,6 +187,7 @@ counted-within who before after first old new last earlier later counted = recor
 
 -- the session has this number
 pub session-counted : (session : Kept) (who : ℕ) (cursors : List Cursor) (in_transaction : Bool)
-    → session ≡ record { who = who; cursors = cursors; in_transaction = in_transaction } → (before after : ℕ) (old new : Known) → IsCounted who before after old new → IsCounted session.who before after old new
+    → session ≡ record { who = who; cursors = cursors; in_transaction = in_transaction } → (before after : ℕ) (old new : Known)
+    → IsCounted who before after old new → IsCounted session.who before after old new
 session-counted session who cursors in_transaction is before after old new =
     subst (λ (n : ℕ). IsCounted n before after old new) (sym (ap (λ (k : Kept). k.who) is))

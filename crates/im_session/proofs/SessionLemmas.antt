@@ -257,8 +257,10 @@ module _ (who : ℕ) (cursors : List Cursor) (old : Known) (here : AreKept who c
     pub run-none : (usage : Use) (number : ℕ) (look : Look) → look ≡ look_at old.log who → query_at (state_of cursors) number ≡ None
         → reply ≡ settled_reply look.place (Error (fault.CursorUnknown number))
         → IsRun who (plan_over usage (state_of cursors) old.log number) cursors old reply cursors old
-    run-none Step number look look_is none reply_is = rw reply_is (run-unknown who number cursors old look (step_query old.log) here.sound here.apart look_is none)
-    run-none Fetch number look look_is none reply_is = rw reply_is (run-unknown who number cursors old look (fetch_query old.log) here.sound here.apart look_is none)
+    run-none Step number look look_is none reply_is =
+        rw reply_is (run-unknown who number cursors old look (step_query old.log) here.sound here.apart look_is none)
+    run-none Fetch number look look_is none reply_is =
+        rw reply_is (run-unknown who number cursors old look (fetch_query old.log) here.sound here.apart look_is none)
     run-none Close number look look_is none reply_is =
         rw reply_is (run-unknown who number cursors old look (λ query. close_query query.cursor) here.sound here.apart look_is none)
 

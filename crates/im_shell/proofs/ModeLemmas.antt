@@ -11,7 +11,8 @@ use Rattle.im_words.specs.declared.mode.Mode.TheVariants.{Run, Race, Gen}
 use Rattle.im_words.specs.Command.{Takes}
 
 -- of a race a prefix of its report was written
-pub OnErr-raced : {T E : Type 0} (same : Type 0) (result : Result T E) (area workers turns : ℕ) (script : List ℕ) (before after : Option (List ℕ)) (report : Report)
+pub OnErr-raced : {T E : Type 0} (same : Type 0) (result : Result T E)
+    (area workers turns : ℕ) (script : List ℕ) (before after : Option (List ℕ)) (report : Report)
     → IsRaceOf area workers turns script report → OnErr result (SendsPart before after (report_text report))
     → OnErr result (same ⊎ RacesInPart area workers turns script before after)
 OnErr-raced same (Ok value) area workers turns script before after report lawful part = tt

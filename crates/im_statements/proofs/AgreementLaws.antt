@@ -142,7 +142,8 @@ plain-if false first second one other = other
 
 plain-create : (name : List ℕ) (schema : List Column) (grid : Grid) (memory : Option Priority) → Plain false (create_table name schema grid memory)
 plain-create name schema grid None =
-    plain-attempt true (creation_fault name) (λ at. create_refusal at name) (λ at. what.Create name schema grid) created (λ at h w cs. refl) (λ at. (refl, refl))
+    plain-attempt true (creation_fault name) (λ at. create_refusal at name) (λ at. what.Create name schema grid) created
+    (λ at h w cs. refl) (λ at. (refl, refl))
 plain-create name schema grid (Some priority) =
     plain-attempt false (creation_fault name) (λ at. create_refusal at name) (λ at. what.Create name schema grid) (λ at. join_memory at priority)
     (λ at h w cs. refl)

@@ -83,7 +83,10 @@ spread-more flags place b rows next later slot slots longer inside is takes more
     ap (λ (l : List (Option Row)). l ++ spread (drop (place + 1) flags) later) more
     ∙ (append_assoc slots (slot ∷ []) (spread (drop (place + 1) flags) later)
     ∙ (ap (λ (l : List (Option Row)). slots ++ l) (sym (takes.spreads (drop (place + 1) flags)))
-    ∙ (ap (λ (l : List Bool). slots ++ spread l next) (ap (λ (f : Bool). f ∷ drop (place + 1) flags) is ∙ sym (drop-cons flags place false inside ∙ ap (λ (n : ℕ). get_or flags place false ∷ drop n flags) (sym behind))) ∙ so_far)))
+    ∙ (ap (λ (l : List Bool). slots ++ spread l next)
+    (ap (λ (f : Bool). f ∷ drop (place + 1) flags) is
+    ∙ sym (drop-cons flags place false inside ∙ ap (λ (n : ℕ). get_or flags place false ∷ drop n flags) (sym behind)))
+    ∙ so_far)))
 
 -- all places have theirs
 pub spread-all : (flags : List Bool) (place : ℕ) (rows next : List Row) (slots : List (Option Row)) → length flags ≤ place →

@@ -79,7 +79,8 @@ pub stands-read : (who : ℕ) (builds : List Ready) (old mid new : Known) (task 
     → IsLawful mid.limits mid.log → IsLawful new.limits new.log → Stands who builds [] old.log → Offers old mid who task choice → Went mid new
     → Stands who builds (task ∷ []) new.log
 stands-read who builds old mid new task choice mine lawful after stands added went =
-    stands-went mid new who builds (task ∷ []) (subst (λ (side : StoreSide). speaks side who ≡ true) (sym (ap (λ (s : Known). s.side) added.now)) mine) after went
+    stands-went mid new who builds (task ∷ [])
+    (subst (λ (side : StoreSide). speaks side who ≡ true) (sym (ap (λ (s : Known). s.side) added.now)) mine) after went
     (stands-offered who builds old mid task choice mine lawful stands added)
 
 side-of : (old mid : Known) {log : History} → mid ≡ record old { log = log } → mid.side ≡ old.side
@@ -144,7 +145,9 @@ dropped-of who builds old mid read new task choice P mine lawful after legal sta
   began = began-of who old mid task choice cancelled.at added
       (after-both (subst (λ (side : StoreSide). After (AreOthers side) mid.log read.log) side_mid went.after)
       (subst (λ (side : StoreSide). After (AreOthers side) read.log cancelled.at) side_read cancelled.after));
-  now = cancelled.now ∙ (ap (λ (s : Known). record s { log = behind cancelled.at who (Cancel task.id false) }) (kept ∙ ap (λ (s : Known). record s { log = read.log }) added.now));
+  now = cancelled.now
+      ∙ (ap (λ (s : Known). record s { log = behind cancelled.at who (Cancel task.id false) })
+      (kept ∙ ap (λ (s : Known). record s { log = read.log }) added.now));
   left = left;
   stands = subst (Stands who builds []) (sym log_is)
       (stands-finished new.limits cancelled.at who (Cancel task.id false) builds task whole (id_is task.id) left);
@@ -196,7 +199,8 @@ next-ready who k builds old new last ready on idle outcome is rest =
 
 -- there was none
 pub next-idle : {place left : ℕ} (who k : ℕ) (builds : List Ready) (old new last : Known) (on : Task → Plan Outcome) (idle : Plan Outcome)
-    (outcome : Outcome) → IsIdle who builds place left old new → IsRest who k (tasks_of builds) new idle outcome last → IsRest who k (tasks_of builds) old (begin_next on idle) outcome last
+    (outcome : Outcome) → IsIdle who builds place left old new
+    → IsRest who k (tasks_of builds) new idle outcome last → IsRest who k (tasks_of builds) old (begin_next on idle) outcome last
 next-idle who k builds old new last on idle outcome is rest =
     rest-nothing who k (tasks_of builds) old new last false (λ at. option_map (build_of at) (next at)) (λ at. with_choice on idle at (next at)) outcome is.went
     (ap (option_map (build_of new.log)) is.none)

@@ -72,7 +72,8 @@ on-rest {who} {k} {builds} old new plan outcome rest = rest-on _ who _ k old.log
 
 -- ---- builds that began
 
-begun-earlier : (who : ℕ) (first old : History) (starts : List Start) (new : History) → WentOn first old → AreBegun who old starts new → AreBegun who first starts new
+begun-earlier : (who : ℕ) (first old : History) (starts : List Start) (new : History)
+    → WentOn first old → AreBegun who old starts new → AreBegun who first starts new
 begun-earlier who first old [] new on begun = on-on first old new on begun
 begun-earlier who first old (start ∷ starts) new on begun = (on-on first old start.at on begun.0, begun.1, begun.2)
 
@@ -103,7 +104,8 @@ counted-counted who a b c old mid new first second = record {
 }
 
 -- the extent of a build that just began was read
-pub one-counted : (who before after : ℕ) (task : Task) (old mid new : Known) → (just : IsJust who task mid) → WentOn old.log just.at → next just.at ≡ Some just.choice
+pub one-counted : (who before after : ℕ) (task : Task) (old mid new : Known)
+    → (just : IsJust who task mid) → WentOn old.log just.at → next just.at ≡ Some just.choice
     → WentOn mid.log new.log → after ≤ before + task_rows mid.log task → IsCounted who before after old new
 one-counted who before after task old mid new just on comes later few = record {
   starts = record { at = just.at; choice = just.choice } ∷ [];

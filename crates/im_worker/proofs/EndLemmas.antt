@@ -60,6 +60,8 @@ ended content old new who task (AreaFull place need free) bytes unit legal own h
 ended content old new who task (Cancelled place killed) bytes unit legal own holds is added = record {
   at = added.at;
   after = added.after;
-  now = added.now ∙ ap (λ (what : What). record old { log = behind added.at who what }) (sym (ap (λ (o : Option ℕ). end_by task.id o (fits old.limits added.at task)) added.fact.0));
+  now = added.now
+      ∙ ap (λ (what : What). record old { log = behind added.at who what })
+      (sym (ap (λ (o : Option ℕ). end_by task.id o (fits old.limits added.at task)) added.fact.0));
   told = sym (ap (λ (o : Option ℕ). ending_by old.limits who added.at task o (fits old.limits added.at task)) added.fact.0);
 }

@@ -52,13 +52,16 @@ pub named-on : (who : ℕ) (builds : List Ready) (look : Look) (stmt : Stmt) (an
 named-on who builds look stmt answered plan old mid new reply found is plan_is run = record {
   rest = rest-nothing who 0 (tasks_of builds) old mid new false (λ at. None) (λ at. evict_found who (tasks_of builds) (answer (tables at) stmt))
       (Answered reply (tasks_of builds)) (went-found old mid _ found) refl
-      (subst (λ (p : Plan Outcome). IsRest who 0 (tasks_of builds) mid p (Answered reply (tasks_of builds)) new) (sym (ap (λ (ts : List TableInfo). evict_found who (tasks_of builds) (answer ts stmt)) (sym (tables-seen who look old mid found))
+      (subst (λ (p : Plan Outcome). IsRest who 0 (tasks_of builds) mid p (Answered reply (tasks_of builds)) new)
+      (sym (ap (λ (ts : List TableInfo). evict_found who (tasks_of builds) (answer ts stmt))
+      (sym (tables-seen who look old mid found))
       ∙ (ap (evict_found who (tasks_of builds)) is ∙ plan_is))) run.rest);
   stands = run.stands;
 }
 
 pub named-extent : (who : ℕ) (builds : List Ready) (look : Look) (stmt : Stmt) (r : Resolved) (both : ℕ × ℕ) (old mid new : Known) (reply : Reply)
-    → Looks who look old mid → answer look.tables stmt ≡ Ok r → extent_of r ≡ Some both → IsRun who (evict who (tasks_of builds) both.0 both.1) builds mid reply builds new
+    → Looks who look old mid → answer look.tables stmt ≡ Ok r → extent_of r ≡ Some both
+    → IsRun who (evict who (tasks_of builds) both.0 both.1) builds mid reply builds new
     → IsRun who (evict_named who (tasks_of builds) stmt) builds old reply builds new
 named-extent who builds look stmt r both old mid new reply found is extent run =
     named-on who builds look stmt (Ok r) (evict who (tasks_of builds) both.0 both.1) old mid new reply found is
@@ -77,7 +80,8 @@ pub named-fault : (who : ℕ) (builds : List Ready) (look : Look) (stmt : Stmt) 
     → IsLawful mid.limits mid.log → Stands who builds [] old.log → Looks who look old mid → (fault ≡ NoMemory) ⊎ (answer look.tables stmt ≡ Err fault)
     → IsRun who (evict_named who (tasks_of builds) stmt) builds old (said (body.Error (name_fault fault))) builds mid
 named-fault who builds look stmt fault old mid mine lawful stands found cause = elim cause [
-  | inl lacks ↦ subst (λ (f : NameFault). IsRun who (evict_named who (tasks_of builds) stmt) builds old (said (body.Error (name_fault f))) builds mid) (sym lacks)
+  | inl lacks ↦ subst (λ (f : NameFault).
+      IsRun who (evict_named who (tasks_of builds) stmt) builds old (said (body.Error (name_fault f))) builds mid) (sym lacks)
       (run-lacks who builds old mid _ (evict_named who (tasks_of builds) stmt) mine lawful stands found)
   | inr is ↦ named-on who builds look stmt (Err fault) (End (Answered (said (body.Error (name_fault fault))) (tasks_of builds))) old mid mid
       (said (body.Error (name_fault fault))) found is refl

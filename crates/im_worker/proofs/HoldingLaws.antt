@@ -123,7 +123,8 @@ keeps-above n id (first ∷ rest) less order =
 pub without-one : (n : ℕ) (before after : List Task) (task : Task) → InOrder n (before ++ task ∷ after)
     → filter (λ (other : Task). not (other.id == task.id)) (before ++ task ∷ after) ≡ before ++ after
 without-one n [] after task order =
-    ap (λ (b : Bool). if not b then task ∷ filter (λ (other : Task). not (other.id == task.id)) after else filter (λ (other : Task). not (other.id == task.id)) after)
+    ap (λ (b : Bool). if not b then task ∷ filter (λ (other : Task). not (other.id == task.id)) after
+    else filter (λ (other : Task). not (other.id == task.id)) after)
     (same_number task.id task.id refl)
     ∙ keeps-above task.id task.id after (omega arith) order.1
 without-one n (first ∷ before) after task order =
@@ -183,7 +184,8 @@ mine-ended who id (first ∷ rest) = by (mine-ended who id rest) (first.task.id 
     dropped is true = ap (λ (c : Bool). if not c then first.task ∷ without id more else without id more) is
     dropped is false = refl
 
-    kept : (first.task.id == id) ≡ false → (b : Bool) → without id (if b then first.task ∷ more else more) ≡ (if b then first.task ∷ without id more else without id more)
+    kept : (first.task.id == id) ≡ false → (b : Bool)
+        → without id (if b then first.task ∷ more else more) ≡ (if b then first.task ∷ without id more else without id more)
     kept is true = ap (λ (c : Bool). if not c then first.task ∷ without id more else without id more) is
     kept is false = refl
 
@@ -240,7 +242,8 @@ finds-each who n (first ∷ rest) rising =
     later : AllByRecursion (IsFoundAbove who first.task.id rest) (mine_of who rest) → AllByRecursion (IsFoundAbove who n (first ∷ rest)) (mine_of who rest)
     later = all-weaker (IsFoundAbove who first.task.id rest) (IsFoundAbove who n (first ∷ rest)) passes (mine_of who rest)
 
-    by : AllByRecursion (IsFoundAbove who n (first ∷ rest)) (mine_of who rest) → (b : Bool) → (first.who == who) ≡ b → AllByRecursion (IsFoundAbove who n (first ∷ rest)) (if b then first.task ∷ mine_of who rest else mine_of who rest)
+    by : AllByRecursion (IsFoundAbove who n (first ∷ rest)) (mine_of who rest) → (b : Bool) → (first.who == who) ≡ b
+        → AllByRecursion (IsFoundAbove who n (first ∷ rest)) (if b then first.task ∷ mine_of who rest else mine_of who rest)
     by others true is = (
       record {
         above = rising.0;

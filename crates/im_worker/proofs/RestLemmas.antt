@@ -113,7 +113,8 @@ rest-went who k builds old middle new plan outcome went rest = record {
   kept = kept-kept old middle new went.now rest.kept;
   rest = rest-first (Mine old.side) (others-go_on (speaks old.side)) who (command_amends who builds) k old.log middle.log plan outcome new.log
       (others-of old.side old.log middle.log went.after)
-      (subst (λ (side : StoreSide). Rest (Mine side) who (command_amends who builds) k middle.log plan outcome new.log) (side-same old middle went.now) rest.rest);
+      (subst (λ (side : StoreSide). Rest (Mine side) who (command_amends who builds) k middle.log plan outcome new.log)
+      (side-same old middle went.now) rest.rest);
 }
 
 and-false : (b : Bool) → (b && false) ≡ false
@@ -204,7 +205,8 @@ rest-drops who k builds task old new last plan onward legal stands = record {
       (Answered (memory_reply k) (tasks_of builds)) new.log (
         last,
         others-of old.side old.log last onward.after,
-        subst (λ (o : Option What). Ends (Mine old.side) (last ++ made who o) outcome outcome new.log) (sym (stray-last new.limits last who builds task before stands))
+        subst (λ (o : Option What). Ends (Mine old.side) (last ++ made who o) outcome outcome new.log)
+            (sym (stray-last new.limits last who builds task before stands))
             (subst (λ (s : Known). Ends (Mine old.side) (behind last who (Cancel task.id false)) outcome outcome s.log) (sym onward.now)
             (ends-here old.side (behind last who (Cancel task.id false)) outcome)),
       );

@@ -51,7 +51,8 @@ told body builds = Answered (said body) (tasks_of builds)
 
 pub run-ends : (who : ℕ) (builds : List Ready) (old : Known) (plan : Plan Outcome) (reply : Reply) → plan ≡ End (Answered reply (tasks_of builds))
     → Stands who builds [] old.log → IsRun who plan builds old reply builds old
-run-ends who builds old plan reply is stands = record { rest = rest-end who 0 (tasks_of builds) old plan (Answered reply (tasks_of builds)) is; stands = stands }
+run-ends who builds old plan reply is stands =
+    record { rest = rest-end who 0 (tasks_of builds) old plan (Answered reply (tasks_of builds)) is; stands = stands }
 
 -- memory lacked before the line made an entry
 pub run-lacks : (who : ℕ) (builds : List Ready) (old new : Known) (P : History → Type 0) (plan : Plan Outcome) → speaks old.side who ≡ true
@@ -76,7 +77,8 @@ stands-added : (who : ℕ) (builds : List Ready) (old new : Known) (what : What)
 stands-added who builds old new what at mine lawful plain stands onward =
     subst (Stands who builds []) (sym log_is)
     (stands-plain new.limits at who who what builds [] legal plain
-    (stands-after new.limits old.side who builds [] old.log at mine (IsLegal-pop new.limits at (record { who = who; what = what }) legal).0 onward.after stands))
+    (stands-after new.limits old.side who builds [] old.log at mine
+    (IsLegal-pop new.limits at (record { who = who; what = what }) legal).0 onward.after stands))
   where
     log_is : new.log ≡ behind at who what
     log_is = ap (λ (s : Known). s.log) onward.now
@@ -176,7 +178,8 @@ pub cancelled-run : (who : ℕ) (first : Ready) (rest : List Ready) (old new : K
 cancelled-run who first rest old new mine lawful stands added = record {
   rest = rest-last who 0 (tasks_of (first ∷ rest)) old new true (λ at. Some (what.Cancel first.task.id false)) (what.Cancel first.task.id false) added.at
       (λ at. answer_with (tasks_of rest) (body.Ended (ending.Dropped first.task.id))) (told (body.Ended (ending.Dropped first.task.id)) rest) onward refl refl;
-  stands = stands-without who first rest old new (what.Cancel first.task.id false) added.at mine lawful (same_number first.task.id first.task.id refl) stands onward;
+  stands = stands-without who first rest old new (what.Cancel first.task.id false) added.at mine lawful
+      (same_number first.task.id first.task.id refl) stands onward;
 }
   where
     onward : Onward who old new (what.Cancel first.task.id false) added.at
@@ -196,7 +199,8 @@ pub switched-run : (who : ℕ) (first : Ready) (rest : List Ready) (old new : Kn
     → IsLawful new.limits new.log → Stands who (first ∷ rest) [] old.log → IsEnded who old first.task ending new
     → IsRun who (switch old.limits who (tasks_of (first ∷ rest))) (first ∷ rest) old (said (body.Ended ending)) rest new
 switched-run who first rest old new ending mine lawful stands ended = record {
-  rest = rest-last who 0 (tasks_of (first ∷ rest)) old new true (λ at. Some (ended_by old.limits first.task at)) (ended_by old.limits first.task ended.at) ended.at
+  rest = rest-last who 0 (tasks_of (first ∷ rest)) old new true
+      (λ at. Some (ended_by old.limits first.task at)) (ended_by old.limits first.task ended.at) ended.at
       (λ at. answer_with (tasks_of rest)
       (body.Ended (ending_by old.limits who at first.task (killed_of (held_at at first.task.id)) (fits old.limits at first.task))))
       (told (body.Ended ending) rest) onward refl (ap (λ (e : Ending). answer_with (tasks_of rest) (body.Ended e)) (sym ended.told));
@@ -283,9 +287,14 @@ round-goes who builds so_far old mid new ready ending mine lawful is ended = rec
       (λ at. run old.limits who (tasks_of builds) rounds
       (so_far
       ++ (built_of ready.task, ending_by old.limits who at ready.task (killed_of (held_at at ready.task.id)) (fits old.limits at ready.task)) ∷ [])) outcome
-      (record { after = ended.after; now = ended.now ∙ ap (λ (limits : Limits). record mid { log = behind ended.at who (ended_by limits ready.task ended.at) }) limits_are })
+      (record {
+        after = ended.after;
+        now = ended.now
+            ∙ ap (λ (limits : Limits). record mid { log = behind ended.at who (ended_by limits ready.task ended.at) }) limits_are;
+      })
       refl
-      (subst (λ (n : ℕ). IsRest who n (tasks_of builds) new (run old.limits who (tasks_of builds) rounds (so_far ++ (built_of ready.task, told_end) ∷ [])) outcome last)
+      (subst (λ (n : ℕ). IsRest who n (tasks_of builds) new
+      (run old.limits who (tasks_of builds) rounds (so_far ++ (built_of ready.task, told_end) ∷ [])) outcome last)
       count
       (subst
       (λ (e : Ending). IsRest who (2 * length (so_far ++ (built_of ready.task, ending) ∷ [])) (tasks_of builds) new
@@ -305,7 +314,9 @@ round-goes who builds so_far old mid new ready ending mine lawful is ended = rec
     told_end = ending_by old.limits who ended.at ready.task (killed_of (held_at ended.at ready.task.id)) (fits old.limits ended.at ready.task)
 
     told_is : ending ≡ told_end
-    told_is = ended.told ∙ ap (λ (limits : Limits). ending_by limits who ended.at ready.task (killed_of (held_at ended.at ready.task.id)) (fits limits ended.at ready.task)) limits_are
+    told_is = ended.told
+        ∙ ap (λ (limits : Limits). ending_by limits who ended.at ready.task
+        (killed_of (held_at ended.at ready.task.id)) (fits limits ended.at ready.task)) limits_are
 
     count : 2 * length (so_far ++ (built_of ready.task, ending) ∷ []) ≡ 2 * length so_far + 1 + 1
     count = let longer = length-more so_far (built_of ready.task, ending) in omega (arith, longer)
@@ -355,7 +366,8 @@ round-dropped who k builds so_far old new is lawful dropped = record {
 pub running-none : (who : ℕ) (builds : List Ready) (old : Known) → Stands who builds [] old.log → IsRunning who builds [] old old
 running-none who builds old stands = record {
   onward = λ rounds outcome last rest.
-      subst (λ (n : ℕ). IsRest who 0 (tasks_of builds) old (run old.limits who (tasks_of builds) n []) outcome last) (let e : rounds ≡ 0 + rounds = omega arith in e)
+      subst (λ (n : ℕ). IsRest who 0 (tasks_of builds) old (run old.limits who (tasks_of builds) n []) outcome last)
+      (let e : rounds ≡ 0 + rounds = omega arith in e)
       (subst (λ (k : ℕ). IsRest who k (tasks_of builds) old (run old.limits who (tasks_of builds) rounds []) outcome last)
       (let e : 2 * 0 ≡ 0 = omega arith in e) rest);
   kept = refl;
@@ -369,7 +381,8 @@ running-next who builds so_far now_far old mid new running round = record {
   onward = λ rounds outcome last rest.
       subst (λ (n : ℕ). IsRest who 0 (tasks_of builds) old (run old.limits who (tasks_of builds) n []) outcome last) (count rounds)
       (running.onward (suc rounds) outcome last
-      (subst (λ (limits : Limits). IsRest who (2 * length so_far) (tasks_of builds) mid (run limits who (tasks_of builds) (suc rounds) so_far) outcome last) limits_are
+      (subst (λ (limits : Limits).
+      IsRest who (2 * length so_far) (tasks_of builds) mid (run limits who (tasks_of builds) (suc rounds) so_far) outcome last) limits_are
       (round.onward rounds outcome last
       (subst (λ (limits : Limits). IsRest who (2 * length now_far) (tasks_of builds) new (run limits who (tasks_of builds) rounds now_far) outcome last)
       (sym limits_are) rest))));

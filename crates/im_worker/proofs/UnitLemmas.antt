@@ -55,7 +55,8 @@ covers : (changes : List Change) → All (IsCovered changes) changes
 covers [] = All-nil (IsCovered [])
 covers (first ∷ rest) =
     All-cons (IsCovered (first ∷ rest)) first rest own
-    (All-weaker (IsCovered rest) (IsCovered (first ∷ rest)) (λ change covered n. covered (if first.table == change.table then max n (first.rid + 1) else n)) rest
+    (All-weaker (IsCovered rest) (IsCovered (first ∷ rest))
+    (λ change covered n. covered (if first.table == change.table then max n (first.rid + 1) else n)) rest
     (covers rest))
   where
     own : (n : ℕ) → first.rid < given_by first.table n (first ∷ rest)
@@ -112,7 +113,8 @@ AllGiven-push h entry so_far = record {
     mine who false = later (pending h who) (so_far.waiting who)
 
     committed : (what : What) → All (All (WasGiven now)) (committed_by h entry.who what)
-    committed Commit = All-cons (All (WasGiven now)) (pending h entry.who) [] (later (pending h entry.who) (so_far.waiting entry.who)) (All-nil (All (WasGiven now)))
+    committed Commit = All-cons (All (WasGiven now)) (pending h entry.who) []
+        (later (pending h entry.who) (so_far.waiting entry.who)) (All-nil (All (WasGiven now)))
     committed (Create name schema grid) = All-cons (All (WasGiven now)) [] [] (All-nil (WasGiven now)) (All-nil (All (WasGiven now)))
     committed _ = All-nil (All (WasGiven now))
 
@@ -240,7 +242,9 @@ own-just who task now just = let g = given-just who task now just in record { he
 
 -- how many of its row numbers were given
 rows-given : (who count : ℕ) (task : Task) (h : History) → IsGiven who count task h → task_rows h task ≡ min task.per (count - task.extent * task.per)
-rows-given who count task h g = ap (λ (o : Option Held). min task.per (given_of o - task.extent * task.per)) g.is ∙ ap (λ (n : ℕ). min task.per (n - task.extent * task.per)) g.given
+rows-given who count task h g =
+    ap (λ (o : Option Held). min task.per (given_of o - task.extent * task.per)) g.is
+    ∙ ap (λ (n : ℕ). min task.per (n - task.extent * task.per)) g.given
 
 pub rows-just : (who : ℕ) (task : Task) (now : Known) → (just : IsJust who task now)
     → task_rows now.log task ≡ min (per_at just.at just.choice.table) (given just.at just.choice.table - just.choice.extent * per_at just.at just.choice.table)
@@ -296,7 +300,8 @@ content-read who task old new mine just went legal =
 
     g : IsGiven who count task new.log
     g = after-legal new.limits old.side who (IsGiven who count task)
-        (λ h entry whole other. given-other new.limits h entry who count task (IsLegal-pop new.limits h entry whole).1 other) old.log new.log mine legal went.after
+        (λ h entry whole other. given-other new.limits h entry who count task (IsLegal-pop new.limits h entry whole).1 other)
+        old.log new.log mine legal went.after
         (given-just who task old just)
 
     n_is : n ≡ min task.per (count - first)
@@ -308,7 +313,8 @@ content-read who task old new mine just went legal =
     longer : new.log ≡ at ++ (record { who = who; what = build_of at just.choice } ∷ went.after.between)
     longer =
         went.after.log
-        ∙ (ap (λ (h : History). h ++ went.after.between) just.log ∙ append_assoc at (record { who = who; what = build_of at just.choice } ∷ []) went.after.between)
+        ∙ (ap (λ (h : History). h ++ went.after.between) just.log
+        ∙ append_assoc at (record { who = who; what = build_of at just.choice } ∷ []) went.after.between)
 
     scn_is : task.scn ≡ scn at
     scn_is = ap (λ (t : Task). t.scn) just.is

@@ -34,7 +34,8 @@ pub record PlaysBytes (area : ℕ) (bytes : List ℕ) (number : ℕ) (old : Mach
   pub answers : Answers area before after line old reply new
 
 -- a line was played, and the text of its reply came behind what waits to be written, of which the sink may have taken some
-pub record PlaysNext (shown : Shown) (area : ℕ) (bytes : List ℕ) (number : ℕ) (old new : Machine) (before after : Option (List ℕ)) (waiting new_waiting : List ℕ)
+pub record PlaysNext (shown : Shown) (area : ℕ) (bytes : List ℕ) (number : ℕ) (old new : Machine)
+    (before after : Option (List ℕ)) (waiting new_waiting : List ℕ)
     (steps_before steps_after : ℕ) : Type 0 where
   pub reply : Option Reply
   pub plays : PlaysBytes area bytes number old reply new steps_before steps_after

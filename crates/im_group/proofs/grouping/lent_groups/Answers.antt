@@ -32,5 +32,6 @@ loop-row-preserved c =
     let rows = map (λ r. r.1) (kept b (lent_rows (take c.loop-row.row-index c.args.rows.now))) in
     subst (λ rs. GroupsAre b rs (keyed (λ k. map (λ v. v.now) k.items) c.take_kept.new.groups.entries))
     (sym (kept-push b c.args.rows.now c.loop-row.row-index c.loop-row-item.result c.loop-row-test.true))
-    (subst (GroupsAre b (cond (keeps b.filter row) (rows ++ row ∷ []) rows)) (sym (c.in_ok-take_kept.ensures ∙ ap (λ r. with_row b old r.1.now) c.loop-row-item.is))
+    (subst (GroupsAre b (cond (keeps b.filter row) (rows ++ row ∷ []) rows))
+    (sym (c.in_ok-take_kept.ensures ∙ ap (λ r. with_row b old r.1.now) c.loop-row-item.is))
     (with_row-push b rows old row c.loop-row.invariant))

@@ -9,6 +9,7 @@ close-core-requires-clause-all_joined c =
 
 pub returns : goal.returns
 returns c =
-    closed c.args.first c.join_all.new.pass c.args.passes.items c.close-core.result.limits c.close-core.result.log c.into_history.result.entries c.requires.first
+    closed c.args.first c.join_all.new.pass c.args.passes.items c.close-core.result.limits
+    c.close-core.result.log c.into_history.result.entries c.requires.first
     c.requires.none_joined c.join_all.ensures.pass c.join_all.ensures.begins c.join_all.ensures.others_begin c.close-core.ensures.seen
     c.close-core.ensures.own c.close-core.ensures.olds c.close-core.ensures.no_others c.close-core.ensures.limits c.known.ensures c.into_history.ensures

@@ -15,7 +15,8 @@ pub sort_outcomes-requires : goal.sort_outcomes-requires
 sort_outcomes-requires g c =
     let lineup = c.in_ok-store.ensures in
     record {
-      of_sessions = of-sessions c.args.setting.area c.args.setting.turns _ c.args.lines.now _ c.in_ok-store.field-0.jobs.items c.in_ok-done.done.items lineup.ready
+      of_sessions = of-sessions c.args.setting.area c.args.setting.turns _ c.args.lines.now _
+          c.in_ok-store.field-0.jobs.items c.in_ok-done.done.items lineup.ready
           c.in_ok-done.ensures;
     }
 
@@ -53,7 +54,8 @@ close-requires-clause-numbers g c =
 pub returns-clause-beside : goal.returns-clause-beside
 returns-clause-beside g c =
     let lineup = c.in_ok-store.ensures in
-    beside-all c.args.setting.area c.args.setting.turns c.args.setting.workers c.in_ok-store.field-0.sessions c.args.sessions.items c.args.lines.now _ lineup.made
+    beside-all c.args.setting.area c.args.setting.turns c.args.setting.workers
+    c.in_ok-store.field-0.sessions c.args.sessions.items c.args.lines.now _ lineup.made
     c.in_ok-store.field-0.first c.in_ok-store.field-0.jobs.items c.in_ok-done.done.items c.in_ok-outcomes.outcomes.passes.items c.as_mut_slice.result.now _
     c.requires.names lineup.is_first lineup.jobs lineup.count c.in_ok-done.ensures c.in_ok-outcomes.ensures.whole lineup.pass c.in_ok-outcomes.ensures.passes
     c.close.ensures c.in_ok-outcomes.ensures.ends (c.as_mut_slice.ensures.value ∙ c.in_ok-outcomes.ensures.replies) c.in_ok-answers.ensures

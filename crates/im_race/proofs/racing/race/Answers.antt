@@ -27,7 +27,8 @@ play_beside-requires-clause-known g c κs within =
 
 pub play_beside-requires-clause-names : goal.play_beside-requires-clause-names
 play_beside-requires-clause-names g c κs within =
-    subst (All NamesOneOf16) (sym (c.split_race.ensures.behind ∙ ap behind_of c.as_slice.ensures.value)) (all-behind NamesOneOf16 c.in_ok-lines.lines.items c.in_ok-lines.ensures.names)
+    subst (All NamesOneOf16) (sym (c.split_race.ensures.behind ∙ ap behind_of c.as_slice.ensures.value))
+    (all-behind NamesOneOf16 c.in_ok-lines.lines.items c.in_ok-lines.ensures.names)
 
 pub returns : goal.returns
 returns g c =

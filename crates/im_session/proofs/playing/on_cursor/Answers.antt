@@ -67,7 +67,9 @@ returns-else-not-fetched-clause-run g c =
     rw c.forget.ensures
     (subst (λ (usage : Use). IsRun c.args.context.now.who
     (plan_over usage (state_of c.args.kept.now.items) (g.H.Reach.known c.args.reach.now).log c.args.number) c.args.kept.now.items
-    (g.H.Reach.known c.args.reach.now) c.fetch-fetched.result.reply (filter (λ kept. not (is_number c.args.number kept)) c.args.kept.now.items) (g.H.Reach.known c.fetch-fetched.new.reach)) (sym c.in-Fetch.is)
+    (g.H.Reach.known c.args.reach.now) c.fetch-fetched.result.reply
+    (filter (λ kept. not (is_number c.args.number kept)) c.args.kept.now.items)
+    (g.H.Reach.known c.fetch-fetched.new.reach)) (sym c.in-Fetch.is)
     (run-fetch c.args.context.now.who c.args.kept.now.items (g.H.Reach.known c.args.reach.now) c.requires.agrees
     (g.H.Reach.known c.fetch-fetched.new.reach) c.fetch-fetched.result.reply c.args.number c.in-Some.at c.index.result.now
     (at-place c.args.number _ c.args.kept.now.items _ c.in-Some.at c.as_slice.ensures.value c.place_of.ensures c.in-Some.is) c.index.ensures
@@ -80,7 +82,9 @@ returns-in-Close-clause-run g c =
     rw c.forget-in-Close.ensures
     (subst (λ (usage : Use). IsRun c.args.context.now.who
     (plan_over usage (state_of c.args.kept.now.items) (g.H.Reach.known c.args.reach.now).log c.args.number) c.args.kept.now.items
-    (g.H.Reach.known c.args.reach.now) c.close-reply.result (filter (λ kept. not (is_number c.args.number kept)) c.args.kept.now.items) (g.H.Reach.known c.close-reply.new.reach)) (sym c.in-Close.is)
+    (g.H.Reach.known c.args.reach.now) c.close-reply.result
+    (filter (λ kept. not (is_number c.args.number kept)) c.args.kept.now.items)
+    (g.H.Reach.known c.close-reply.new.reach)) (sym c.in-Close.is)
     (run-close c.args.context.now.who c.args.kept.now.items (g.H.Reach.known c.args.reach.now) c.requires.agrees
     (g.H.Reach.known c.close-reply.new.reach) c.close-reply.result c.args.number c.in-Some.at c.index-in-Close.result.now
     (at-place c.args.number _ c.args.kept.now.items _ c.in-Some.at c.as_slice.ensures.value c.place_of.ensures c.in-Some.is) c.index-in-Close.ensures

@@ -31,7 +31,8 @@ returns-in-Select-clause-run g c =
 pub returns-in-Explain-clause-run : goal.returns-in-Explain-clause-run
 returns-in-Explain-clause-run g c =
     run-resolved c.args.context.now.who c.args.kept.now.items (g.H.Reach.known c.args.reach.now)
-    c.requires.agrees (g.H.Reach.known c.scan-in-Explain.new.reach) c.scan-in-Explain.result c.args.resolved (resolved.Explain c.in-Explain.bound) c.in-Explain.is
+    c.requires.agrees (g.H.Reach.known c.scan-in-Explain.new.reach) c.scan-in-Explain.result c.args.resolved
+    (resolved.Explain c.in-Explain.bound) c.in-Explain.is
     c.scan-in-Explain.ensures.rest
 
 pub returns-in-Insert-clause-run : goal.returns-in-Insert-clause-run

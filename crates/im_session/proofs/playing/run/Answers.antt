@@ -21,24 +21,29 @@ returns-in_default-clause-run g c =
 
 pub play-requires-clause-agrees : goal.play-requires-clause-agrees
 play-requires-clause-agrees g c =
-    kept-found c.args.context.now.who c.args.kept.now.items (g.H.Reach.known c.args.reach.now) (g.H.Reach.known c.look.new.self) _ c.requires.speaks c.requires.agrees
+    kept-found c.args.context.now.who c.args.kept.now.items
+    (g.H.Reach.known c.args.reach.now) (g.H.Reach.known c.look.new.self) _ c.requires.speaks c.requires.agrees
     c.in-Ok.ensures.ok
 
 pub play-requires-clause-shut : goal.play-requires-clause-shut
 play-requires-clause-shut g c =
-    (kept-found c.args.context.now.who c.args.kept.now.items (g.H.Reach.known c.args.reach.now) (g.H.Reach.known c.look.new.self) _ c.requires.speaks c.requires.agrees
+    (kept-found c.args.context.now.who c.args.kept.now.items
+    (g.H.Reach.known c.args.reach.now) (g.H.Reach.known c.look.new.self) _ c.requires.speaks c.requires.agrees
     c.in-Ok.ensures.ok).cursors.closed
 
 pub play-requires-clause-other : goal.play-requires-clause-other
 play-requires-clause-other g c =
-    other-resolves c.in-Ok.look.tables c.args.statement.now c.in-Ok-resolve.resolved (sym c.is_definition.ensures ∙ c.if-is_definition.false) c.in-Ok-resolve.ensures.ok
+    other-resolves c.in-Ok.look.tables c.args.statement.now c.in-Ok-resolve.resolved
+    (sym c.is_definition.ensures ∙ c.if-is_definition.false) c.in-Ok-resolve.ensures.ok
 
 pub returns-in-Ok-resolve-clause-run : goal.returns-in-Ok-resolve-clause-run
 returns-in-Ok-resolve-clause-run g c =
     run-looked c.args.context.now.who c.args.kept.now.items c.args.statement.now (g.H.Reach.known c.args.reach.now) (g.H.Reach.known c.look.new.self)
     (g.H.Reach.known c.play.new.reach) _ c.in-Ok.look c.in-Ok-resolve.resolved _ _ (sym c.is_definition.ensures ∙ c.if-is_definition.false)
     c.in-Ok.ensures.ok
-    (went-log (g.H.Reach.known c.args.reach.now) (g.H.Reach.known c.look.new.self) (λ at. c.in-Ok.look ≡ look_at at c.args.context.now.who) c.in-Ok.ensures.ok) c.in-Ok-resolve.ensures.ok c.play.ensures.run
+    (went-log (g.H.Reach.known c.args.reach.now) (g.H.Reach.known c.look.new.self)
+    (λ at. c.in-Ok.look ≡ look_at at c.args.context.now.who) c.in-Ok.ensures.ok)
+    c.in-Ok-resolve.ensures.ok c.play.ensures.run
 
 pub returns-clause-run : goal.returns-clause-run
 returns-clause-run g c =

@@ -30,7 +30,8 @@ returns-in-Ok-clause-rest g c = λ late shut.
     (subst (λ (p : Plan Outcome).
     IsRest c.args.context.now.who 1 (g.H.Reach.known c.args.reach.now) p
     (said (served_reply c.in-Ok.place c.args.marks (written c.args.rewriting.now (length c.args.changes.items)))) late)
-    (sym (some-write c.args.context.now.who (g.H.Reach.known c.args.reach.now).limits c.args.view.now.place c.args.view.now.scn c.args.marks c.args.changes.items
+    (sym (some-write c.args.context.now.who (g.H.Reach.known c.args.reach.now).limits
+    c.args.view.now.place c.args.view.now.scn c.args.marks c.args.changes.items
     (written c.args.rewriting.now) some))
     (write-done c.args.context.now.who 1 (g.H.Reach.known c.args.reach.now) (g.H.Reach.known c.write.new.self) late c.args.view.now c.args.marks
     c.args.changes.items (written c.args.rewriting.now (length c.args.changes.items)) c.requires.speaks c.requires.scan shut c.in-Ok.place
@@ -47,7 +48,8 @@ returns-in-Err-clause-rest g c = λ late shut.
     rw c.write_refused.ensures
     (subst (λ (p : Plan Outcome).
     IsRest c.args.context.now.who 1 (g.H.Reach.known c.args.reach.now) p (said (write_reply 1 c.in-Err.refused.place c.args.marks c.in-Err.refused.why)) late)
-    (sym (some-write c.args.context.now.who (g.H.Reach.known c.args.reach.now).limits c.args.view.now.place c.args.view.now.scn c.args.marks c.args.changes.items
+    (sym (some-write c.args.context.now.who (g.H.Reach.known c.args.reach.now).limits
+    c.args.view.now.place c.args.view.now.scn c.args.marks c.args.changes.items
     (written c.args.rewriting.now) some))
     (write-told c.args.context.now.who 1 (g.H.Reach.known c.args.reach.now) (g.H.Reach.known c.write.new.self) late c.args.view.now c.args.marks
     c.args.changes.items (written c.args.rewriting.now (length c.args.changes.items)) c.requires.speaks c.requires.scan shut c.in-Err.refused
@@ -57,7 +59,8 @@ pub returns-then-is_empty-clause-longer : goal.returns-then-is_empty-clause-long
 returns-then-is_empty-clause-longer g c = longer-same (g.H.Reach.known c.args.reach.now)
 
 pub returns-in-Ok-clause-longer : goal.returns-in-Ok-clause-longer
-returns-in-Ok-clause-longer g c = longer-added c.args.context.now.who (g.H.Reach.known c.args.reach.now) (g.H.Reach.known c.write.new.self) _ _ c.in-Ok.ensures.ok
+returns-in-Ok-clause-longer g c =
+    longer-added c.args.context.now.who (g.H.Reach.known c.args.reach.now) (g.H.Reach.known c.write.new.self) _ _ c.in-Ok.ensures.ok
 
 pub returns-in-Err-clause-longer : goal.returns-in-Err-clause-longer
 returns-in-Err-clause-longer g c = longer-found (g.H.Reach.known c.args.reach.now) (g.H.Reach.known c.write.new.self) _ c.in-Err.ensures.err

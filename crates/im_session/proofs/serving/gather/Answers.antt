@@ -23,7 +23,8 @@ returns-in_err-served-clause-went g c =
 pub returns-in_err-served-clause-err : goal.returns-in_err-served-clause-err
 returns-in_err-served-clause-err g c =
     let stops : (k : ℕ) (on : List Served → Plan Outcome)
-    → Stops c.args.context.now.who k (g.H.Reach.known c.args.reach.now) (serve_from c.args.cursor.now.view c.args.cursor.now.bound.filter c.args.cursor.now.next on)
+    → Stops c.args.context.now.who k (g.H.Reach.known c.args.reach.now)
+    (serve_from c.args.cursor.now.view c.args.cursor.now.bound.filter c.args.cursor.now.next on)
     (g.H.Reach.known c.served_part.new.reach) =
     λ k on.
     stops-went c.args.context.now.who k (g.H.Reach.known c.args.reach.now) (g.H.Reach.known c.loop-extent.reach) (g.H.Reach.known c.served_part.new.reach)
@@ -36,7 +37,8 @@ returns-in_err-served-clause-err g c =
 pub take-requires : goal.take-requires
 take-requires g c = record {
   few =
-      part-merges c.args.wanted c.args.cursor.now.bound c.args.cursor.now.view c.loop-extent.extent (g.H.Reach.known c.args.reach.now) (g.H.Reach.known c.loop-extent.reach)
+      part-merges c.args.wanted c.args.cursor.now.bound c.args.cursor.now.view c.loop-extent.extent
+      (g.H.Reach.known c.args.reach.now) (g.H.Reach.known c.loop-extent.reach)
       c.loop-extent.gathered.part c.in_ok-served.served.part c.requires.kept.scan.sees.known c.loop-extent.invariant.went c.loop-extent.invariant.part
       c.in_ok-served.ensures.part (let few = c.requires.kept.scan.sees.few in omega (arith, few));
 }
@@ -49,7 +51,8 @@ returns-in_err-take-clause-went g c =
 pub returns-in_err-take-clause-err : goal.returns-in_err-take-clause-err
 returns-in_err-take-clause-err g c =
     let stops : (k : ℕ) (on : List Served → Plan Outcome)
-    → Stops c.args.context.now.who k (g.H.Reach.known c.args.reach.now) (serve_from c.args.cursor.now.view c.args.cursor.now.bound.filter c.args.cursor.now.next on)
+    → Stops c.args.context.now.who k (g.H.Reach.known c.args.reach.now)
+    (serve_from c.args.cursor.now.view c.args.cursor.now.bound.filter c.args.cursor.now.next on)
     (g.H.Reach.known c.served_part.new.reach) =
     λ k on.
     stops-went c.args.context.now.who k (g.H.Reach.known c.args.reach.now) (g.H.Reach.known c.loop-extent.reach) (g.H.Reach.known c.served_part.new.reach)
@@ -65,19 +68,24 @@ loop-extent-preserved g c = record {
       c.loop-extent.invariant.went c.in_ok-served.ensures.went;
   part =
       c.in_ok-take.ensures.part
-      ∙ part-next c.args.wanted c.args.cursor.now.bound c.args.cursor.now.view c.loop-extent.extent (g.H.Reach.known c.args.reach.now) (g.H.Reach.known c.loop-extent.reach)
+      ∙ part-next c.args.wanted c.args.cursor.now.bound c.args.cursor.now.view c.loop-extent.extent
+      (g.H.Reach.known c.args.reach.now) (g.H.Reach.known c.loop-extent.reach)
       c.loop-extent.gathered.part c.in_ok-served.served.part c.requires.kept.scan.sees.known c.loop-extent.invariant.went c.loop-extent.invariant.part
       c.in_ok-served.ensures.part;
   comes = λ k on.
       subst (λ (marks : List Served).
-      Comes c.args.context.now.who k (g.H.Reach.known c.args.reach.now) (serve_from c.args.cursor.now.view c.args.cursor.now.bound.filter c.args.cursor.now.next on)
+      Comes c.args.context.now.who k (g.H.Reach.known c.args.reach.now)
+      (serve_from c.args.cursor.now.view c.args.cursor.now.bound.filter c.args.cursor.now.next on)
       (g.H.Reach.known c.served_part.new.reach)
-      (serve c.args.cursor.now.view c.args.cursor.now.bound.filter (c.args.cursor.now.view.extents - (c.loop-extent.extent + 1)) (c.loop-extent.extent + 1) marks on))
+      (serve c.args.cursor.now.view c.args.cursor.now.bound.filter
+      (c.args.cursor.now.view.extents - (c.loop-extent.extent + 1)) (c.loop-extent.extent + 1) marks on))
       (sym (c.in_ok-take.ensures.marks ∙ ap (λ (mark : Served). c.loop-extent.gathered.marks.items ++ mark ∷ []) c.in_ok-served.ensures.mark))
       (comes-next c.args.context.now.who k (g.H.Reach.known c.args.reach.now) (g.H.Reach.known c.loop-extent.reach) (g.H.Reach.known c.served_part.new.reach)
-      (serve_from c.args.cursor.now.view c.args.cursor.now.bound.filter c.args.cursor.now.next on) c.args.cursor.now.view c.args.cursor.now.bound.filter c.loop-extent.extent
+      (serve_from c.args.cursor.now.view c.args.cursor.now.bound.filter c.args.cursor.now.next on)
+      c.args.cursor.now.view c.args.cursor.now.bound.filter c.loop-extent.extent
       c.loop-extent.gathered.marks.items on c.loop-extent-test.true c.in_ok-served.ensures.went (c.loop-extent.invariant.comes k on));
-  read = more-read c.args.context.now.who c.args.cursor.now.number c.args.cursor.now.view c.args.cursor.now.next c.loop-extent.extent (c.loop-extent.extent + 1) c.args.steps.now c.loop-extent.steps
+  read = more-read c.args.context.now.who c.args.cursor.now.number c.args.cursor.now.view c.args.cursor.now.next
+      c.loop-extent.extent (c.loop-extent.extent + 1) c.args.steps.now c.loop-extent.steps
       c.served_part.new.steps (g.H.Reach.known c.args.reach.now) (g.H.Reach.known c.loop-extent.reach) (g.H.Reach.known c.served_part.new.reach)
       (longer-went (g.H.Reach.known c.args.reach.now) (g.H.Reach.known c.loop-extent.reach) c.loop-extent.invariant.went)
       (longer-went (g.H.Reach.known c.loop-extent.reach) (g.H.Reach.known c.served_part.new.reach) c.in_ok-served.ensures.went)
@@ -88,21 +96,25 @@ pub returns-clause-part : goal.returns-clause-part
 returns-clause-part g c =
     let past = c.loop-extent-test.false in
     let end = c.loop-extent.auto.extent-end c.requires.kept.sound.next in
-    part-all c.args.wanted c.args.context.now.who c.args.cursor.now.number c.loop-extent.extent c.args.cursor.now.bound c.args.cursor.now.view (g.H.Reach.known c.args.reach.now) c.loop-extent.gathered.part
+    part-all c.args.wanted c.args.context.now.who c.args.cursor.now.number c.loop-extent.extent
+    c.args.cursor.now.bound c.args.cursor.now.view (g.H.Reach.known c.args.reach.now) c.loop-extent.gathered.part
     c.requires.kept.scan (omega (arith, past, end)) c.loop-extent.invariant.part
 
 pub returns-clause-marks : goal.returns-clause-marks
 returns-clause-marks g c = λ k on.
     comes-last c.args.context.now.who k (g.H.Reach.known c.args.reach.now) (g.H.Reach.known c.loop-extent.reach)
-    (serve_from c.args.cursor.now.view c.args.cursor.now.bound.filter c.args.cursor.now.next on) c.args.cursor.now.view c.args.cursor.now.bound.filter c.loop-extent.extent
+    (serve_from c.args.cursor.now.view c.args.cursor.now.bound.filter c.args.cursor.now.next on)
+    c.args.cursor.now.view c.args.cursor.now.bound.filter c.loop-extent.extent
     c.loop-extent.gathered.marks.items on c.loop-extent-test.false (c.loop-extent.invariant.comes k on)
 
 pub returns-in_err-served-clause-ticks : goal.returns-in_err-served-clause-ticks
 returns-in_err-served-clause-ticks g c =
-    read-counted c.args.context.now.who c.args.cursor.now.number c.args.cursor.now.view c.args.cursor.now.next (c.loop-extent.extent + 1) c.args.steps.now c.served_part.new.steps
+    read-counted c.args.context.now.who c.args.cursor.now.number c.args.cursor.now.view c.args.cursor.now.next
+    (c.loop-extent.extent + 1) c.args.steps.now c.served_part.new.steps
     (g.H.Reach.known c.args.reach.now) (g.H.Reach.known c.served_part.new.reach)
     (let within = c.loop-extent-test.true in omega (arith, within))
-    (more-read c.args.context.now.who c.args.cursor.now.number c.args.cursor.now.view c.args.cursor.now.next c.loop-extent.extent (c.loop-extent.extent + 1) c.args.steps.now c.loop-extent.steps
+    (more-read c.args.context.now.who c.args.cursor.now.number c.args.cursor.now.view c.args.cursor.now.next
+    c.loop-extent.extent (c.loop-extent.extent + 1) c.args.steps.now c.loop-extent.steps
     c.served_part.new.steps (g.H.Reach.known c.args.reach.now) (g.H.Reach.known c.loop-extent.reach) (g.H.Reach.known c.served_part.new.reach)
     (longer-went (g.H.Reach.known c.args.reach.now) (g.H.Reach.known c.loop-extent.reach) c.loop-extent.invariant.went)
     (longer-went (g.H.Reach.known c.loop-extent.reach) (g.H.Reach.known c.served_part.new.reach) c.in_err-served.ensures.went)
@@ -110,10 +122,12 @@ returns-in_err-served-clause-ticks g c =
 
 pub returns-in_err-take-clause-ticks : goal.returns-in_err-take-clause-ticks
 returns-in_err-take-clause-ticks g c =
-    read-counted c.args.context.now.who c.args.cursor.now.number c.args.cursor.now.view c.args.cursor.now.next (c.loop-extent.extent + 1) c.args.steps.now c.served_part.new.steps
+    read-counted c.args.context.now.who c.args.cursor.now.number c.args.cursor.now.view c.args.cursor.now.next
+    (c.loop-extent.extent + 1) c.args.steps.now c.served_part.new.steps
     (g.H.Reach.known c.args.reach.now) (g.H.Reach.known c.served_part.new.reach)
     (let within = c.loop-extent-test.true in omega (arith, within))
-    (more-read c.args.context.now.who c.args.cursor.now.number c.args.cursor.now.view c.args.cursor.now.next c.loop-extent.extent (c.loop-extent.extent + 1) c.args.steps.now c.loop-extent.steps
+    (more-read c.args.context.now.who c.args.cursor.now.number c.args.cursor.now.view c.args.cursor.now.next
+    c.loop-extent.extent (c.loop-extent.extent + 1) c.args.steps.now c.loop-extent.steps
     c.served_part.new.steps (g.H.Reach.known c.args.reach.now) (g.H.Reach.known c.loop-extent.reach) (g.H.Reach.known c.served_part.new.reach)
     (longer-went (g.H.Reach.known c.args.reach.now) (g.H.Reach.known c.loop-extent.reach) c.loop-extent.invariant.went)
     (longer-went (g.H.Reach.known c.loop-extent.reach) (g.H.Reach.known c.served_part.new.reach) c.in_ok-served.ensures.went)
@@ -122,7 +136,8 @@ returns-in_err-take-clause-ticks g c =
 pub returns-clause-ticks : goal.returns-clause-ticks
 returns-clause-ticks g c =
     let end = c.loop-extent.auto.extent-end c.requires.kept.sound.next in
-    read-counted c.args.context.now.who c.args.cursor.now.number c.args.cursor.now.view c.args.cursor.now.next c.loop-extent.extent c.args.steps.now c.loop-extent.steps
+    read-counted c.args.context.now.who c.args.cursor.now.number c.args.cursor.now.view c.args.cursor.now.next
+    c.loop-extent.extent c.args.steps.now c.loop-extent.steps
     (g.H.Reach.known c.args.reach.now) (g.H.Reach.known c.loop-extent.reach)
     (omega (arith, end)) c.loop-extent.invariant.read
 

@@ -18,5 +18,6 @@ invariant-loop-extent g l = record {
   comes : (k : ℕ) (on : List Served → Plan Outcome)
       → Comes l.context.who k (g.H.Reach.known l.fn.reach) (serve_from l.cursor.view l.cursor.bound.filter l.cursor.next on) (g.H.Reach.known l.reach)
       (serve l.cursor.view l.cursor.bound.filter (l.cursor.view.extents - l.extent) l.extent l.gathered.marks.items on);
-  read : AreRead l.context.who l.cursor.number l.cursor.view l.cursor.next l.extent l.fn.steps l.steps (g.H.Reach.known l.fn.reach).log (g.H.Reach.known l.reach).log;
+  read : AreRead l.context.who l.cursor.number l.cursor.view l.cursor.next l.extent l.fn.steps l.steps
+      (g.H.Reach.known l.fn.reach).log (g.H.Reach.known l.reach).log;
 }

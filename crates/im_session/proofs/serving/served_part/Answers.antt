@@ -14,21 +14,24 @@ use Rattle.im_session.proofs.serving.served_part.Goals as goal
 pub part-requires-clause-unit_fits : goal.part-requires-clause-unit_fits
 part-requires-clause-unit_fits g c =
     let may = may-read c.args.context.now.who c.args.cursor.now.number c.args.extent c.in_ok-pin.pin.place c.args.cursor.now.bound c.args.cursor.now.view _ _
-    (g.H.Reach.known c.args.reach.now) (g.H.Reach.known c.read.new.reach) c.requires.speaks c.requires.kept.scan c.requires.kept.sound.asks c.in_ok-pin.ensures.went
+    (g.H.Reach.known c.args.reach.now) (g.H.Reach.known c.read.new.reach) c.requires.speaks c.requires.kept.scan
+    c.requires.kept.sound.asks c.in_ok-pin.ensures.went
     c.in_ok-pin.ensures.lawful c.in_ok-pin.ensures.read in
     subst (λ unit. ForSome unit (λ content. AllByRecursion (MayAsk c.args.cursor.now.bound) content.rows)) (sym c.face.ensures) may.unit_fits
 
 pub part-requires-clause-fetched_fits : goal.part-requires-clause-fetched_fits
 part-requires-clause-fetched_fits g c =
     let may = may-read c.args.context.now.who c.args.cursor.now.number c.args.extent c.in_ok-pin.pin.place c.args.cursor.now.bound c.args.cursor.now.view _ _
-    (g.H.Reach.known c.args.reach.now) (g.H.Reach.known c.read.new.reach) c.requires.speaks c.requires.kept.scan c.requires.kept.sound.asks c.in_ok-pin.ensures.went
+    (g.H.Reach.known c.args.reach.now) (g.H.Reach.known c.read.new.reach) c.requires.speaks c.requires.kept.scan
+    c.requires.kept.sound.asks c.in_ok-pin.ensures.went
     c.in_ok-pin.ensures.lawful c.in_ok-pin.ensures.read in
     subst (AllByRecursion (λ row. MayAsk c.args.cursor.now.bound row.1)) (sym c.items-rows.ensures) may.fetched_fits
 
 pub returns-in-Parts-clause-part : goal.returns-in-Parts-clause-part
 returns-in-Parts-clause-part g c =
     let may = may-read c.args.context.now.who c.args.cursor.now.number c.args.extent c.in_ok-pin.pin.place c.args.cursor.now.bound c.args.cursor.now.view _ _
-    (g.H.Reach.known c.args.reach.now) (g.H.Reach.known c.read.new.reach) c.requires.speaks c.requires.kept.scan c.requires.kept.sound.asks c.in_ok-pin.ensures.went
+    (g.H.Reach.known c.args.reach.now) (g.H.Reach.known c.read.new.reach) c.requires.speaks c.requires.kept.scan
+    c.requires.kept.sound.asks c.in_ok-pin.ensures.went
     c.in_ok-pin.ensures.lawful c.in_ok-pin.ensures.read in
     subst (λ (wanted : Wanted). c.in_ok-part-in-Parts.part ≡ partial c.args.cursor.now.bound
     (wanted_of wanted (seen_in (g.H.Reach.known c.args.reach.now).log c.args.cursor.now.view c.args.extent))) (sym c.in-Parts.is)

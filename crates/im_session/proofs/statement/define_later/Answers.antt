@@ -21,7 +21,8 @@ define_named-requires-clause-shut g c =
 
 pub define_named-requires-clause-idle : goal.define_named-requires-clause-idle
 define_named-requires-clause-idle g c =
-    idle-found c.args.context.now.who (g.H.Reach.known c.args.reach.now) (g.H.Reach.known c.look.new.self) _ c.requires.speaks c.in-Ok.ensures.ok c.requires.idle
+    idle-found c.args.context.now.who (g.H.Reach.known c.args.reach.now) (g.H.Reach.known c.look.new.self) _
+    c.requires.speaks c.in-Ok.ensures.ok c.requires.idle
 
 pub define_named-requires-clause-look : goal.define_named-requires-clause-look
 define_named-requires-clause-look g c = went-log (g.H.Reach.known c.args.reach.now) (g.H.Reach.known c.look.new.self) _ c.in-Ok.ensures.ok

@@ -10,11 +10,13 @@ use Rattle.im_statements.specs.Turns.{answer_at}
 
 pub returns-in-Ok : goal.returns-in-Ok
 returns-in-Ok g c =
-    decide-done c.args.context.now.who 0 (g.H.Reach.known c.args.reach.now) _ fault_of (λ at. begin_refusal at c.args.context.now.who) (λ at. what.Begin c.args.mode) _
+    decide-done c.args.context.now.who 0 (g.H.Reach.known c.args.reach.now) _ fault_of
+    (λ at. begin_refusal at c.args.context.now.who) (λ at. what.Begin c.args.mode) _
     (λ at. answer_at at (Begun (scn at))) _ c.in-Ok.ensures.ok (λ at fact. fact.0) (λ at fact. rw (c.settled.ensures, fact.1) refl)
 
 pub returns-in-Err : goal.returns-in-Err
 returns-in-Err g c =
     rw c.refused_reply.ensures
-    (rest-refused c.args.context.now.who 0 (g.H.Reach.known c.args.reach.now) _ true fault_of (λ at. begin_refusal at c.args.context.now.who) (λ at. what.Begin c.args.mode)
+    (rest-refused c.args.context.now.who 0 (g.H.Reach.known c.args.reach.now) _ true fault_of
+    (λ at. begin_refusal at c.args.context.now.who) (λ at. what.Begin c.args.mode)
     (λ at. answer_at at (Begun (scn at))) c.in-Err.refused c.requires.speaks c.requires.shut c.in-Err.ensures.err)

@@ -19,7 +19,8 @@ returns-in_err-play_next-clause-err g c =
 
 pub returns-in_err-flush_piece-clause-err : goal.returns-in_err-flush_piece-clause-err
 returns-in_err-flush_piece-clause-err g c =
-    OnErr-always _ (IsGoing-stuck c.args.shown _ _ _ _ _ _ _ _ _ _ _ _ _ _ _ _ _ c.loop-rest.invariant.going c.first_line.ensures.lines c.first_line.ensures.shorter
+    OnErr-always _ (IsGoing-stuck c.args.shown _ _ _ _ _ _ _ _ _ _ _ _ _ _ _ _ _
+    c.loop-rest.invariant.going c.first_line.ensures.lines c.first_line.ensures.shorter
     (next_in c.args.shown _ _ c.loop-rest.invariant.limits _ _ _ _ _ _ _ _ _ _ c.in_ok-play_next.ensures.ok) c.in_err-flush_piece.ensures.err)
 
 pub loop-rest-preserved : goal.loop-rest-preserved

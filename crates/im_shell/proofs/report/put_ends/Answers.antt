@@ -23,7 +23,8 @@ loop-ended-preserved g c =
 pub returns-in_err-put_next-clause-err : goal.returns-in_err-put_next-clause-err
 returns-in_err-put_next-clause-err g c =
     let below : c.loop-ended.ended-index < length c.args.ends.now = omega arith in
-    OnErr-always _ (IsPutTo-stop _ _ _ _ _ _ (end_text c.loop-ended.who (get_or c.args.ends.now c.loop-ended.ended-index (Spent 0 None))) _ c.loop-ended.invariant.to
+    OnErr-always _ (IsPutTo-stop _ _ _ _ _ _
+    (end_text c.loop-ended.who (get_or c.args.ends.now c.loop-ended.ended-index (Spent 0 None))) _ c.loop-ended.invariant.to
     (ends-next c.args.ends.now c.loop-ended.who c.loop-ended.ended-index (Spent 0 None) below)
     c.in_err-put_next.ensures.err)
 

@@ -55,4 +55,6 @@ pub returns-in-Dropped-clause-turn : goal.returns-in-Dropped-clause-turn
 returns-in-Dropped-clause-turn g c =
     rw c.out_of_memory-in-Dropped.ensures
     (round-dropped c.args.who (c.entries_of-entries.result + 1) c.args.held.now.items c.args.ran.now.items (g.H.Reach.known c.args.reach.now)
-    (g.H.Reach.known c.begin_next.new.reach) (ap (λ (n : ℕ). n + 1) (c.entries_of-entries.ensures ∙ ap entries c.as_slice.ensures.value)) c.in-Dropped.ensures.lawful c.in-Dropped.ensures.begun)
+    (g.H.Reach.known c.begin_next.new.reach)
+    (ap (λ (n : ℕ). n + 1) (c.entries_of-entries.ensures ∙ ap entries c.as_slice.ensures.value))
+    c.in-Dropped.ensures.lawful c.in-Dropped.ensures.begun)

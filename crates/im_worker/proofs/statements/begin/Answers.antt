@@ -9,7 +9,8 @@ use Rattle.im_worker.proofs.statements.begin.Goals as goal
 pub returns-in-Ready : goal.returns-in-Ready
 returns-in-Ready g c = record {
   run = begin-told c.args.who c.args.held.now.items c.reserve.new.self.items c.push_back_reserved.new.self.items (g.H.Reach.known c.args.reach.now)
-      (g.H.Reach.known c.begin_next.new.reach) c.in-Ready.build c.built_of-built.result c.plain.result c.reserve.ensures.items c.push_back_reserved.ensures.items
+      (g.H.Reach.known c.begin_next.new.reach) c.in-Ready.build c.built_of-built.result
+      c.plain.result c.reserve.ensures.items c.push_back_reserved.ensures.items
       (c.built_of-built.ensures ∙ ap (λ (r : Ready). built_of r.task) c.build.view_is) c.plain.ensures c.in-Ready.ensures.lawful c.in-Ready.ensures.begun;
   ticks = c.in-Ready.ensures.ticks;
 }

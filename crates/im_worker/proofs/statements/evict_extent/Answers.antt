@@ -15,7 +15,8 @@ returns-in-Ok g c =
     record {
       run = run-told c.args.who (evict c.args.who (tasks_of builds) c.args.table c.args.extent) builds old
           (said (body.Evicted c.args.table c.args.extent c.in-Ok.evicted.used)) c.plain.result builds new c.plain.ensures
-          (evicted-run c.args.who c.args.table c.args.extent c.in-Ok.evicted.used c.in-Ok.evicted.old.value builds old new c.in-Ok.evicted.place c.requires.speaks
+          (evicted-run c.args.who c.args.table c.args.extent c.in-Ok.evicted.used
+          c.in-Ok.evicted.old.value builds old new c.in-Ok.evicted.place c.requires.speaks
           c.in-Ok.ensures.lawful c.requires.stands c.in-Ok.ensures.ok);
     }
 

@@ -13,9 +13,12 @@ pub returns-in_err-rows-clause-steps : goal.returns-in_err-rows-clause-steps
 returns-in_err-rows-clause-steps g c at is =
     let h = c.self.inside.history.entries in
     let here = subst (λ (s : Seen). unit s.log c.args.view.now.table c.args.extent ≡ Some at) (sym c.self.view_is) is in
-    let told = stale-of _ h c.self.inside.directory c.args.view.now.table c.args.extent at c.args.view.now.scn c.self.invariant.units (per_at-some _ h c.args.view.now.table c.self.invariant.legal) here in
+    let told = stale-of _ h c.self.inside.directory c.args.view.now.table c.args.extent at c.args.view.now.scn
+    c.self.invariant.units (per_at-some _ h c.args.view.now.table c.self.invariant.legal) here in
     let items = ap length (c.as_slice.ensures.value ∙ (c.in_ok-stale.ensures ∙ told)) in
-    let long = ap (λ (s : Seen). length (stale_in s.log c.args.view.now.table c.args.extent c.args.view.now.scn at)) (sym c.self.view_is) ∙ stale-long h c.args.view.now.table c.args.extent c.args.view.now.scn at in
+    let long =
+    ap (λ (s : Seen). length (stale_in s.log c.args.view.now.table c.args.extent c.args.view.now.scn at)) (sym c.self.view_is)
+    ∙ stale-long h c.args.view.now.table c.args.extent c.args.view.now.scn at in
     let few = c.rows_of.ensures.few in
     omega (arith, few, items, long)
 
@@ -23,7 +26,8 @@ pub returns-clause-fetched : goal.returns-clause-fetched
 returns-clause-fetched g c at is =
     let h = c.self.inside.history.entries in
     let here = subst (λ (s : Seen). unit s.log c.args.view.now.table c.args.extent ≡ Some at) (sym c.self.view_is) is in
-    let told = stale-of _ h c.self.inside.directory c.args.view.now.table c.args.extent at c.args.view.now.scn c.self.invariant.units (per_at-some _ h c.args.view.now.table c.self.invariant.legal) here in
+    let told = stale-of _ h c.self.inside.directory c.args.view.now.table c.args.extent at c.args.view.now.scn
+    c.self.invariant.units (per_at-some _ h c.args.view.now.table c.self.invariant.legal) here in
     c.of.ensures
     ∙ (c.in_ok-rows.ensures.rows
     ∙ (rows_among_kept h c.self.inside.blocks c.self.invariant.rows c.args.view.now.table c.as_slice.result.now c.args.view.now.scn
@@ -34,8 +38,11 @@ pub returns-clause-steps : goal.returns-clause-steps
 returns-clause-steps g c at is =
     let h = c.self.inside.history.entries in
     let here = subst (λ (s : Seen). unit s.log c.args.view.now.table c.args.extent ≡ Some at) (sym c.self.view_is) is in
-    let told = stale-of _ h c.self.inside.directory c.args.view.now.table c.args.extent at c.args.view.now.scn c.self.invariant.units (per_at-some _ h c.args.view.now.table c.self.invariant.legal) here in
+    let told = stale-of _ h c.self.inside.directory c.args.view.now.table c.args.extent at c.args.view.now.scn
+    c.self.invariant.units (per_at-some _ h c.args.view.now.table c.self.invariant.legal) here in
     let items = ap length (c.as_slice.ensures.value ∙ (c.in_ok-stale.ensures ∙ told)) in
-    let long = ap (λ (s : Seen). length (stale_in s.log c.args.view.now.table c.args.extent c.args.view.now.scn at)) (sym c.self.view_is) ∙ stale-long h c.args.view.now.table c.args.extent c.args.view.now.scn at in
+    let long =
+    ap (λ (s : Seen). length (stale_in s.log c.args.view.now.table c.args.extent c.args.view.now.scn at)) (sym c.self.view_is)
+    ∙ stale-long h c.args.view.now.table c.args.extent c.args.view.now.scn at in
     let few = c.rows_of.ensures.few in
     omega (arith, few, items, long)

@@ -91,4 +91,5 @@ returns-in-Ok-record_write-clause-allowed g c =
     (rw c.of-caller.ensures at c.write_refusal.ensures)
     ∙ ap (λ (cs : List Change). write_refusal c.args.self.now.limits c.args.self.now.log c.args.who c.unwrap-view.result.scn cs) c.as_slice-2.ensures.value
     in
-    ap (λ n. write_refusal c.args.self.now.limits c.args.self.now.log c.args.who n c.args.changes.items) (sym facts.scn) ∙ (sym cause ∙ c.in_default-write_refusal.is)
+    ap (λ n. write_refusal c.args.self.now.limits c.args.self.now.log c.args.who n c.args.changes.items) (sym facts.scn)
+    ∙ (sym cause ∙ c.in_default-write_refusal.is)
