@@ -106,7 +106,8 @@ condition_part_sync : IsSync (as_row (option.the_field (condition.the_row name.t
 condition_part_sync = search (sendable, crosses, written_sync) depth 60 fits 10000
 
 sets_sync : IsSync (as_row (list.the_field (Tuple (name.the_row ∷ literal.the_row ∷ []))))
-sets_sync = as_row_sync (list.the_field (Tuple (name.the_row ∷ literal.the_row ∷ []))) (list_sync (Tuple (name.the_row ∷ literal.the_row ∷ [])) (search (sendable, crosses, name_sync, literal_sync) depth 60 fits 10000))
+sets_sync = as_row_sync (list.the_field (Tuple (name.the_row ∷ literal.the_row ∷ []))) (list_sync (Tuple (name.the_row ∷ literal.the_row ∷ []))
+    (search (sendable, crosses, name_sync, literal_sync) depth 60 fits 10000))
 
 columns_sync : IsSync (as_row (list.the_field column_part.the_row))
 columns_sync = as_row_sync (list.the_field column_part.the_row) (list_sync column_part.the_row column_part_sync)
@@ -121,7 +122,9 @@ named_sync : IsSync (as_row name.the_field)
 named_sync = as_row_sync name.the_field name_sync
 
 pub statement_sync : IsSync statement.the_row
-statement_sync = variants_sync statement.enum (search (tt, query_sync, named_sync, u32_sync, u64_sync, columns_sync, shape_sync, memory_sync, memory_part_sync, names_sync, tuples_sync, sets_sync, condition_part_sync) depth 60)
+statement_sync = variants_sync statement.enum
+    (search (tt, query_sync, named_sync, u32_sync, u64_sync, columns_sync, shape_sync, memory_sync, memory_part_sync, names_sync,
+      tuples_sync, sets_sync, condition_part_sync) depth 60)
 
 -- for searches above
 pub ruleset spoken = (name_send, name_sync, value_send, list_send, list_sync, item_send, bound_send, statement_sync)

@@ -32,12 +32,14 @@ either_nil : (b : Bool) → cond b (spell_conj (conj_of [])) (spell_and (conj_of
 either_nil true = refl
 either_nil false = refl
 
-conj_from-cons : (i : ℕ) (t : TermOf (List ℕ) Lit) (ts : List (TermOf (List ℕ) Lit)) → conj_from i (t ∷ ts) ≡ word_and i ++ (spell_term t ++ conj_from (suc i) ts)
+conj_from-cons : (i : ℕ) (t : TermOf (List ℕ) Lit) (ts : List (TermOf (List ℕ) Lit))
+    → conj_from i (t ∷ ts) ≡ word_and i ++ (spell_term t ++ conj_from (suc i) ts)
 conj_from-cons i t ts =
     first_or (i == 0) (word key.And) (spell_term t ++ spell_and (conj_of ts))
     ∙ ap (λ (b : Bool). word_and i ++ (spell_term t ++ cond b (spell_conj (conj_of ts)) (spell_and (conj_of ts)))) (sym (not_first i))
 
-cond_from-cons : (i : ℕ) (c : ConjOf (List ℕ) Lit) (cs : List (ConjOf (List ℕ) Lit)) → cond_from i (c ∷ cs) ≡ word_or i ++ (spell_conj c ++ cond_from (suc i) cs)
+cond_from-cons : (i : ℕ) (c : ConjOf (List ℕ) Lit) (cs : List (ConjOf (List ℕ) Lit))
+    → cond_from i (c ∷ cs) ≡ word_or i ++ (spell_conj c ++ cond_from (suc i) cs)
 cond_from-cons i c cs =
     first_or (i == 0) (word key.Or) (spell_conj c ++ spell_or (cond_of cs))
     ∙ ap (λ (b : Bool). word_or i ++ (spell_conj c ++ cond b (spell_cond (cond_of cs)) (spell_or (cond_of cs)))) (sym (not_first i))
