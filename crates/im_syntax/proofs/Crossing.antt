@@ -123,8 +123,21 @@ named_sync = as_row_sync name.the_field name_sync
 
 pub statement_sync : IsSync statement.the_row
 statement_sync = variants_sync statement.enum
-    (search (tt, query_sync, named_sync, u32_sync, u64_sync, columns_sync, shape_sync, memory_sync, memory_part_sync, names_sync,
-      tuples_sync, sets_sync, condition_part_sync) depth 60)
+    (search (
+      tt,
+      query_sync,
+      named_sync,
+      u32_sync,
+      u64_sync,
+      columns_sync,
+      shape_sync,
+      memory_sync,
+      memory_part_sync,
+      names_sync,
+      tuples_sync,
+      sets_sync,
+      condition_part_sync,
+    ) depth 60)
 
 -- for searches above
 pub ruleset spoken = (name_send, name_sync, value_send, list_send, list_sync, item_send, bound_send, statement_sync)

@@ -72,13 +72,13 @@ module _ (C V L : RattleType) (c : IsSend C) (v : IsSend V) (l : IsSend L) where
     conj_send = rejoined_send (knot.layer-ConjOf C V L (row C V L p member-TermOf)) _
         (deep.split-ConjOf C.Denot V.Denot L.Denot) (deep.join-ConjOf C.Denot V.Denot L.Denot) (deep.joins-ConjOf C.Denot V.Denot L.Denot)
         (declared_send (knot.type-ConjOf C V L (row C V L p member-TermOf))
-          (as_row_send (row_field _) (Vec-send (row C V L p member-TermOf) (all member-TermOf)), tt))
+        (as_row_send (row_field _) (Vec-send (row C V L p member-TermOf) (all member-TermOf)), tt))
 
     cond_send : IsSend (knot.at-CondOf C V L p)
     cond_send = rejoined_send (knot.layer-CondOf C V L (row C V L p member-ConjOf)) _
         (deep.split-CondOf C.Denot V.Denot L.Denot) (deep.join-CondOf C.Denot V.Denot L.Denot) (deep.joins-CondOf C.Denot V.Denot L.Denot)
         (declared_send (knot.type-CondOf C V L (row C V L p member-ConjOf))
-          (as_row_send (row_field _) (Vec-send (row C V L p member-ConjOf) (all member-ConjOf)), tt))
+        (as_row_send (row_field _) (Vec-send (row C V L p member-ConjOf) (all member-ConjOf)), tt))
 
     step_send : All (one_law the_members send) (rows (knot.frame C V L) (knot.step C V L p))
     step_send member-CondOf = has_of (knot.frame C V L) send (knot.step C V L p) member-CondOf
@@ -123,13 +123,13 @@ module _ (C V L : RattleType) (c : IsSync C) (v : IsSync V) (l : IsSync L) where
     conj_sync = rejoined_sync (knot.layer-ConjOf C V L (row C V L p member-TermOf)) _
         (deep.split-ConjOf C.Denot V.Denot L.Denot) (deep.join-ConjOf C.Denot V.Denot L.Denot) (deep.joins-ConjOf C.Denot V.Denot L.Denot)
         (declared_sync (knot.type-ConjOf C V L (row C V L p member-TermOf))
-          (as_row_sync (row_field _) (Vec-sync (row C V L p member-TermOf) (all member-TermOf)), tt))
+        (as_row_sync (row_field _) (Vec-sync (row C V L p member-TermOf) (all member-TermOf)), tt))
 
     cond_sync : IsSync (knot.at-CondOf C V L p)
     cond_sync = rejoined_sync (knot.layer-CondOf C V L (row C V L p member-ConjOf)) _
         (deep.split-CondOf C.Denot V.Denot L.Denot) (deep.join-CondOf C.Denot V.Denot L.Denot) (deep.joins-CondOf C.Denot V.Denot L.Denot)
         (declared_sync (knot.type-CondOf C V L (row C V L p member-ConjOf))
-          (as_row_sync (row_field _) (Vec-sync (row C V L p member-ConjOf) (all member-ConjOf)), tt))
+        (as_row_sync (row_field _) (Vec-sync (row C V L p member-ConjOf) (all member-ConjOf)), tt))
 
     step_sync : All (one_law the_members sync) (rows (knot.frame C V L) (knot.step C V L p))
     step_sync member-CondOf = has_of (knot.frame C V L) sync (knot.step C V L p) member-CondOf
