@@ -26,8 +26,9 @@ const PIECE: usize = 1000;
 const ROOM: usize = 1_000_000;
 
 /// Scripts that are played by other words than `run`, and those words.
-const COMMANDS: [(&str, &[&str]); 4] = [
+const COMMANDS: [(&str, &[&str]); 5] = [
     ("full_area", &["run", "--area", "60"]),
+    ("lists_of_builds", &["run", "--area", "250"]),
     ("race_locked_row", &["race"]),
     ("race_of_one", &["race"]),
     ("race_of_workers", &["race"]),
