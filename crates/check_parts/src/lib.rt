@@ -1,5 +1,5 @@
 //! What no clause shows of the parts that a store is made of: that their calls succeed when memory is there, and at the second
-//! try where it was not, and that they agree with slow programs that go through every change.
+//! try where it was not, what packed codes and dictionaries are, and that a unit gives back the rows that it was made of.
 //!
 //! Nothing here is for callers. Each file tests the crate that it is named after, by public calls alone.
 #![tactic(auto)]
@@ -7,17 +7,9 @@
 #[cfg(test)]
 mod bits;
 #[cfg(test)]
-mod blocks;
-#[cfg(test)]
 mod codes;
 #[cfg(test)]
-mod directory;
-#[cfg(test)]
-mod history;
-#[cfg(test)]
 mod journal;
-#[cfg(test)]
-mod txn;
 #[cfg(test)]
 mod unit;
 #[cfg(test)]

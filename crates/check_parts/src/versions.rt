@@ -72,33 +72,6 @@ fn reserve_twice<L: Ledger>(
 }
 
 #[test]
-fn each_scn_has_the_row_of_the_last_version_at_or_below_it(rt: HostRuntime) -> Result<(), Fail> {
-    let alloc = rt.alloc();
-    let mut chain = Chain::new(alloc);
-    assert_eq!(rt; chain.latest(), None);
-    assert!(rt; put(alloc, &mut chain, 2, Some(10))?);
-    assert!(rt; put(alloc, &mut chain, 4, None)?);
-    assert!(rt; !put(alloc, &mut chain, 4, None)?);
-    assert_eq!(rt; chain.latest(), Some(4));
-    let mut rows = Vec::new(alloc);
-    rows.extend_from_slice(&[
-        (0, None),
-        (1, None),
-        (2, Some(10)),
-        (3, Some(10)),
-        (4, None),
-        (9, None),
-    ])?;
-    for i in 5..300 {
-        assert!(rt; put(alloc, &mut chain, 2 * i, Some(i as i64))?);
-        rows.push((2 * i, Some(i as i64)))?;
-        rows.push((2 * i + 1, Some(i as i64)))?;
-    }
-    assert!(rt; has_rows::<Brand>(Blank::new(1), &chain, rows.as_slice()));
-    Ok(())
-}
-
-#[test]
 fn a_chain_that_lacks_memory_for_a_version_has_the_rows_that_it_had(
     rt: HostRuntime,
 ) -> Result<(), Fail> {

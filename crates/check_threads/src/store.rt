@@ -16,7 +16,7 @@ use std::thread::{Threads, join};
 mod many;
 mod sessions;
 
-pub(crate) use sessions::{letters, statement};
+use sessions::letters;
 
 /// The limits of the engine.
 const AMPLE: Limits = Limits {

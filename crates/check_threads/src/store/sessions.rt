@@ -49,7 +49,7 @@ const SCRIPTS: [&[&[u8]]; 2] = [
 ];
 
 /// The statement that a text spells.
-pub(crate) fn statement(alloc: Global, text: &[u8]) -> Option<Stmt>
+fn statement(alloc: Global, text: &[u8]) -> Option<Stmt>
     ensures { IfSome result IsStmt }
 {
     let lexed = lex(alloc, text).ok()?;
@@ -168,21 +168,15 @@ fn play_both<R: Threads + Wait + Sync>(
     Ok((store.close(first), of_one.saturating_add(of_two)))
 }
 
-/// One letter for what an entry of these sessions and workers records. Where cursor 1 or 2 is shut it is that number.
+/// One letter for what an entry of these sessions records.
 fn letter(what: &What) -> u8 {
     match what {
         What::Create { .. } => b'T',
-        What::Memory { .. } => b'M',
         What::Open { .. } => b'O',
-        What::Shut { cursor: 0 } => b'S',
-        What::Shut { cursor: 1 } => b'1',
-        What::Shut { cursor: 2 } => b'2',
+        What::Shut { .. } => b'S',
         What::Write { .. } => b'W',
         What::Commit => b'C',
         What::Rollback => b'R',
-        What::Build { .. } => b'B',
-        What::Switch { .. } => b'X',
-        What::Leave => b'L',
         _ => b'?',
     }
 }
@@ -210,7 +204,7 @@ fn letters_counting<L: Ledger>(
 }
 
 /// The entries of a number, a letter each, in their order.
-pub(crate) fn letters(alloc: Global, history: &History, who: u32) -> Result<Vec<u8>, Fail> {
+pub(super) fn letters(alloc: Global, history: &History, who: u32) -> Result<Vec<u8>, Fail> {
     letters_counting::<Brand>(alloc, history, who, Blank::new(1))
 }
 

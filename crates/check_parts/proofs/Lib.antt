@@ -1,2 +1,0 @@
-mod BeforeLemmas
-mod PlainLemmas

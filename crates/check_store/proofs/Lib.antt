@@ -1,6 +1,0 @@
-mod CursorLemmas
-mod LeaveLemmas
-mod OpeningLemmas
-mod OwnLemmas
-mod TestLemmas
-mod UnitLemmas

@@ -1,7 +1,0 @@
-use Rattle.std.specs.List.{AllByRecursion}
-use Rattle.im_scan.specs.Parts.{MayAsk}
-use Rattle.check_store.proofs.scan.extents.fetched.Given as goal
-
--- the query may be asked of the rows so far
-abbrev pub invariant-loop-rid : goal.invariant-loop-rid
-invariant-loop-rid l = AllByRecursion (λ row. MayAsk l.bound row.1) l.rows.items
