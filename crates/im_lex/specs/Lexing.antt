@@ -1,9 +1,9 @@
 -- The tokens of a line, and its first bad byte.
 use Rattle.std.specs.Prelude.{◌≡◌, ℕ, ◌+◌, List, [], ◌∷◌, drop, map, Result, Ok, Err}
+use Rattle.std.specs.Global.{Vec}
 use Rattle.im_syntax.specs.declared.token.Token.{Token}
 use Rattle.im_lex.specs.declared.front.Front.TheVariants.{Stop, Blank, Bad, Lexed}
 use Rattle.im_lex.specs.declared.lexing.LexFault.{LexFault}
-use Rattle.im_lex.specs.declared.lexing.Lexed.{Lexed as Found}
 use Rattle.im_lex.specs.declared.lexing.LexFault.TheVariants as fault
 use Rattle.im_lex.specs.Bytes.{front}
 
@@ -29,24 +29,19 @@ tokens_of ts = map (λ t. t.0) ts
 abbrev pub places_of : List (Token × ℕ) → List ℕ
 places_of ts = map (λ t. t.1) ts
 
--- these are the tokens, and these their places
-pub record AreApart (pairs : List (Token × ℕ)) (tokens : List Token) (places : List ℕ) : Type 0 where
-  pub tokens_are : tokens ≡ tokens_of pairs
-  pub places_are : places ≡ places_of pairs
-
--- the bytes have these tokens at these places
-pub record AreLexed (bytes : List ℕ) (tokens : List Token) (places : List ℕ) : Type 0 where
+-- the bytes have these tokens
+pub record AreLexed (bytes : List ℕ) (tokens : List Token) : Type 0 where
   pub pairs : List (Token × ℕ)
   pub lexes : Lexes 0 bytes pairs
-  pub apart : AreApart pairs tokens places
+  pub tokens_are : tokens ≡ tokens_of pairs
 
 -- ---- what the code promises
 
--- the answer has these tokens and places, unless memory ran out
-abbrev pub IsLexedApart : List (Token × ℕ) → Result Found LexFault → Type 0
-IsLexedApart ts (Ok found) = AreApart ts found.tokens.items found.places.items
-IsLexedApart ts (Err fault.NoMemory) = Unit {0}
-IsLexedApart ts (Err (fault.At n)) = ⊥
+-- the answer has these tokens, unless memory ran out
+abbrev pub IsLexed : List (Token × ℕ) → Result (Vec Token) LexFault → Type 0
+IsLexed ts (Ok found) = found.items ≡ tokens_of ts
+IsLexed ts (Err fault.NoMemory) = Unit {0}
+IsLexed ts (Err (fault.At n)) = ⊥
 
 -- the answer is this bad byte, unless memory ran out
 abbrev pub IsFaultAt : {T : Type 0} → ℕ → Result T LexFault → Type 0

@@ -76,18 +76,6 @@ pub fn put_word(buffer: &mut [u8], bytes: &[u8]) -> Option<usize>
     Some(bytes.len())
 }
 
-/// The longest prefix of digits.
-pub fn digit_run(bytes: &[u8]) -> &[u8]
-    ensures { result.now ≡ bytes_of.run is_ascii_digit bytes.now }
-{
-    for (i, byte) in bytes.iter().enumerate() {
-        if !byte.is_ascii_digit() {
-            return &bytes[..i];
-        }
-    }
-    bytes
-}
-
 /// A number with a digit more, capped in the same way. A product is checked only where it may come near the cap.
 fn with_digit(value: u64, digit: u8) -> u64
     ensures { result ≡ min (10 * value + (digit - 48)) (2 ^ 63 + 1) }
@@ -103,15 +91,30 @@ fn with_digit(value: u64, digit: u8) -> u64
     }
 }
 
-/// The number that the digits say, or 2^63 + 1 where it is at least that.
-pub fn capped_value(digits: &[u8]) -> u64
-    ensures { result ≡ min (bytes_of.value_of digits.now) (2 ^ 63 + 1) }
+/// The digits at the front of the bytes.
+#[derive(Clone, Copy, Debug)]
+pub struct Digits {
+    pub count: usize,
+    /// The number that they say, or 2^63 + 1 where it is at least that.
+    pub value: u64,
+}
+
+/// The longest prefix of digits, counted and read in one go.
+pub fn leading_digits(bytes: &[u8]) -> Digits
+    ensures count { result.count ≡ length (bytes_of.run is_ascii_digit bytes.now) }
+    ensures value { result.value ≡ min (bytes_of.value_of (bytes_of.run is_ascii_digit bytes.now)) (2 ^ 63 + 1) }
 {
     let mut value: u64 = 0;
-    for digit in digits {
-        value = with_digit(value, *digit);
+    for (i, byte) in bytes.iter().enumerate() {
+        if !byte.is_ascii_digit() {
+            return Digits { count: i, value };
+        }
+        value = with_digit(value, *byte);
     }
-    value
+    Digits {
+        count: bytes.len(),
+        value,
+    }
 }
 
 /// How many bytes stand before the first quote, or in all.

@@ -1,11 +1,10 @@
 ghost use Rattle.std.specs.Prelude.{◌≡◌, ◌∷◌, IfOk, if◌then◌else◌};
+ghost use Rattle.std.specs.Char.{is_ascii_digit};
 ghost use Rattle.im_syntax.specs.declared.token.Token.TheVariants as token;
 ghost use Rattle.im_lex.specs.Bytes as bytes_of;
 ghost use Rattle.im_lex.specs.inner.Pieces as pieces;
 
-use crate::bytes::{
-    behind, capped_value, digit_run, first, is_blank, only_ends, plain_len, put_word,
-};
+use crate::bytes::{behind, first, is_blank, leading_digits, only_ends, plain_len, put_word};
 use crate::front::{Front, Piece};
 use im_syntax::{Keyword, Sign, Token};
 use im_values::limits::MOST_WORD_BYTES;
@@ -35,24 +34,25 @@ fn word(alloc: Global, bytes: &[u8]) -> Result<Front, NoMemory>
 }
 
 /// A number without a sign.
-fn positive(digits: &[u8]) -> Front
-    ensures { result ≡ bytes_of.positive_front digits.now }
+fn positive(bytes: &[u8]) -> Front
+    ensures { result ≡ bytes_of.positive_front (bytes_of.run is_ascii_digit bytes.now) }
 {
-    match i64::try_from(capped_value(digits)) {
-        Ok(value) => Front::Lexed(Token::Int(value), digits.len().saturating_sub(1)),
+    let digits = leading_digits(bytes);
+    match i64::try_from(digits.value) {
+        Ok(value) => Front::Lexed(Token::Int(value), digits.count.saturating_sub(1)),
         Err(_) => Front::Bad,
     }
 }
 
 /// A number behind its minus.
-fn negative(digits: &[u8]) -> Front
-    ensures { result ≡ bytes_of.negative_front digits.now }
+fn negative(bytes: &[u8]) -> Front
+    ensures { result ≡ bytes_of.negative_front (bytes_of.run is_ascii_digit bytes.now) }
 {
-    let value = capped_value(digits);
-    if value <= 9_223_372_036_854_775_807 {
-        Front::Lexed(Token::Int(-(value as i64)), digits.len())
-    } else if value == 9_223_372_036_854_775_808 {
-        Front::Lexed(Token::Int(i64::MIN), digits.len())
+    let digits = leading_digits(bytes);
+    if digits.value <= 9_223_372_036_854_775_807 {
+        Front::Lexed(Token::Int(-(digits.value as i64)), digits.count)
+    } else if digits.value == 9_223_372_036_854_775_808 {
+        Front::Lexed(Token::Int(i64::MIN), digits.count)
     } else {
         Front::Bad
     }
@@ -66,7 +66,7 @@ fn behind_minus(rest: &[u8]) -> Front
     if next == b'-' {
         Front::Stop
     } else if next.is_ascii_digit() {
-        negative(digit_run(rest))
+        negative(rest)
     } else {
         Front::Bad
     }
@@ -212,7 +212,7 @@ fn front_at(alloc: Global, byte: u8, rest: &[u8], bytes: &[u8]) -> Result<Front,
         return word(alloc, bytes);
     }
     if byte.is_ascii_digit() {
-        return Ok(positive(digit_run(bytes)));
+        return Ok(positive(bytes));
     }
     if byte == b'-' {
         return Ok(behind_minus(rest));

@@ -1,4 +1,4 @@
-ghost use Rattle.std.specs.Prelude.{◌≡◌, ◌+◌, ◌≤◌, ℕ, List, length, IfOk, IfErr};
+ghost use Rattle.std.specs.Prelude.{◌≡◌, ◌+◌, ◌≤◌, ℕ, List, length, slice_get, IfOk, IfErr, IfSome};
 ghost use Rattle.im_syntax.specs.declared.token.Token.{Token as AnyToken};
 ghost use Rattle.im_lex.specs.declared.lexing.LexFault.TheVariants as fault;
 ghost use Rattle.im_lex.specs.Lexing as lexing;
@@ -44,50 +44,74 @@ impl<T: Drop> From<AllocFailed<T>> for LexFault {
     }
 }
 
-/// The tokens of a line and their places, each in a list of its own.
+/// The first tokens of a line.
 #[derive(Debug, Drop)]
-pub struct Lexed {
-    pub tokens: Vec<Token>,
-    /// How many bytes of the line stand before each token.
-    pub places: Vec<u64>,
+struct First {
+    tokens: Vec<Token>,
+    /// How many bytes stand before the next one, where there is one.
+    next: Option<u64>,
 }
 
-/// The tokens of a line, from left to right. Each round goes on by one byte or more.
+/// The tokens of a line from left to right, but at most so many. Each round goes on by one byte or more.
 ///
-/// The lists begin with room for a token in three bytes, as lists of short values have.
-fn read_tokens(alloc: Global, line: &[u8]) -> Result<Lexed, LexFault>
-    ensures { rounds.Gives result (rounds.lexed_in (length line.now) 0 line.now) }
+/// The list begins with room for a token in three bytes, as lists of short values have. This is the one loop that reads
+/// tokens, so that what stands at the front is read in it and not by a call.
+fn read_tokens(alloc: Global, line: &[u8], most: u64) -> Result<First, LexFault>
+    ensures found { IfOk result (λ first. rounds.AreFirst most line.now first.tokens.items first.next) }
+    ensures bad { IfErr result (lexing.IsBadByte line.now) }
 {
     let mut tokens = Vec::with_capacity(alloc, line.len() / 3)?;
-    let mut places = Vec::with_capacity(alloc, line.len() / 3)?;
     let mut at = 0;
     for _ in 0..line.len() {
         match front(alloc, behind(line, at))? {
-            Front::Stop => return Ok(Lexed { tokens, places }),
+            Front::Stop => return Ok(First { tokens, next: None }),
             Front::Bad => return Err(LexFault::At(at as u64)),
             Front::Blank => at += 1,
             Front::Lexed(token, more) => {
+                if tokens.len() as u64 == most {
+                    let next = Some(at as u64);
+                    return Ok(First { tokens, next });
+                }
                 tokens.push(token)?;
-                places.push(at as u64)?;
                 at = at + 1 + more;
             }
         }
     }
-    Ok(Lexed { tokens, places })
+    Ok(First { tokens, next: None })
 }
 
-/// The tokens of a line, and how many bytes stand before each.
+/// The tokens of a line.
 ///
 /// An error is the first bad byte, wherever it stands, or out of memory. A comment's bytes are never bad.
-pub fn lex(alloc: Global, line: &[u8]) -> Result<Lexed, LexFault>
-    // What is found are the line's tokens and their places.
-    ensures found { IfOk result (λ l. lexing.AreLexed line.now l.tokens.items l.places.items) }
+pub fn lex(alloc: Global, line: &[u8]) -> Result<Vec<Token>, LexFault>
+    // What is found are the line's tokens.
+    ensures found { IfOk result (λ tokens. lexing.AreLexed line.now tokens.items) }
     // The line's tokens are found, unless memory runs out.
-    ensures only { (ts : List (AnyToken × ℕ)) → lexing.Lexes 0 line.now ts → lexing.IsLexedApart ts result }
+    ensures only { (ts : List (AnyToken × ℕ)) → lexing.Lexes 0 line.now ts → lexing.IsLexed ts result }
     // A fault is the first bad byte.
     ensures bad { IfErr result (lexing.IsBadByte line.now) }
     // The first bad byte is a fault, unless memory runs out.
     ensures bad_only { (n : ℕ) → lexing.IsBadAt 0 line.now n → lexing.IsFaultAt n result }
 {
-    read_tokens(alloc, line)
+    match read_tokens(alloc, line, line.len() as u64) {
+        Ok(first) => Ok(first.tokens),
+        Err(fault) => Err(fault),
+    }
+}
+
+/// How many bytes of a line stand before its n-th token, from 0, where it has so many.
+///
+/// It reads the line anew, so that [`lex`] need not keep what is asked of bad lines alone.
+#[cold]
+pub fn place_of(alloc: Global, line: &[u8], n: u64) -> Result<Option<u64>, NoMemory>
+    // It is the place of that token.
+    ensures is { (ts : List (AnyToken × ℕ)) → lexing.Lexes 0 line.now ts → IfOk result (λ place. place ≡ slice_get (lexing.places_of ts) n) }
+    // It lies in the line.
+    ensures within { IfOk result (λ place. IfSome place (λ at. at ≤ length line.now)) }
+{
+    match read_tokens(alloc, line, n) {
+        Ok(First { next, .. }) => Ok(next),
+        Err(LexFault::At(_)) => Ok(None),
+        Err(LexFault::NoMemory) => Err(NoMemory),
+    }
 }

@@ -1,6 +1,7 @@
 -- The whole of the tokens: a statement, or the place where they leave the language.
-use Rattle.std.proofs.Common.{◌≡◌, ℕ, ◌-◌, ◌≤◌, List, [], length, sym, ap, ◌∙◌}
-use Rattle.im_readers.specs.Reading.{Found, Stopped, all_of}
+use Rattle.std.proofs.Common.{◌≡◌, ◌==◌, ℕ, suc, ◌-◌, ◌≤◌, true, false, List, [], ◌∷◌, length, sym, ap, ◌∙◌, arith}
+use Rattle.std.proofs.lemmas.Bool.Decides.{nat_tests}
+use Rattle.im_readers.specs.Reading.{Found, Stopped, ended, all_of}
 use Rattle.im_readers.proofs.Input.{all_found, all_only, all_place, one_value}
 use Rattle.im_syntax.specs.declared.token.Token.{Token}
 use Rattle.im_syntax.specs.declared.statement.Stmt.{Stmt}
@@ -9,6 +10,22 @@ use Rattle.im_syntax.specs.Rules.{IsStmt}
 use Rattle.im_parse.specs.inner.Statements.{statement_at, whole_at}
 use Rattle.im_parse.specs.Parsing.{IsPlaceAmong}
 use Rattle.im_parse.proofs.StatementLaws.{statement_law}
+
+-- a statement with nothing behind it, and one with tokens behind it
+pub whole-all : (ts : List Token) (s : Stmt) (rest : List Token) → (length rest == 0) ≡ true → statement_at ts ≡ Found s rest → whole_at ts ≡ Found s []
+unfolding whole_at
+whole-all ts s [] none e = ap ended e
+whole-all ts s (t ∷ rest) none e = absurd (let same : suc (length rest) ≡ 0 = grind (arith, nat_tests) in omega arith)
+
+pub whole-more : (ts : List Token) (s : Stmt) (rest : List Token) → (length rest == 0) ≡ false → statement_at ts ≡ Found s rest
+    → whole_at ts ≡ Stopped (length rest)
+unfolding whole_at
+whole-more ts s [] some e = absurd cc
+whole-more ts s (t ∷ rest) some e = ap ended e
+
+pub whole-stopped : (ts : List Token) (left : ℕ) → statement_at ts ≡ Stopped left → whole_at ts ≡ Stopped left
+unfolding whole_at
+whole-stopped ts left e = ap ended e
 
 pub whole_found : (ts : List Token) (s : Stmt) → whole_at ts ≡ Found s [] → IsStmt s × (ts ≡ spelling s)
 unfolding whole_at

@@ -1,10 +1,7 @@
-ghost use Rattle.std.specs.Prelude.{◌≡◌, [], IfOk, IfErr};
-ghost use Rattle.im_readers.specs.Reading.{Found};
-ghost use Rattle.im_readers.specs.Answers.{Gives};
+ghost use Rattle.std.specs.Prelude.{◌≡◌, IfOk, IfErr};
 ghost use Rattle.im_syntax.specs.declared.statement.Stmt.{Stmt as AnyStmt};
 ghost use Rattle.im_syntax.specs.Spelling.{spelling};
 ghost use Rattle.im_syntax.specs.Rules.{IsStmt, IsStmtOf};
-ghost use Rattle.im_parse.specs.inner.Statements.{whole_at};
 ghost use Rattle.im_parse.specs.Parsing.{IsReadAs, IsFaultAmong};
 
 use crate::beginnings::begins;
@@ -22,18 +19,6 @@ pub enum ParseFault {
     NoMemory,
 }
 
-/// A statement of all the tokens.
-#[tactic(auto, unfolding(crate::specs::inner::Statements::whole_at))]
-fn whole(alloc: Global, tokens: &[Token]) -> Result<Stmt, Halt>
-    ensures { Gives (λ s. Found s []) result (whole_at tokens.now) }
-{
-    let (stmt, rest) = statement(alloc, tokens)?;
-    match rest {
-        [] => Ok(stmt),
-        [_, ..] => Err(Halt::Left(rest.len())),
-    }
-}
-
 /// The statement that the tokens spell.
 ///
 /// An error is the number of tokens in the longest prefix that begins a statement, or out of memory. A NOT or a
@@ -46,8 +31,14 @@ pub fn parse(alloc: Global, tokens: &[Token]) -> Result<Stmt, ParseFault>
     // A fault is where the tokens leave the language.
     ensures place { IfErr result (IsFaultAmong IsStmt tokens.now) }
 {
-    match whole(alloc, tokens) {
-        Ok(stmt) => Ok(stmt),
+    match statement(alloc, tokens) {
+        Ok((stmt, rest)) => {
+            if rest.is_empty() {
+                Ok(stmt)
+            } else {
+                Err(ParseFault::At((tokens.len() - rest.len()) as u64))
+            }
+        }
         Err(Halt::NoMemory) => Err(ParseFault::NoMemory),
         Err(Halt::Left(left)) => Err(ParseFault::At((tokens.len() - left) as u64)),
     }

@@ -101,6 +101,10 @@ fn close(tokens: &[Token]) -> Result<(Stmt, &[Token]), Halt>
 }
 
 /// A statement by its first keyword.
+///
+/// It stays a call: it has room for the answer of each kind of statement, which is cleared where it begins, and most
+/// statements by far are INSERT, which go past it.
+#[inline(never)]
 fn statement_by(alloc: Global, keyword: Keyword, tokens: &[Token]) -> Result<(Stmt, &[Token]), Halt>
     ensures { Gives (λ x. Found x.0 x.1.now) result (statements.statement_by (of_keyword keyword) tokens.now) }
 {
@@ -135,6 +139,7 @@ pub fn statement(alloc: Global, tokens: &[Token]) -> Result<(Stmt, &[Token]), Ha
     ensures { Gives (λ x. Found x.0 x.1.now) result (statements.statement_at tokens.now) }
 {
     match peek(tokens)? {
+        Token::Keyword(Keyword::Insert) => insert(alloc, tokens),
         Token::Keyword(keyword) => statement_by(alloc, *keyword, tokens),
         _ => Err(Halt::Left(tokens.len())),
     }

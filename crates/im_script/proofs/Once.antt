@@ -1,13 +1,13 @@
 -- A line has one kind, where memory was there.
-use Rattle.std.proofs.Common.{◌≡◌, ◌≢◌, ℕ, ◌+◌, ◌<◌, List, length, drop, Result, Ok, Err, refl, sym, ap, subst, ◌∙◌, arith, inl, inr}
+use Rattle.std.proofs.Common.{◌≡◌, ◌≢◌, ℕ, ◌+◌, ◌<◌, List, length, drop, refl, sym, ap, subst, ◌∙◌, arith, inl, inr}
 use Rattle.std.proofs.lemmas.Bool.{cases_lt}
 use Rattle.im_syntax.specs.declared.token.Token.{Token}
 use Rattle.im_syntax.specs.declared.statement.Side.{Side}
 use Rattle.im_syntax.specs.declared.statement.Side.TheVariants as side
 use Rattle.im_syntax.specs.declared.statement.Stmt.{Stmt}
 use Rattle.im_syntax.specs.Rules.{IsStmtOf}
-use Rattle.im_lex.specs.Lexing.{Lexes, IsBadAt, tokens_of, places_of}
-use Rattle.im_lex.proofs.Rounds.{from_lexes, from_bad}
+use Rattle.im_lex.specs.Lexing.{tokens_of, places_of}
+use Rattle.im_lex.proofs.Rounds.{Tokens, lexes_once, bad_once, lexes_or_bad}
 use Rattle.im_parse.specs.Parsing.{IsPlaceAmong}
 use Rattle.im_parse.proofs.Places.{same_spelling}
 use Rattle.im_script.specs.declared.form.Form.{Form}
@@ -15,30 +15,6 @@ use Rattle.im_script.specs.declared.form.Form.TheVariants as form
 use Rattle.im_script.specs.declared.line.LineKind.{LineKind}
 use Rattle.im_script.specs.declared.line.LineKind.TheVariants as kind
 use Rattle.im_script.specs.Lines.{byte_of, Says, statement, bad_byte, bad_token, no_memory, HasKind}
-
-abbrev Tokens : Type 0
-Tokens = List (Token × ℕ)
-
-abbrev ok_tokens : Tokens → Result Tokens ℕ
-ok_tokens ts = Ok ts
-
-abbrev err_place : ℕ → Result Tokens ℕ
-err_place n = Err n
-
-lexes_once : (bs : List ℕ) (ts us : Tokens) → Lexes 0 bs ts → Lexes 0 bs us → ts ≡ us
-lexes_once bs ts us l m =
-    let twice : ok_tokens ts ≡ ok_tokens us = sym (from_lexes (length bs) 0 bs ts l (omega arith)) ∙ from_lexes (length bs) 0 bs us m (omega arith) in
-    cc
-
-bad_once : (bs : List ℕ) (n m : ℕ) → IsBadAt 0 bs n → IsBadAt 0 bs m → n ≡ m
-bad_once bs n m b c =
-    let twice : err_place n ≡ err_place m = sym (from_bad (length bs) 0 bs n b (omega arith)) ∙ from_bad (length bs) 0 bs m c (omega arith) in
-    cc
-
-lexes_or_bad : (bs : List ℕ) (ts : Tokens) (n : ℕ) → Lexes 0 bs ts → IsBadAt 0 bs n → ⊥
-lexes_or_bad bs ts n l b =
-    let twice : ok_tokens ts ≡ err_place n = sym (from_lexes (length bs) 0 bs ts l (omega arith)) ∙ from_bad (length bs) 0 bs n b (omega arith) in
-    cc
 
 not_longer : (good : Stmt → Type 0) (ts : List Token) (n m : ℕ) → IsPlaceAmong good ts n → IsPlaceAmong good ts m → n < m → ⊥
 not_longer good ts n m p q lt = p.longest.longer m lt q.longest.within q.longest.begins

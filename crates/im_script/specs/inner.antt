@@ -1,2 +1,2 @@
-pub mod Troubles
+pub mod Statements
 pub mod Putting

@@ -1,114 +1,56 @@
-ghost use Rattle.std.specs.Prelude.{◌≡◌, ◌+◌, ◌≤◌, ◌<◌, ◌^◌, length};
-ghost use Rattle.im_syntax.specs.declared.statement.Side.TheVariants as side;
-ghost use Rattle.im_script.specs.declared.line.LineKind.TheVariants as kind;
+ghost use Rattle.std.specs.Prelude.{◌≡◌, ◌+◌, ◌≤◌, ◌<◌, ◌^◌, ℕ, List, length, drop};
+ghost use Rattle.im_syntax.specs.declared.token.Token.{Token as AnyToken};
+ghost use Rattle.im_lex.specs.Lexing.{Lexes};
 ghost use Rattle.im_script.specs.Forms as forms;
 ghost use Rattle.im_script.specs.Lines as lines_are;
-ghost use Rattle.im_script.specs.inner.Troubles as troubles;
+ghost use Rattle.im_script.specs.inner.Statements as statements;
 
 use crate::form::Form;
 use crate::forms::{first, form, who};
 use crate::line::{Line, LineKind};
-use im_lex::{LexFault, Lexed, behind, lex};
+use im_lex::{LexFault, behind, lex, place_of};
 use im_parse::{ParseFault, parse_for};
 use im_syntax::{Side, Stmt};
 use std::alloc::Global;
 
-/// The byte of the n-th token, from 1, or the one past the line.
-fn byte_of(before: usize, long: usize, places: &[u64], n: u64) -> u64
-    requires fits { lines_are.byte_of before long places.now n < 2 ^ 64 }
-    ensures { result ≡ lines_are.byte_of before long places.now n }
-{
-    if n < places.len() as u64 {
-        before as u64 + places[n as usize] + 1
-    } else {
-        long as u64 + 1
-    }
-}
-
-/// Why a statement part gives no statement.
-pub enum Trouble {
-    /// The byte at which it leaves the language, from 1.
-    Bad(u64),
-    NoMemory,
-}
-
-fn trouble_of_byte(before: usize, fault: LexFault) -> Trouble
-    requires { troubles.FitsByte before fault }
-    ensures { result ≡ troubles.trouble_of_byte before fault }
-{
-    match fault {
-        LexFault::At(at) => Trouble::Bad(before as u64 + at + 1),
-        LexFault::NoMemory => Trouble::NoMemory,
-    }
-}
-
-fn trouble_of_place(before: usize, long: usize, places: &[u64], fault: ParseFault) -> Trouble
-    requires { troubles.FitPlaces before long places.now }
-    ensures { result ≡ troubles.trouble_of_place before long places.now fault }
-{
-    match fault {
-        ParseFault::At(n) => Trouble::Bad(byte_of(before, long, places, n)),
-        ParseFault::NoMemory => Trouble::NoMemory,
-    }
-}
-
-/// The statement that the tokens spell.
-fn parsed(
-    alloc: Global,
-    side: Side,
-    before: usize,
-    long: usize,
-    lexed: Lexed,
-) -> Result<Stmt, Trouble>
-    requires { troubles.FitPlaces before long lexed.places.items }
-    ensures { troubles.IsParsed side before long lexed.tokens.items lexed.places.items result }
-{
-    match parse_for(alloc, side, lexed.tokens.as_slice()) {
-        Ok(stmt) => Ok(stmt),
-        Err(fault) => Err(trouble_of_place(before, long, lexed.places.as_slice(), fault)),
-    }
-}
-
-/// The statement of a side behind so many bytes of a line.
-fn statement(alloc: Global, side: Side, before: usize, line: &[u8]) -> Result<Stmt, Trouble>
+/// The kind of a line that leaves the language at its n-th token, or behind all of them.
+#[cold]
+fn bad_token(alloc: Global, before: usize, line: &[u8], n: u64) -> LineKind
     requires within { before ≤ length line.now }
     requires short { length line.now < 2 ^ 32 }
-    ensures { troubles.IsTold side before line.now result }
+    ensures { (ts : List (AnyToken × ℕ)) → Lexes 0 (drop before line.now) ts → statements.IsBadToken before line.now ts n result }
+{
+    match place_of(alloc, behind(line, before), n) {
+        Ok(Some(place)) => LineKind::Bad(before as u64 + place + 1),
+        Ok(None) => LineKind::Bad(line.len() as u64 + 1),
+        Err(_) => LineKind::NoMemory,
+    }
+}
+
+/// The kind of a statement, of a session of this number or of the background.
+fn kind_of(side: Side, number: u32, stmt: Stmt) -> LineKind
+    ensures { result ≡ statements.kind_of side number stmt }
+{
+    match side {
+        Side::Session => LineKind::Session(number, stmt),
+        Side::Background => LineKind::Background(stmt),
+    }
+}
+
+/// What the statement part behind so many bytes of a line says.
+fn statement(alloc: Global, side: Side, number: u32, before: usize, line: &[u8]) -> LineKind
+    requires within { before ≤ length line.now }
+    requires short { length line.now < 2 ^ 32 }
+    ensures { lines_are.Says side before line.now (statements.kind_of side number) result }
 {
     match lex(alloc, behind(line, before)) {
-        Ok(lexed) => parsed(alloc, side, before, line.len(), lexed),
-        Err(fault) => Err(trouble_of_byte(before, fault)),
-    }
-}
-
-fn kind_of_trouble(trouble: Trouble) -> LineKind
-    ensures { result ≡ troubles.kind_of_trouble trouble }
-{
-    match trouble {
-        Trouble::Bad(byte) => LineKind::Bad(byte),
-        Trouble::NoMemory => LineKind::NoMemory,
-    }
-}
-
-fn session(alloc: Global, number: u32, before: usize, line: &[u8]) -> LineKind
-    requires within { before ≤ length line.now }
-    requires short { length line.now < 2 ^ 32 }
-    ensures { lines_are.Says side.Session before line.now (kind.Session number) result }
-{
-    match statement(alloc, Side::Session, before, line) {
-        Ok(stmt) => LineKind::Session(number, stmt),
-        Err(trouble) => kind_of_trouble(trouble),
-    }
-}
-
-fn background(alloc: Global, before: usize, line: &[u8]) -> LineKind
-    requires within { before ≤ length line.now }
-    requires short { length line.now < 2 ^ 32 }
-    ensures { lines_are.Says side.Background before line.now kind.Background result }
-{
-    match statement(alloc, Side::Background, before, line) {
-        Ok(stmt) => LineKind::Background(stmt),
-        Err(trouble) => kind_of_trouble(trouble),
+        Ok(tokens) => match parse_for(alloc, side, tokens.as_slice()) {
+            Ok(stmt) => kind_of(side, number, stmt),
+            Err(ParseFault::At(n)) => bad_token(alloc, before, line, n),
+            Err(ParseFault::NoMemory) => LineKind::NoMemory,
+        },
+        Err(LexFault::At(at)) => LineKind::Bad(before as u64 + at + 1),
+        Err(LexFault::NoMemory) => LineKind::NoMemory,
     }
 }
 
@@ -121,8 +63,8 @@ fn kind_of_form(alloc: Global, form: Form, line: &[u8]) -> LineKind
         Form::Skip => LineKind::Skip,
         Form::Race => LineKind::Race,
         Form::Bare => LineKind::Bad(first(line)),
-        Form::Session(number, before) => session(alloc, number, before, line),
-        Form::Background(before) => background(alloc, before, line),
+        Form::Session(number, before) => statement(alloc, Side::Session, number, before, line),
+        Form::Background(before) => statement(alloc, Side::Background, 0, before, line),
     }
 }
 

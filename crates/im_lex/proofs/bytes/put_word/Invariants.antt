@@ -1,6 +1,3 @@
-use Rattle.std.proofs.Common.{◌≡◌, ◌++◌, ◌≤◌, length, map, take, drop}
-use Rattle.std.specs.Char.{to_ascii_uppercase}
-use Rattle.im_lex.specs.Bytes.{run, is_word_part}
 use Rattle.im_lex.proofs.Capitals.{SoFarPut}
 use Rattle.im_lex.proofs.bytes.put_word.Given as goal
 
