@@ -26,12 +26,20 @@ const PIECE: usize = 1000;
 const ROOM: usize = 1_000_000;
 
 /// Scripts that are played by other words than `run`, and those words.
-const COMMANDS: [(&str, &[&str]); 6] = [
+const COMMANDS: [(&str, &[&str]); 11] = [
+    ("every_form", &["race"]),
+    ("every_reply", &["run", "--area", "202"]),
     ("full_area", &["run", "--area", "60"]),
+    (
+        "made_by_last_seed",
+        &["gen", "--rows", "150", "--seed", "4294967295"],
+    ),
     ("made_orders", &["gen", "--rows", "200", "--seed", "3"]),
     ("race_locked_row", &["race"]),
+    ("race_of_every_entry", &["race", "--area", "130"]),
     ("race_of_nobody", &["race"]),
     ("race_of_one", &["race"]),
+    ("race_of_spent_worker", &["race", "--turns", "3"]),
     ("race_of_workers", &["race"]),
 ];
 
