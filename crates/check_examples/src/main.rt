@@ -26,15 +26,23 @@ const PIECE: usize = 1000;
 const ROOM: usize = 1_000_000;
 
 /// Scripts that are played by other words than `run`, and those words.
-const COMMANDS: [(&str, &[&str]); 11] = [
+const COMMANDS: [(&str, &[&str]); 16] = [
+    ("every_form", &["race"]),
+    ("every_reply", &["run", "--area", "202"]),
     ("full_area", &["run", "--area", "60"]),
     ("lists_of_builds", &["run", "--area", "250"]),
+    (
+        "made_by_last_seed",
+        &["gen", "--rows", "150", "--seed", "4294967295"],
+    ),
     ("made_orders", &["gen", "--rows", "200", "--seed", "3"]),
     ("race_left_open", &["race"]),
     ("race_locked_row", &["race"]),
+    ("race_of_every_entry", &["race", "--area", "130"]),
     ("race_of_no_statement", &["race"]),
     ("race_of_nobody", &["race"]),
     ("race_of_one", &["race"]),
+    ("race_of_spent_worker", &["race", "--turns", "3"]),
     ("race_of_workers", &["race"]),
     ("race_over", &["race", "--turns", "10"]),
     ("race_spent_turns", &["race", "--turns", "4"]),

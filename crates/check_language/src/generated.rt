@@ -1,4 +1,4 @@
-use im_script::{LineKind, first_line, generate, lines};
+use im_script::generate;
 use std::test::Fail;
 
 /// The script of three orders, with seed 0.
@@ -27,21 +27,6 @@ fn line_count(script: &[u8]) -> usize {
     count
 }
 
-/// The line of a number, from 1, or nothing.
-fn line_at(script: &[u8], number: usize) -> &[u8] {
-    let mut rest = script;
-    let mut found = rest;
-    for _ in 0..number {
-        if rest.is_empty() {
-            return rest;
-        }
-        let (line, behind) = first_line(rest);
-        found = line;
-        rest = behind;
-    }
-    found
-}
-
 #[test]
 fn a_small_script_is_as_it_was_written_by_hand(rt: HostRuntime) -> Result<(), Fail> {
     assert!(rt; generate(rt.alloc(), 0, 3)?.as_slice() == THREE.as_bytes());
@@ -50,67 +35,11 @@ fn a_small_script_is_as_it_was_written_by_hand(rt: HostRuntime) -> Result<(), Fa
 
 #[test]
 fn an_insert_has_100_orders_and_a_commit_500_inserts(rt: HostRuntime) -> Result<(), Fail> {
-    let cases = [
-        (1, 12),
-        (100, 12),
-        (101, 13),
-        (5000, 61),
-        (50_000, 511),
-        (50_001, 513),
-        (500_000, 5020),
-    ];
+    let cases = [(100, 12), (101, 13), (50_000, 511), (50_001, 513)];
     for (rows, count) in cases {
         assert_eq!(rt;
             line_count(generate(rt.alloc(), 1, rows)?.as_slice()),
             count
-        );
-    }
-    Ok(())
-}
-
-#[test]
-fn amounts_go_by_the_seed_and_regions_by_the_number(rt: HostRuntime) -> Result<(), Fail> {
-    let script = generate(rt.alloc(), 999, 250)?;
-    let first = line_at(script.as_slice(), 2);
-    assert!(rt;
-        first.starts_with(b"1> INSERT INTO ORDERS VALUES (1, 'EAST', 36), (2, 'SOUTH', 73), ")
-    );
-    assert!(rt; first.ends_with(b", (99, 'WEST', 662), (100, 'NORTH', 699)"));
-    let last = line_at(script.as_slice(), 4);
-    assert!(rt; last.starts_with(b"1> INSERT INTO ORDERS VALUES (201, 'EAST', 436), "));
-    assert!(rt; last.ends_with(b", (250, 'SOUTH', 249)"));
-    let script = generate(rt.alloc(), 4294967295, 1)?;
-    let only = line_at(script.as_slice(), 2);
-    assert!(rt; only == b"1> INSERT INTO ORDERS VALUES (1, 'EAST', 332)".as_slice());
-    Ok(())
-}
-
-#[test]
-fn what_is_left_behind_500_inserts_is_committed_too(rt: HostRuntime) -> Result<(), Fail> {
-    let script = generate(rt.alloc(), 0, 50_001)?;
-    let cases: [(usize, &[u8]); 4] = [
-        (502, b"1> COMMIT"),
-        (503, b"1> INSERT INTO ORDERS VALUES (50001, 'EAST', 37)"),
-        (504, b"1> COMMIT"),
-        (505, b"bg> RUN"),
-    ];
-    for (number, line) in cases {
-        assert!(rt; line_at(script.as_slice(), number) == line);
-    }
-    Ok(())
-}
-
-#[test]
-fn each_line_of_it_is_a_statement(rt: HostRuntime) -> Result<(), Fail> {
-    let script = generate(rt.alloc(), 7, 250)?;
-    let read = lines(rt.alloc(), script.as_slice())?;
-    assert_eq!(rt; read.len(), 14);
-    for line in &read {
-        assert!(rt;
-            matches!(
-                &line.kind,
-                LineKind::Session(1, _) | LineKind::Background(_)
-            )
         );
     }
     Ok(())

@@ -1,23 +1,14 @@
-//! What no clause shows of the language: which bytes are tokens, which tokens are statements, which lines are wrong at which
-//! byte, and which fault of names is the first.
+//! What no clause and no script shows of the language: that a statement is spelled again where memory is there, lists with and
+//! without a limit, and the text of scripts that are made.
 //!
-//! Nothing here is for callers. Each file tests the crate that it is named after, by public calls alone, and takes what is
-//! wanted from the manual, `docs/language.md`, and not from the program.
+//! Nothing here is for callers. Each file tests the crate that it is named after, but for `generated`, which tests the scripts
+//! that `im_script` makes. Which lines are statements, which are wrong at which byte, and which fault of names is the first, is
+//! shown by the scripts of `check_examples`.
 #![tactic(auto)]
 
 #[cfg(test)]
 mod generated;
 #[cfg(test)]
-mod lex;
-#[cfg(test)]
-mod names;
-#[cfg(test)]
-mod parse;
-#[cfg(test)]
 mod readers;
 #[cfg(test)]
-mod script;
-#[cfg(test)]
 mod syntax;
-#[cfg(test)]
-mod texts;

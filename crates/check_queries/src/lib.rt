@@ -1,24 +1,14 @@
-//! What no clause shows of queries and of the program's edges: the order and truth of SQL's values, answers of groups and
-//! sums, the text of each reply and of a report, the words of the command, and what sources and sinks do when they stumble.
+//! What no clause and no script shows of texts and of the program's edges: texts of what a script does not come to, texts that
+//! wait behind each other, the words of the command, and what sources and sinks do when they stumble.
 //!
-//! Nothing here is for callers. Each file tests the crate that it is named after, by public calls alone; `report.rt` tests what
-//! `im_text` has beside replies. They take what is wanted from SQL and from the manual, `docs/replies.md` and
-//! `docs/report.md`, and not from the program.
+//! Nothing here is for callers. Each file tests the crate that it is named after, by public calls alone. They take what is wanted
+//! from the manual, `docs/replies.md` and `docs/report.md`, and not from the program. Conditions, answers, and the texts of
+//! replies and of reports are shown by the scripts of `check_examples`.
 #![tactic(auto)]
 
 #[cfg(test)]
 mod edge;
 #[cfg(test)]
-mod eval;
-#[cfg(test)]
-mod group;
-#[cfg(test)]
-mod replies;
-#[cfg(test)]
-mod report;
-#[cfg(test)]
 mod text;
-#[cfg(test)]
-mod values;
 #[cfg(test)]
 mod words;

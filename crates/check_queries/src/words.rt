@@ -107,7 +107,6 @@ fn words_that_clap_refuses_are_wrong(rt: HostRuntime) -> Result<(), Fail> {
     let alloc = rt.alloc();
     let cases = [
         "ime",
-        "ime walk",
         "ime Run",
         "ime rac",
         "ime gens",
@@ -122,20 +121,14 @@ fn words_that_clap_refuses_are_wrong(rt: HostRuntime) -> Result<(), Fail> {
         "ime run --rows 500001",
         "ime run --seed 4294967296",
         "ime run --area -1",
-        "ime run --area=-1",
         "ime run --area=",
         "ime run --area 5x",
         "ime run --area",
-        "ime run --area --rows 5",
         "ime run --area 5 --area 5",
         "ime run --are 5",
-        "ime run -a 5",
         "ime run --help",
-        "ime run -h",
-        "ime run --version",
-        "ime run -V",
         "ime help",
-        "ime run --stop 5",
+        "ime run -V",
     ];
     for line in cases.iter() {
         assert_eq!(rt; read(alloc, line)?, Err(WordsFault::Usage), "{line}");
