@@ -26,7 +26,7 @@ const PIECE: usize = 1000;
 const ROOM: usize = 1_000_000;
 
 /// Scripts that are played by other words than `run`, and those words.
-const COMMANDS: [(&str, &[&str]); 16] = [
+const COMMANDS: [(&str, &[&str]); 15] = [
     ("every_form", &["race"]),
     ("every_reply", &["run", "--area", "202"]),
     ("full_area", &["run", "--area", "60"]),
@@ -42,7 +42,6 @@ const COMMANDS: [(&str, &[&str]); 16] = [
     ("race_of_no_statement", &["race"]),
     ("race_of_nobody", &["race"]),
     ("race_of_one", &["race"]),
-    ("race_of_spent_worker", &["race", "--turns", "3"]),
     ("race_of_workers", &["race"]),
     ("race_over", &["race", "--turns", "10"]),
     ("race_spent_turns", &["race", "--turns", "4"]),
