@@ -47,15 +47,15 @@ fn lines_have_their_tokens_or_a_first_bad_byte(rt: HostRuntime) -> Result<(), Fa
         (b"\x0b", b'x', 0),
     ];
     for (line, kind, number) in cases {
-        let found = lex(rt.alloc(), line).map(|lexed| lexed.tokens.len());
+        let found = lex(rt.alloc(), line).map(|tokens| tokens.len());
         assert_eq!(rt; told(found), (kind, number));
     }
     assert_eq!(rt;
-        told(lex(rt.alloc(), &[b'a'; 128]).map(|lexed| lexed.tokens.len())),
+        told(lex(rt.alloc(), &[b'a'; 128]).map(|tokens| tokens.len())),
         (b't', 1)
     );
     assert_eq!(rt;
-        told(lex(rt.alloc(), &[b'a'; 129]).map(|lexed| lexed.tokens.len())),
+        told(lex(rt.alloc(), &[b'a'; 129]).map(|tokens| tokens.len())),
         (b'x', 0)
     );
     Ok(())

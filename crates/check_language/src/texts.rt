@@ -4,10 +4,10 @@ use im_syntax::Token;
 use std::alloc::Global;
 use std::test::Fail;
 
-/// The tokens of a statement, without their places.
+/// The tokens of a statement.
 pub fn tokens_of(alloc: Global, text: &[u8]) -> Result<Vec<Token>, Fail> {
     match lex(alloc, text) {
-        Ok(lexed) => Ok(lexed.tokens),
+        Ok(tokens) => Ok(tokens),
         Err(_) => Err(Fail::from("a byte is bad")),
     }
 }

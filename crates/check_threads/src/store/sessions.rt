@@ -52,8 +52,8 @@ const SCRIPTS: [&[&[u8]]; 2] = [
 pub(crate) fn statement(alloc: Global, text: &[u8]) -> Option<Stmt>
     ensures { IfSome result IsStmt }
 {
-    let lexed = lex(alloc, text).ok()?;
-    parse(alloc, lexed.tokens.as_slice()).ok()
+    let tokens = lex(alloc, text).ok()?;
+    parse(alloc, tokens.as_slice()).ok()
 }
 
 /// A session plays a statement, and answers whether it was refused.
