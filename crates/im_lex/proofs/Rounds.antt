@@ -160,7 +160,14 @@ below_most n most le other is =
     ]
 
 pub so_far_none : (line : List ℕ) → SoFar 0 line []
-so_far_none line = record { pairs = []; tokens_are = refl; goes_on = λ ts l. l; back = λ ts l. record { rest = ts; lexes = l; are = refl }; bad = λ n b. b; within = omega arith }
+so_far_none line = record {
+  pairs = [];
+  tokens_are = refl;
+  goes_on = λ ts l. l;
+  back = λ ts l. record { rest = ts; lexes = l; are = refl };
+  bad = λ n b. b;
+  within = omega arith;
+}
 
 pub token_room : (at : ℕ) (line : List ℕ) (t : Token) (more : ℕ) → at ≤ length line → front (drop at line) ≡ Lexed t more → at + 1 + more ≤ length line
 token_room at line t more within e =

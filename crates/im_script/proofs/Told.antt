@@ -19,7 +19,8 @@ bad_within at bs n (behind_blank at2 b cs m e rest) = omega (arith, bad_within (
 bad_within at bs n (behind_token at2 b cs t more m e rest) =
     omega (arith, token_all_fits (b ∷ cs) t more e, bad_within (at2 + 1 + more) (drop more cs) m rest, length-drop more cs)
 
-pub bad_byte_fits : (before : ℕ) (line : List ℕ) (n : ℕ) → before ≤ length line → length line < 2 ^ 32 → IsBadAt 0 (drop before line) n → before + n + 1 < 2 ^ 64
+pub bad_byte_fits : (before : ℕ) (line : List ℕ) (n : ℕ) → before ≤ length line → length line < 2 ^ 32 → IsBadAt 0 (drop before line) n
+    → before + n + 1 < 2 ^ 64
 bad_byte_fits before line n le short b = omega (arith, bad_within 0 (drop before line) n b, length-drop before line)
 
 -- ---- what is said

@@ -42,7 +42,8 @@ loop-preserved c =
             c.loop.invariant.3,
           )
       | in-Lexed+else-len-most+in_ok-push-in-Lexed w ↦
-          let fewer : length c.loop.tokens.items ≢ c.args.most = λ (same : length c.loop.tokens.items ≡ c.args.most). w.if-len-most.false (omega (arith, c.loop.tokens.ok, w.len.ensures, same)) in
+          let fewer : length c.loop.tokens.items ≢ c.args.most =
+          λ (same : length c.loop.tokens.items ≡ c.args.most). w.if-len-most.false (omega (arith, c.loop.tokens.ok, w.len.ensures, same)) in
           let one = length-append c.loop.tokens.items (w.in-Lexed.token ∷ []) in
           let most = c.loop.invariant.3 in
           let some = c.loop.invariant.2 in
