@@ -4,7 +4,6 @@ use Rattle.std.specs.Bool.{OnTrue}
 use Rattle.std.specs.Option.{IfNone, IsSome}
 use Rattle.std.specs.Ordering.{is_eq, is_lt}
 use Rattle.std.specs.List.{list_any}
-use Rattle.std.specs.Cmp.Lexicographic.{texts_ties}
 use Rattle.std.specs.List.Sorted.{IsStrictlySortedBy}
 use Rattle.std.specs.declared.cmp.Ordering.TheVariants.{Less}
 use Rattle.std.proofs.lemmas.List.{length-map, get_or-map, get_or_default, get_or_append_left, get_or_at, length_push, map_push, take_more, take_all, same_lists}
@@ -18,7 +17,7 @@ use Rattle.im_values.specs.contracts.value.ValuePartialEq.TheImpl as value_eq
 use Rattle.im_values.specs.declared.value.Value.{Value}
 use Rattle.im_values.specs.declared.value.Value.TheVariants.{Int, Text, Null}
 use Rattle.im_values.specs.Order.{order}
-use Rattle.im_values.proofs.ForCallers.{order_total}
+use Rattle.im_values.proofs.ForCallers.{order_total, value_ties}
 use Rattle.im_codes.specs.Dictionary.{coded, lent, present, values_at, StandAt, IsSortedSetOf, IsDictionaryOf, AreCodesOf}
 use Rattle.im_codes.specs.inner.Numbering.{AreAmong, IsNumbering, IsNumberedTo, Adds}
 use Rattle.im_codes.proofs.DictLemmas.{same_is, Less-from_is_lt}
@@ -50,18 +49,7 @@ pub found-at : (seen : List (Bor Value)) (k : ℕ) (r : Bor Value) (value : Valu
 found-at seen k r value inside is ties =
     slice_get-get_or (lent seen) k value (omega (arith, length-lent seen)) ∙ ap Some (lent-at seen k r inside is value ∙ same_is r.now value ties)
 
--- equality of values, as it is derived, is that they tie
-value_ties : (a b : Value) → (value_eq.ghosts).eq a b ≡ is_eq (order a b)
-value_ties (Int a) (Int b) = refl
-value_ties (Int a) (Text b) = refl
-value_ties (Int a) Null = refl
-value_ties (Text a) (Int b) = refl
-value_ties (Text a) (Text b) = texts_ties a b
-value_ties (Text a) Null = refl
-value_ties Null (Int b) = refl
-value_ties Null (Text b) = refl
-value_ties Null Null = refl
-
+-- values that are equal, as equality is derived, are the same
 pub same_equal : (a b : Value) → (value_eq.ghosts).eq a b ≡ true → a ≡ b
 same_equal a b e = same_is a b (sym (value_ties a b) ∙ e)
 

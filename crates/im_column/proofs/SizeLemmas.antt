@@ -108,12 +108,22 @@ runs-sized values dict list size is own stand e =
     e ∙ (ap (λ n. sum_by value_bytes dict + 8 * n) (run_count-codes values dict list own stand)
     ∙ ap (λ l. sum_by value_bytes l + 8 * run_count values) is)
 
-pub sized : (values dict : List Value) (list : List ℕ) (c r : ℕ) → IsDictionaryOf values dict → AreCodesOf values dict list →
+-- sizes of the three forms of values
+pub record AreSizes (values : List Value) (p c r : ℕ) : Type 0 where
+  pub plain : p ≡ plain_bytes values
+  pub coded : c ≡ coded_bytes values
+  pub runs : r ≡ runs_bytes values
+
+pub are-sizes : (values dict : List Value) (list : List ℕ) (p c r : ℕ) → p ≡ plain_bytes values → IsDictionaryOf values dict → AreCodesOf values dict list →
     c ≡ sum_by value_bytes dict + 8 * words_for (length list) (width_for (length dict)) → r ≡ sum_by value_bytes dict + 8 * codes.run_count list →
-    (c ≡ coded_bytes values) × (r ≡ runs_bytes values)
-sized values dict list c r set stand ec er =
+    AreSizes values p c r
+are-sizes values dict list p c r ep set stand ec er =
     let is = dictionary-is values dict set in
-    (coded-sized values dict list c is stand ec, runs-sized values dict list r is (is-dictionary values dict set) stand er)
+    record {
+      plain = ep;
+      coded = coded-sized values dict list c is stand ec;
+      runs = runs-sized values dict list r is (is-dictionary values dict set) stand er;
+    }
 
 -- the least of the three
 shape-plain : (p c r : ℕ) → p ≤ c → p ≤ r → least_shape p c r ≡ Plain
@@ -125,20 +135,17 @@ shape-coded p c r h g = grind (arith, nat_tests)
 shape-runs : (p c r : ℕ) → min c r < p → r < c → least_shape p c r ≡ Runs
 shape-runs p c r h g = grind (arith, nat_tests)
 
-pub least-plain : (values : List Value) (p c r : ℕ) → p ≡ plain_bytes values → c ≡ coded_bytes values → r ≡ runs_bytes values → p ≤ min c r →
-    (shape_of values ≡ Plain) × (p ≡ column_bytes values)
-least-plain values p c r ip ic ir least =
-    (rw (← ip, ← ic, ← ir) (shape-plain p c r (omega arith) (omega arith)), rw (← ip, ← ic, ← ir) (omega arith))
+pub least-plain : (values : List Value) (p c r : ℕ) → AreSizes values p c r → p ≤ min c r → (shape_of values ≡ Plain) × (p ≡ column_bytes values)
+least-plain values p c r are least =
+    (rw (← are.plain, ← are.coded, ← are.runs) (shape-plain p c r (omega arith) (omega arith)), rw (← are.plain, ← are.coded, ← are.runs) (omega arith))
 
-pub least-coded : (values : List Value) (p c r : ℕ) → p ≡ plain_bytes values → c ≡ coded_bytes values → r ≡ runs_bytes values → min c r < p → c ≤ r →
-    (shape_of values ≡ Coded) × (c ≡ column_bytes values)
-least-coded values p c r ip ic ir less least =
-    (rw (← ip, ← ic, ← ir) (shape-coded p c r less least), rw (← ip, ← ic, ← ir) (omega arith))
+pub least-coded : (values : List Value) (p c r : ℕ) → AreSizes values p c r → min c r < p → c ≤ r → (shape_of values ≡ Coded) × (c ≡ column_bytes values)
+least-coded values p c r are less least =
+    (rw (← are.plain, ← are.coded, ← are.runs) (shape-coded p c r less least), rw (← are.plain, ← are.coded, ← are.runs) (omega arith))
 
-pub least-runs : (values : List Value) (p c r : ℕ) → p ≡ plain_bytes values → c ≡ coded_bytes values → r ≡ runs_bytes values → min c r < p → r < c →
-    (shape_of values ≡ Runs) × (r ≡ column_bytes values)
-least-runs values p c r ip ic ir less least =
-    (rw (← ip, ← ic, ← ir) (shape-runs p c r less least), rw (← ip, ← ic, ← ir) (omega arith))
+pub least-runs : (values : List Value) (p c r : ℕ) → AreSizes values p c r → min c r < p → r < c → (shape_of values ≡ Runs) × (r ≡ column_bytes values)
+least-runs values p c r are less least =
+    (rw (← are.plain, ← are.coded, ← are.runs) (shape-runs p c r less least), rw (← are.plain, ← are.coded, ← are.runs) (omega arith))
 
 -- values that rise take the least bytes as they are
 pub rising-plain : (values : List Value) (plain : ℕ) → AreRising values → plain ≡ plain_bytes values →
@@ -147,7 +154,7 @@ unfolding plain_bytes coded_bytes runs_bytes
 rising-plain values plain rising is =
     let own : dictionary values ≡ values = dictionary-rising values rising.sorted rising.some in
     let bytes : sum_by value_bytes (dictionary values) ≡ sum_by value_bytes values = ap (λ l. sum_by value_bytes l) own in
-    least-plain values plain (coded_bytes values) (runs_bytes values) is refl refl (omega (arith, bytes, is))
+    least-plain values plain (coded_bytes values) (runs_bytes values) (record { plain = is; coded = refl; runs = refl }) (omega (arith, bytes, is))
 
 -- the values of a dictionary are short where those of its list are
 pub short-dictionary : (values dict : List Value) → IsDictionaryOf values dict → All IsShort values → All IsShort dict

@@ -1,29 +1,19 @@
 -- Keys are equal exactly where their values tie in SQL's order.
 use Rattle.std.proofs.Common.{◌≡◌, Bool, ◌&&◌, List, [], ◌∷◌, map, refl, ap, ◌∙◌}
-use Rattle.std.specs.Ordering.{is_eq, ordering_then}
-use Rattle.std.specs.Cmp.Lexicographic.{pointwise, slice_cmp, lists_ties, texts_ties}
+use Rattle.std.specs.Ordering.{ordering_then}
+use Rattle.std.specs.Cmp.Lexicographic.{pointwise, slice_cmp, lists_ties}
 use denote.Ref.{Bor}
 use Rattle.im_values.specs.contracts.value.ValuePartialEq.TheImpl as value_eq
 use Rattle.im_values.specs.contracts.value.ValueOrd.TheImpl as value_ord
 use Rattle.im_values.specs.declared.value.Value.{Value}
 use Rattle.im_values.specs.declared.value.Value.TheVariants.{Int, Text, Null}
 use Rattle.im_values.specs.Order.{order}
+use Rattle.im_values.proofs.ForCallers.{value_ties}
 use Rattle.im_group.specs.Partials.{key_order, is_key}
 
 -- equality of values, as it is derived
 abbrev pub same_value : Value → Value → Bool
 same_value = (value_eq.ghosts).eq
-
-value_ties : (a b : Value) → same_value a b ≡ is_eq (order a b)
-value_ties (Int a) (Int b) = refl
-value_ties (Int a) (Text b) = refl
-value_ties (Int a) Null = refl
-value_ties (Text a) (Int b) = refl
-value_ties (Text a) (Text b) = texts_ties a b
-value_ties (Text a) Null = refl
-value_ties Null (Int b) = refl
-value_ties Null (Text b) = refl
-value_ties Null Null = refl
 
 pub keys_tie : (xs ys : List Value) → pointwise same_value xs ys ≡ is_key xs ys
 keys_tie = lists_ties order value_ties
@@ -43,14 +33,9 @@ lent_keys_tie xs ys = lent_keys xs ys ∙ keys_tie (map (λ v. v.now) xs) (map (
 -- the order of values, as it is derived
 value_orders : (a b : Value) → (value_ord.ghosts).cmp a b ≡ order a b
 value_orders (Int a) (Int b) = refl
-value_orders (Int a) (Text b) = refl
-value_orders (Int a) Null = refl
-value_orders (Text a) (Int b) = refl
 value_orders (Text a) (Text b) = refl
-value_orders (Text a) Null = refl
-value_orders Null (Int b) = refl
-value_orders Null (Text b) = refl
 value_orders Null Null = refl
+value_orders a b = refl
 
 pub keys_order : (xs ys : List Value) → slice_cmp ((value_ord.ghosts).cmp) xs ys ≡ key_order xs ys
 keys_order [] [] = refl

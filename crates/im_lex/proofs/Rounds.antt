@@ -1,5 +1,5 @@
 -- The tokens of a line, round by round, and that a line has its tokens or its first bad byte once.
-use Rattle.std.proofs.Common.{◌≡◌, ℕ, zero, suc, ◌+◌, ◌≤◌, List, [], ◌∷◌, ◌++◌, length, drop, length-drop, Option, Some, None, Result, Ok, Err, refl, sym, ap, subst, ◌∙◌, append_assoc, inl, inr, arith}
+use Rattle.std.proofs.Common.{◌≡◌, ℕ, zero, suc, ◌+◌, ◌<◌, ◌≤◌, List, [], ◌∷◌, ◌++◌, length, drop, length-drop, Option, Some, None, Result, Ok, Err, refl, sym, ap, subst, ◌∙◌, append_assoc, inl, inr, arith}
 use Rattle.std.proofs.lemmas.List.{append-nil, drop-drop, drop_all, length-map, map_push}
 use Rattle.std.proofs.lemmas.Bool.{cases_lt}
 use Rattle.std.specs.Prelude.{IfSome, slice_get}
@@ -34,57 +34,46 @@ lexed_in : ℕ → ℕ → List ℕ → Result Tokens ℕ
 lexed_in zero at bs = Ok []
 lexed_in (suc k) at bs = round_of (lexed_in k) at (front bs) bs
 
-from_lexes : (k at : ℕ) (bs : List ℕ) (ts : Tokens) → Lexes at bs ts → length bs ≤ k → lexed_in k at bs ≡ Ok ts
-unfolding lexed_in round_of with_token
-from_lexes zero at bs ts (ends at2 bs2 e) le = refl
-from_lexes (suc k) at bs ts (ends at2 bs2 e) le = ap (λ (x : Front). round_of (lexed_in k) at2 x bs2) e
-from_lexes zero at bs ts (skips at2 b cs us e rest) le = absurd (omega arith)
-from_lexes (suc k) at bs ts (skips at2 b cs us e rest) le =
-    ap (λ (x : Front). round_of (lexed_in k) at2 x (b ∷ cs)) e ∙ from_lexes k (at2 + 1) cs us rest (omega arith)
-from_lexes zero at bs ts (takes at2 b cs t more us e rest) le = absurd (omega arith)
-from_lexes (suc k) at bs ts (takes at2 b cs t more us e rest) le =
-    ap (λ (x : Front). round_of (lexed_in k) at2 x (b ∷ cs)) e
-    ∙ ap (with_token t at2) (from_lexes k (at2 + 1 + more) (drop more cs) us rest (omega (arith, length-drop more cs)))
+-- a round goes on with what stands at the front
+first_round : (k at : ℕ) (bs : List ℕ) {f : Front} → front bs ≡ f → lexed_in (suc k) at bs ≡ round_of (lexed_in k) at f bs
+unfolding lexed_in
+first_round k at bs e = ap (λ x. round_of (lexed_in k) at x bs) e
 
-bad_some : (bs : List ℕ) → front bs ≡ Bad → 1 ≤ length bs
-unfolding front
-bad_some [] e = absurd cc
-bad_some (b ∷ bs) e = omega arith
+-- a line's tokens, or its first bad byte
+abbrev Yields : ℕ → List ℕ → Result Tokens ℕ → Type 0
+Yields at bs (Ok ts) = Lexes at bs ts
+Yields at bs (Err n) = IsBadAt at bs n
 
-from_bad : (k at : ℕ) (bs : List ℕ) (n : ℕ) → IsBadAt at bs n → length bs ≤ k → lexed_in k at bs ≡ Err n
+from_yields : (k at : ℕ) (bs : List ℕ) (r : Result Tokens ℕ) → Yields at bs r → length bs < k → lexed_in k at bs ≡ r
 unfolding lexed_in round_of with_token
-from_bad zero at bs n (is_bad at2 bs2 e) le = absurd (omega (arith, bad_some bs2 e))
-from_bad (suc k) at bs n (is_bad at2 bs2 e) le = ap (λ (x : Front). round_of (lexed_in k) at2 x bs2) e
-from_bad zero at bs n (behind_blank at2 b cs m e rest) le = absurd (omega arith)
-from_bad (suc k) at bs n (behind_blank at2 b cs m e rest) le =
-    ap (λ (x : Front). round_of (lexed_in k) at2 x (b ∷ cs)) e ∙ from_bad k (at2 + 1) cs m rest (omega arith)
-from_bad zero at bs n (behind_token at2 b cs t more m e rest) le = absurd (omega arith)
-from_bad (suc k) at bs n (behind_token at2 b cs t more m e rest) le =
-    ap (λ (x : Front). round_of (lexed_in k) at2 x (b ∷ cs)) e
-    ∙ ap (with_token t at2) (from_bad k (at2 + 1 + more) (drop more cs) m rest (omega (arith, length-drop more cs)))
+from_yields zero at bs r is lt = absurd (omega arith)
+from_yields (suc k) at bs (Ok ts) (ends at2 bs2 e) lt = first_round k at2 bs2 e
+from_yields (suc k) at bs (Ok ts) (skips at2 b cs us e rest) lt =
+    first_round k at2 (b ∷ cs) e ∙ from_yields k (at2 + 1) cs (Ok us) rest (omega arith)
+from_yields (suc k) at bs (Ok ts) (takes at2 b cs t more us e rest) lt =
+    first_round k at2 (b ∷ cs) e
+    ∙ ap (with_token t at2) (from_yields k (at2 + 1 + more) (drop more cs) (Ok us) rest (omega (arith, length-drop more cs)))
+from_yields (suc k) at bs (Err n) (is_bad at2 bs2 e) lt = first_round k at2 bs2 e
+from_yields (suc k) at bs (Err n) (behind_blank at2 b cs m e rest) lt =
+    first_round k at2 (b ∷ cs) e ∙ from_yields k (at2 + 1) cs (Err m) rest (omega arith)
+from_yields (suc k) at bs (Err n) (behind_token at2 b cs t more m e rest) lt =
+    first_round k at2 (b ∷ cs) e
+    ∙ ap (with_token t at2) (from_yields k (at2 + 1 + more) (drop more cs) (Err m) rest (omega (arith, length-drop more cs)))
 
 -- ---- a line has its tokens or its first bad byte, once
 
-abbrev ok_tokens : Tokens → Result Tokens ℕ
-ok_tokens ts = Ok ts
-
-abbrev err_place : ℕ → Result Tokens ℕ
-err_place n = Err n
+yields_once : (bs : List ℕ) (r s : Result Tokens ℕ) → Yields 0 bs r → Yields 0 bs s → r ≡ s
+yields_once bs r s first second =
+    sym (from_yields (suc (length bs)) 0 bs r first (omega arith)) ∙ from_yields (suc (length bs)) 0 bs s second (omega arith)
 
 pub lexes_once : (bs : List ℕ) (ts us : Tokens) → Lexes 0 bs ts → Lexes 0 bs us → ts ≡ us
-lexes_once bs ts us l m =
-    let twice : ok_tokens ts ≡ ok_tokens us = sym (from_lexes (length bs) 0 bs ts l (omega arith)) ∙ from_lexes (length bs) 0 bs us m (omega arith) in
-    cc
+lexes_once bs ts us l m = let same = yields_once bs (Ok ts) (Ok us) l m in cc
 
 pub bad_once : (bs : List ℕ) (n m : ℕ) → IsBadAt 0 bs n → IsBadAt 0 bs m → n ≡ m
-bad_once bs n m b c =
-    let twice : err_place n ≡ err_place m = sym (from_bad (length bs) 0 bs n b (omega arith)) ∙ from_bad (length bs) 0 bs m c (omega arith) in
-    cc
+bad_once bs n m b c = let same = yields_once bs (Err n) (Err m) b c in cc
 
 pub lexes_or_bad : (bs : List ℕ) (ts : Tokens) (n : ℕ) → Lexes 0 bs ts → IsBadAt 0 bs n → ⊥
-lexes_or_bad bs ts n l b =
-    let twice : ok_tokens ts ≡ err_place n = sym (from_lexes (length bs) 0 bs ts l (omega arith)) ∙ from_bad (length bs) 0 bs n b (omega arith) in
-    cc
+lexes_or_bad bs ts n l b = let same = yields_once bs (Ok ts) (Err n) l b in cc
 
 -- ---- one round, and what stands behind it
 

@@ -71,17 +71,12 @@ test_back zero (within c n vs) g e = record { of = (c, ranged n (among vs)); is 
 test_back (suc d) (within c n vs) g e = record { of = (c, ranged n (among vs)); is = refl; is_good = (g.0, g.1) }
 
 test_spells : (c : List ℕ) (t : Tail) → spell_term (test_of (c, t)) ≡ token.Word c ∷ spell_tail t
-test_spells c (compared m v) = refl
-test_spells c (is_null b) = refl
 test_spells c (ranged b (from_to l h)) = refl
-test_spells c (ranged b (among vs)) = refl
+test_spells c t = refl
 
 test_goes : (c : List ℕ) (t : Tail) (u : Token) → false ≡ goes_behind (spell_tail t) (never c) (never t) u
-test_goes c (compared m v) u = refl
-test_goes c (is_null b) u = refl
-test_goes c (ranged true r) u = refl
 test_goes c (ranged false (from_to l h)) u = refl
-test_goes c (ranged false (among vs)) u = refl
+test_goes c t u = refl
 
 test_law : (d : ℕ) → Reads spell_term (GoodFirst (IsTerm d) first_term name) never test_at
 unfolding test_at
@@ -204,10 +199,7 @@ is_plain l = false
 all_plain : (t : Written) → IsTerm 0 t → is_plain (first_term t) ≡ true
 all_plain (negation t) g = absurd g
 all_plain (nested c) g = absurd g
-all_plain (comparison c m v) g = refl
-all_plain (null_test c n) g = refl
-all_plain (between c n l h) g = refl
-all_plain (within c n vs) g = refl
+all_plain t g = refl
 
 flat_choices : (l : Lead) → Choice spell_term (IsTerm 0) never first_term l (term_by nothing nothing l)
 flat_choices name = chosen (test_law 0)
@@ -223,27 +215,15 @@ is_term l = false
 
 all_terms : (d : ℕ) (t : Written) → IsTerm d t → is_term (first_term t) ≡ true
 all_terms d (negation t) g = refl
-all_terms d (nested c) g = refl
-all_terms d (comparison c m v) g = refl
-all_terms d (null_test c n) g = refl
-all_terms d (between c n l h) g = refl
-all_terms d (within c n vs) g = refl
+all_terms d t g = refl
 
 negation_back : (d : ℕ) (t : Written) → IsTerm (suc d) t → first_term t ≡ (keyword key.Not) → Makes negation (IsTerm d) t
 negation_back d (negation t) g e = record { of = t; is = refl; is_good = g }
-negation_back d (nested c) g e = absurd cc
-negation_back d (comparison c m v) g e = absurd cc
-negation_back d (null_test c n) g e = absurd cc
-negation_back d (between c n l h) g e = absurd cc
-negation_back d (within c n vs) g e = absurd cc
+negation_back d t g e = absurd cc
 
 nested_back : (d : ℕ) (t : Written) → IsTerm (suc d) t → first_term t ≡ parenthesis → Makes nested (IsCond d) t
-nested_back d (negation t) g e = absurd cc
 nested_back d (nested c) g e = record { of = c; is = refl; is_good = g }
-nested_back d (comparison c m v) g e = absurd cc
-nested_back d (null_test c n) g e = absurd cc
-nested_back d (between c n l h) g e = absurd cc
-nested_back d (within c n vs) g e = absurd cc
+nested_back d t g e = absurd cc
 
 deep_choices : (d : ℕ) (p : List Token → Read Token Written) → Reads spell_term (IsTerm d) never p
     → (l : Lead) → Choice spell_term (IsTerm (suc d)) never first_term l (term_by (negation_with p) (nested_with p) l)

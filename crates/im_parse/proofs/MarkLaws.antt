@@ -32,10 +32,7 @@ Ends-never a (t ∷ ts) = at_other t ts refl
 
 key_only : (k : Keyword) (t : Token) → is_key k t ≡ true → t ≡ word k
 key_only k (token.Keyword j) e = ap token.Keyword (same_true the_type tt j k e)
-key_only k (token.Word w) e = absurd cc
-key_only k (token.Int n) e = absurd cc
-key_only k (token.Text x) e = absurd cc
-key_only k (token.Sign s) e = absurd cc
+key_only k t e = absurd cc
 
 pub key_mark : (k : Keyword) → IsMark (word k) (is_key k)
 key_mark k = record { only = key_only k; itself = true_same the_type k k refl }
@@ -114,10 +111,7 @@ name_sound : (t : Token) (a : List ℕ) → name_of t ≡ Some a → (t ≡ toke
 name_sound (token.Word w) a e =
     let c = chosen (is_name w) w a e in
     (ap token.Word c.1, subst IsName c.1 (record { holds = c.0 }))
-name_sound (token.Keyword k) a e = absurd cc
-name_sound (token.Int n) a e = absurd cc
-name_sound (token.Text x) a e = absurd cc
-name_sound (token.Sign s) a e = absurd cc
+name_sound t a e = absurd cc
 
 name_table : IsTable token.Word IsName name_of
 name_table = record {
@@ -142,11 +136,7 @@ within_sound low high n a e =
 
 number_sound : (low high : ℕ) (t : Token) (a : ℕ) → number_of low high t ≡ Some a → (t ≡ number a) × IsWithin low high a
 number_sound low high (token.Int (pos n)) a e = let w = within_sound low high n a e in (ap number w.0, w.1)
-number_sound low high (token.Int (negsuc n)) a e = absurd cc
-number_sound low high (token.Keyword k) a e = absurd cc
-number_sound low high (token.Word w) a e = absurd cc
-number_sound low high (token.Text x) a e = absurd cc
-number_sound low high (token.Sign s) a e = absurd cc
+number_sound low high t a e = absurd cc
 
 number_whole : (low high a : ℕ) → IsWithin low high a → number_of low high (number a) ≡ Some a
 number_whole low high a w =
@@ -202,11 +192,7 @@ cmp_sound t a e = absurd cc
 
 pub cmp_whole : (a : Cmp) → Unit {0} → cmp_of (cmp_token a) ≡ Some a
 cmp_whole cmp.Eq u = refl
-cmp_whole cmp.Ne u = refl
-cmp_whole cmp.Lt u = refl
-cmp_whole cmp.Le u = refl
-cmp_whole cmp.Gt u = refl
-cmp_whole cmp.Ge u = refl
+cmp_whole c u = refl
 
 pub cmp_law : Reads (λ c. cmp_token c ∷ []) Any never cmp_at
 unfolding cmp_at
@@ -238,10 +224,7 @@ level_sound t a e = (
 
 level_whole : (a : Priority) → Unit {0} → level_of (level_token a) ≡ Some a
 level_whole level.Critical u = refl
-level_whole level.High u = refl
-level_whole level.Medium u = refl
-level_whole level.Low u = refl
-level_whole level.None u = refl
+level_whole l u = refl
 
 pub level_law : Reads (λ l. level_token l ∷ []) Any never level_at
 unfolding level_at

@@ -100,10 +100,7 @@ first_counted i = false
 counted_firsts : (i : ItemPart) → IsCounted i → FirstKind is_star (first_counted i) (spell_counted i)
 counted_firsts item.CountAll g = first_kind (token.Sign sign.Star) [] refl
 counted_firsts (item.Count n) g = first_kind (token.Word n) [] refl
-counted_firsts (item.Column n) g = absurd g
-counted_firsts (item.Sum n) g = absurd g
-counted_firsts (item.Min n) g = absurd g
-counted_firsts (item.Max n) g = absurd g
+counted_firsts i g = absurd g
 
 count_all_back : (i : ItemPart) → IsCounted i → first_counted i ≡ true → Makes (λ (u : Unit {0}). item.CountAll) Any i
 count_all_back item.CountAll g e = record { of = tt; is = refl; is_good = tt }
@@ -129,26 +126,17 @@ counted_law = picked_law spell_counted IsCounted never is_star counted_by first_
 counted_item : (i : ItemPart) → IsCounted i → GoodFirst IsItem first_item (keyword key.Count) i
 counted_item item.CountAll g = record { is_good = tt; is_first = refl }
 counted_item (item.Count n) g = record { is_good = g; is_first = refl }
-counted_item (item.Column n) g = absurd g
-counted_item (item.Sum n) g = absurd g
-counted_item (item.Min n) g = absurd g
-counted_item (item.Max n) g = absurd g
+counted_item i g = absurd g
 
 item_counted : (i : ItemPart) → IsItem i → first_item i ≡ (keyword key.Count) → IsCounted i
 item_counted item.CountAll g e = tt
 item_counted (item.Count n) g e = g
-item_counted (item.Column n) g e = absurd cc
-item_counted (item.Sum n) g e = absurd cc
-item_counted (item.Min n) g e = absurd cc
-item_counted (item.Max n) g e = absurd cc
+item_counted i g e = absurd cc
 
 counted_spells : (i : ItemPart) → IsCounted i → spell_item i ≡ word key.Count ∷ in_parens (spell_counted i)
 counted_spells item.CountAll g = refl
 counted_spells (item.Count n) g = refl
-counted_spells (item.Column n) g = absurd g
-counted_spells (item.Sum n) g = absurd g
-counted_spells (item.Min n) g = absurd g
-counted_spells (item.Max n) g = absurd g
+counted_spells i g = absurd g
 
 count_law : Reads spell_item (GoodFirst IsItem first_item (keyword key.Count)) never count_at
 unfolding count_at
@@ -182,12 +170,8 @@ is_item name = true
 is_item l = false
 
 all_items : (i : ItemPart) → IsItem i → is_item (first_item i) ≡ true
-all_items (item.Column n) g = refl
 all_items item.CountAll g = refl
-all_items (item.Count n) g = refl
-all_items (item.Sum n) g = refl
-all_items (item.Min n) g = refl
-all_items (item.Max n) g = refl
+all_items i g = refl
 
 item_choices : (l : Lead) → Choice spell_item IsItem never first_item l (item_by l)
 item_choices name =

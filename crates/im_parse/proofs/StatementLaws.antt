@@ -515,34 +515,35 @@ transaction_law =
 
 -- ---- single words
 
-commit_back : (s : Stmt) → first_stmt s ≡ keyword key.Commit → Makes (λ (u : Unit {0}). stmt.Commit) Any s
-commit_back stmt.Commit e = record { of = tt; is = refl; is_good = tt }
-commit_back s e = absurd cc
+commit_only : (s : Stmt) → first_stmt s ≡ keyword key.Commit → stmt.Commit ≡ s
+commit_only stmt.Commit e = refl
+commit_only s e = absurd cc
 
-rollback_back : (s : Stmt) → first_stmt s ≡ keyword key.Rollback → Makes (λ (u : Unit {0}). stmt.Rollback) Any s
-rollback_back stmt.Rollback e = record { of = tt; is = refl; is_good = tt }
-rollback_back s e = absurd cc
+rollback_only : (s : Stmt) → first_stmt s ≡ keyword key.Rollback → stmt.Rollback ≡ s
+rollback_only stmt.Rollback e = refl
+rollback_only s e = absurd cc
 
-run_back : (s : Stmt) → first_stmt s ≡ keyword key.Run → Makes (λ (u : Unit {0}). stmt.Run) Any s
-run_back stmt.Run e = record { of = tt; is = refl; is_good = tt }
-run_back s e = absurd cc
+run_only : (s : Stmt) → first_stmt s ≡ keyword key.Run → stmt.Run ≡ s
+run_only stmt.Run e = refl
+run_only s e = absurd cc
 
-begin_back : (s : Stmt) → first_stmt s ≡ keyword key.Begin → Makes (λ (u : Unit {0}). stmt.Begin) Any s
-begin_back stmt.Begin e = record { of = tt; is = refl; is_good = tt }
-begin_back s e = absurd cc
+begin_only : (s : Stmt) → first_stmt s ≡ keyword key.Begin → stmt.Begin ≡ s
+begin_only stmt.Begin e = refl
+begin_only s e = absurd cc
 
-switch_back : (s : Stmt) → first_stmt s ≡ keyword key.Switch → Makes (λ (u : Unit {0}). stmt.Switch) Any s
-switch_back stmt.Switch e = record { of = tt; is = refl; is_good = tt }
-switch_back s e = absurd cc
+switch_only : (s : Stmt) → first_stmt s ≡ keyword key.Switch → stmt.Switch ≡ s
+switch_only stmt.Switch e = refl
+switch_only s e = absurd cc
 
-cancel_back : (s : Stmt) → first_stmt s ≡ keyword key.Cancel → Makes (λ (u : Unit {0}). stmt.Cancel) Any s
-cancel_back stmt.Cancel e = record { of = tt; is = refl; is_good = tt }
-cancel_back s e = absurd cc
+cancel_only : (s : Stmt) → first_stmt s ≡ keyword key.Cancel → stmt.Cancel ≡ s
+cancel_only stmt.Cancel e = refl
+cancel_only s e = absurd cc
 
-single_law : (k : Keyword) (s : Stmt) → GoodOf k s → ((x : Stmt) → first_stmt x ≡ keyword k → Makes (λ (u : Unit {0}). s) Any x)
+single_law : (k : Keyword) (s : Stmt) → IsStmt s → first_stmt s ≡ keyword k → ((x : Stmt) → first_stmt x ≡ keyword k → s ≡ x)
     → spelling s ≡ word k ∷ [] → ((t : Token) → goes_stmt s t ≡ false) → Reads spelling (GoodOf k) goes_stmt (single_at k s)
-single_law k s good back spells goes =
-    made_law spelling (GoodOf k) goes_stmt (λ u. s) (word_law k) (λ u g. good) (λ x g. back x g.is_first) (λ u. spells) (λ u t. goes t)
+single_law k s good first only spells goes =
+    made_law spelling (GoodOf k) goes_stmt (λ u. s) (word_law k) (λ u g. record { is_good = good; is_first = first })
+    (λ x g. record { of = tt; is = only x g.is_first; is_good = tt }) (λ u. spells) (λ u t. goes t)
 
 trickle_back : (s : Stmt) → IsStmt s → first_stmt s ≡ keyword key.Trickle → Makes stmt.Trickle (IsWithin 1 MOST_CREDITS) s
 trickle_back (stmt.Trickle n) g e = record { of = n; is = refl; is_good = g }
@@ -568,9 +569,6 @@ evict_law =
 
 -- ---- statements
 
-abbrev good_single : {k : Keyword} → (s : Stmt) → IsStmt s → first_stmt s ≡ keyword k → GoodOf k s
-good_single s g e = record { is_good = g; is_first = e }
-
 abbrev is_first : Lead → Bool
 is_first l = is_some (side_by l)
 
@@ -587,16 +585,16 @@ stmt_choices (keyword key.Insert) = chosen insert_law
 stmt_choices (keyword key.Update) = chosen update_law
 stmt_choices (keyword key.Delete) = chosen delete_law
 stmt_choices (keyword key.Set) = chosen transaction_law
-stmt_choices (keyword key.Commit) = chosen (single_law key.Commit stmt.Commit (good_single stmt.Commit tt refl) commit_back refl (λ t. refl))
-stmt_choices (keyword key.Rollback) = chosen (single_law key.Rollback stmt.Rollback (good_single stmt.Rollback tt refl) rollback_back refl (λ t. refl))
+stmt_choices (keyword key.Commit) = chosen (single_law key.Commit stmt.Commit tt refl commit_only refl (λ t. refl))
+stmt_choices (keyword key.Rollback) = chosen (single_law key.Rollback stmt.Rollback tt refl rollback_only refl (λ t. refl))
 stmt_choices (keyword key.Open) = chosen open_law
 stmt_choices (keyword key.Step) = chosen step_law
 stmt_choices (keyword key.Fetch) = chosen fetch_law
 stmt_choices (keyword key.Close) = chosen close_law
-stmt_choices (keyword key.Run) = chosen (single_law key.Run stmt.Run (good_single stmt.Run tt refl) run_back refl (λ t. refl))
-stmt_choices (keyword key.Begin) = chosen (single_law key.Begin stmt.Begin (good_single stmt.Begin tt refl) begin_back refl (λ t. refl))
-stmt_choices (keyword key.Switch) = chosen (single_law key.Switch stmt.Switch (good_single stmt.Switch tt refl) switch_back refl (λ t. refl))
-stmt_choices (keyword key.Cancel) = chosen (single_law key.Cancel stmt.Cancel (good_single stmt.Cancel tt refl) cancel_back refl (λ t. refl))
+stmt_choices (keyword key.Run) = chosen (single_law key.Run stmt.Run tt refl run_only refl (λ t. refl))
+stmt_choices (keyword key.Begin) = chosen (single_law key.Begin stmt.Begin tt refl begin_only refl (λ t. refl))
+stmt_choices (keyword key.Switch) = chosen (single_law key.Switch stmt.Switch tt refl switch_only refl (λ t. refl))
+stmt_choices (keyword key.Cancel) = chosen (single_law key.Cancel stmt.Cancel tt refl cancel_only refl (λ t. refl))
 stmt_choices (keyword key.Trickle) = chosen trickle_law
 stmt_choices (keyword key.Evict) = chosen evict_law
 stmt_choices l = none_chosen (λ ts. refl) (unknown is_first IsStmt first_stmt all_first l refl)

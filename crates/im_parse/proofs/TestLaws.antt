@@ -135,11 +135,7 @@ first_tail (ranged false r) = first_range r
 
 lead_of_cmp : (c : Cmp) → lead (cmp_token c) ≡ relation
 lead_of_cmp cmp.Eq = refl
-lead_of_cmp cmp.Ne = refl
-lead_of_cmp cmp.Lt = refl
-lead_of_cmp cmp.Le = refl
-lead_of_cmp cmp.Gt = refl
-lead_of_cmp cmp.Ge = refl
+lead_of_cmp c = refl
 
 tail_firsts : (t : Tail) → GoodTail t → FirstKind lead (first_tail t) (spell_tail t)
 tail_firsts (compared c v) g = first_kind (cmp_token c) (lit_token v ∷ []) (lead_of_cmp c)
@@ -216,11 +212,8 @@ is_tail relation = true
 is_tail l = false
 
 all_tails : (t : Tail) → GoodTail t → is_tail (first_tail t) ≡ true
-all_tails (compared c v) g = refl
-all_tails (is_null negated) g = refl
-all_tails (ranged true r) g = refl
 all_tails (ranged false (from_to low high)) g = refl
-all_tails (ranged false (among values)) g = refl
+all_tails t g = refl
 
 tail_choices : (l : Lead) → Choice spell_tail GoodTail never first_tail l (tail_by l)
 tail_choices relation = chosen comparison_law

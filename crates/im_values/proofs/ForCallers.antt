@@ -1,11 +1,12 @@
--- What callers know of the order of values (it is a total order, and only equal values tie in it), and of a block of values.
+-- What callers know of the order of values (it is a total order, and values tie in it exactly where they are equal), and of a block of values.
 use Rattle.std.proofs.Common.{◌≡◌, ℕ, ◌+◌, ◌*◌, ◌≤◌, List, [], ◌∷◌, ◌++◌, zero, suc, length, take, drop, refl, ap, ◌∙◌, arith}
 use Rattle.std.proofs.lemmas.List.{length-drop, nil_from_length, take-append-le, drop-append-le, take_all}
 use Rattle.std.specs.Cmp.{IsTotalOrder, int_cmp_total}
 use Rattle.std.specs.FinMap.{int_cmp-IsAntisymmetric, slice_cmp-IsAntisymmetric, nat_cmp-IsAntisymmetric}
-use Rattle.std.specs.Cmp.Lexicographic.{nat_list_cmp_total}
-use Rattle.std.specs.Ordering.{ordering_reverse}
+use Rattle.std.specs.Cmp.Lexicographic.{nat_list_cmp_total, texts_ties}
+use Rattle.std.specs.Ordering.{ordering_reverse, is_eq}
 use Rattle.std.specs.declared.cmp.Ordering.TheVariants.{Less, Equal}
+use Rattle.im_values.specs.contracts.value.ValuePartialEq.TheImpl as value_eq
 use Rattle.im_values.specs.declared.value.Value.{Value}
 use Rattle.im_values.specs.declared.value.Value.TheVariants.{Int, Text, Null}
 use Rattle.im_values.specs.Order.{order}
@@ -63,6 +64,13 @@ order_total = record {
   trans = order-trans;
   congr = λ x y z e. ap (λ v. order v z) (order_same x y e);
 }
+
+-- equality of values, as it is derived, is that they tie
+pub value_ties : (a b : Value) → (value_eq.ghosts).eq a b ≡ is_eq (order a b)
+value_ties (Int a) (Int b) = refl
+value_ties (Text a) (Text b) = texts_ties a b
+value_ties Null Null = refl
+value_ties a b = refl
 
 -- ---- A block of values
 

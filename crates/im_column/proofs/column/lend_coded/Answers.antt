@@ -1,19 +1,13 @@
-use Rattle.std.proofs.Common.{◌<◌, sym, length, get_or, arith}
-use Rattle.std.proofs.lemmas.List.{length-set}
+use Rattle.std.proofs.Common.{sym, get_or}
 use Rattle.std.proofs.lemmas.Option.{get_or_from_slice_get}
 use Rattle.im_values.specs.declared.value.Value.TheVariants.{Null}
 use Rattle.im_codes.specs.Dictionary.{coded}
-use Rattle.im_column.proofs.LendLemmas.{lent-more}
+use Rattle.im_column.proofs.LendLemmas.{lent_to-more}
 use Rattle.im_column.proofs.column.lend_coded.Goals as goal
 
 pub loop-k-preserved : goal.loop-k-preserved
 loop-k-preserved c =
-    let out = c.loop-k.out in
-    let inside : c.loop-k.k < length out = omega (arith, c.loop-k.invariant.size, c.loop-k-test.true) in
     let code = get_or c.args.codes.now c.loop-k.k 0 in
     let read = get_or_from_slice_get (coded c.args.dict.now) code c.value_of.result.now Null c.value_of.ensures in
-    record {
-      size = omega (arith, length-set out c.loop-k.k c.value_of.result, c.loop-k.invariant.size);
-      lends = lent-more (λ k. get_or (coded c.args.dict.now) (get_or c.args.codes.now k 0) Null) out c.loop-k.k c.value_of.result inside (sym read)
-          c.loop-k.invariant.lends;
-    }
+    lent_to-more (λ k. get_or (coded c.args.dict.now) (get_or c.args.codes.now k 0) Null) c.loop-k.out c.loop-k.k c.value_of.result
+    c.loop-k-test.true (sym read) c.loop-k.invariant
