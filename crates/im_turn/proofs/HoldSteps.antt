@@ -6,30 +6,21 @@ use prog.Atomic.{either}
 use Rattle.atomic_table.specs.Table.{State, Act, keeps, takes as takes_slot, gives, Valid, rest, carried_after, stepped, Allows}
 use Rattle.atomic_table.proofs.Lists.{set_again}
 use Rattle.im_turn.specs.Logs.{entries_since, Begins, GrewByOwn, GrewByOthers}
-use Rattle.im_turn.specs.inner.Views.{taken, loaded, added, returned}
+use Rattle.im_turn.specs.inner.Views.{Recalls, taken, loaded, added, returned}
 use Rattle.im_turn.specs.inner.Rule.{Account, Fits, IsAt, Roster, IsHome, IsOut, OneHistory}
 use Rattle.im_turn.specs.inner.Steps.{SeatState, IsFree, IsHolder, IsFilled, Took, takes, loads, adds, gives_back}
 use Rattle.im_turn.specs.declared.view.View.{View}
 use Rattle.im_turn.specs.declared.view.Phase.TheVariants.{Idle, Taken, Holding}
 use Rattle.im_turn.proofs.LogLemmas.{begins_self, begins_trans, begins_length, own_nothing, own_begins, own_adds, others_leave, others_alone}
-use Rattle.im_turn.proofs.RosterLemmas.{with_log, is_at_set, at_of_set, roster_moves}
+use Rattle.im_turn.proofs.RosterLemmas.{with_log, is_at_set, at_of_set, fits_moves, roster_moves}
 use Rattle.im_turn.proofs.PlaceLemmas.{holder_is, holder_has, out_moves}
 
 module _ {Item : Type 0} (who : Item → ℕ) where
   -- a view changes its phase and what it has found
   pub fits_found : {account : Account Item} {v : View Item} (log : List Item) → Fits who account v → log ≡ account.log
       → Fits who account (taken log v)
-  fits_found {account} log f whole = record {
-    sees = f.sees;
-    found = subst (Begins log) whole (begins_self log);
-    recalls = record { past_base = f.recalls.past_base; own = f.recalls.own };
-    all_own = f.all_own;
-    given = f.given;
-    not_ended = f.not_ended;
-    first = f.first;
-    same_fixed = f.same_fixed;
-    same_base = f.same_base;
-  }
+  fits_found log f whole =
+      fits_moves who f f.sees (subst (Begins log) whole (begins_self log)) (record { past_base = f.recalls.past_base; own = f.recalls.own }) f.all_own
 
 module _ {Value Item : Type 0} (logs : Value → List Item) (who : Item → ℕ) (fixed_of : Value → List ℕ) where
   -- what the slot holds that was taken last
@@ -143,20 +134,11 @@ module _ {Value Item : Type 0} (logs : Value → List Item) (who : Item → ℕ)
       (λ (t : (v.phase ≡ Holding) × (v.seen ≡ log)). let p = t.0 in absurd cc)
       (holder_has out at is_busy) in
       let past = h.roster.past_base in
-      let fits' : Fits who h.account w = record {
-        sees = f.found;
-        found = f.found;
-        recalls = record {
-          past_base = let e = ap length whole in let b = f.same_base in omega arith;
-          own = ap (entries_since who v.who v.base) whole ∙ (ap (λ b. entries_since who v.who b log) f.same_base ∙ f.all_own);
-        };
-        all_own = f.all_own;
-        given = f.given;
-        not_ended = f.not_ended;
-        first = f.first;
-        same_fixed = f.same_fixed;
-        same_base = f.same_base;
-      } in (
+      let knows : Recalls who w = record {
+        past_base = let e = ap length whole in let b = f.same_base in omega arith;
+        own = ap (entries_since who v.who v.base) whole ∙ (ap (λ b. entries_since who v.who b log) f.same_base ∙ f.all_own);
+      } in
+      let fits' : Fits who h.account w = fits_moves who f f.found f.found knows f.all_own in (
         w,
         keeps,
         tt,
@@ -190,20 +172,12 @@ module _ {Value Item : Type 0} (logs : Value → List Item) (who : Item → ℕ)
       let grew' : GrewByOwn who v.who log later = subst (λ (l : List Item). GrewByOwn who v.who l later) whole grew in
       let gained : entries_since who v.who v.base later ≡ v.mine ++ drop (length v.seen) later =
       own_adds who v.base grew f.recalls.past_base ∙ ap (λ l. l ++ drop (length v.seen) later) f.recalls.own in
-      let fits' : Fits who (with_log h.account later) w = record {
-        sees = begins_self later;
-        found = begins_trans f.found (own_begins who grew');
-        recalls = record {
-          past_base = let p = begins_length (own_begins who grew) in let q = f.recalls.past_base in omega arith;
-          own = gained;
-        };
-        all_own = ap (λ b. entries_since who v.who b later) (sym f.same_base) ∙ gained;
-        given = f.given;
-        not_ended = f.not_ended;
-        first = f.first;
-        same_fixed = f.same_fixed;
-        same_base = f.same_base;
-      } in (
+      let knows : Recalls who w = record {
+        past_base = let p = begins_length (own_begins who grew) in let q = f.recalls.past_base in omega arith;
+        own = gained;
+      } in
+      let fits' : Fits who (with_log h.account later) w = fits_moves who f (begins_self later) (begins_trans f.found (own_begins who grew')) knows
+      (ap (λ b. entries_since who v.who b later) (sym f.same_base) ∙ gained) in (
         w,
         keeps,
         tt,
@@ -235,17 +209,8 @@ module _ {Value Item : Type 0} (logs : Value → List Item) (who : Item → ℕ)
       (λ (t : (v.phase ≡ Holding) × (v.seen ≡ log)). t.1)
       (holder_has out at is_busy) in
       let mine : id ≡ out.holder = holder_is out at is_busy in
-      let fits' : Fits who h.account w = record {
-        sees = f.sees;
-        found = f.found;
-        recalls = record { past_base = f.recalls.past_base; own = f.recalls.own };
-        all_own = f.all_own;
-        given = f.given;
-        not_ended = f.not_ended;
-        first = f.first;
-        same_fixed = f.same_fixed;
-        same_base = f.same_base;
-      } in (
+      let fits' : Fits who h.account w =
+      fits_moves who f f.sees f.found (record { past_base = f.recalls.past_base; own = f.recalls.own }) f.all_own in (
         w,
         gives,
         tt,
