@@ -13,7 +13,7 @@ use Rattle.im_turn.specs.declared.view.View.{View}
 use Rattle.im_turn.specs.declared.view.Phase.TheVariants.{Idle, Taken, Holding}
 use Rattle.im_turn.proofs.LogLemmas.{begins_self, begins_trans, begins_length, own_nothing, own_begins, own_adds, others_leave, others_alone}
 use Rattle.im_turn.proofs.RosterLemmas.{with_log, is_at_set, at_of_set, fits_moves, roster_moves}
-use Rattle.im_turn.proofs.PlaceLemmas.{holder_is, holder_has, out_moves}
+use Rattle.im_turn.proofs.PlaceLemmas.{holder_is, holding_sees, is_out, out_moves, taken_finds}
 
 module _ {Item : Type 0} (who : Item → ℕ) where
   -- a view changes its phase and what it has found
@@ -126,13 +126,8 @@ module _ {Value Item : Type 0} (logs : Value → List Item) (who : Item → ℕ)
       let is_busy : ¬ (v.phase ≡ Idle) = λ e. absurd cc in
       let f : Fits who h.account v = h.roster.fits id v at in
       let w : View Item = loaded v in
-      ⊎_elim
-      (λ (home : IsHome logs fixed_of log h.account.fixed s). absurd (is_busy (home.idle id v at)))
-      (λ (out : IsOut log s).
-      let whole : v.held ≡ log = ⊎_elim
-      (λ (t : (v.phase ≡ Taken) × (v.held ≡ log)). t.1)
-      (λ (t : (v.phase ≡ Holding) × (v.seen ≡ log)). let p = t.0 in absurd cc)
-      (holder_has out at is_busy) in
+      let out : IsOut log s = is_out logs fixed_of h.place at is_busy in
+      let whole : v.held ≡ log = taken_finds out at phase in
       let past = h.roster.past_base in
       let knows : Recalls who w = record {
         past_base = let e = ap length whole in let b = f.same_base in omega arith;
@@ -148,8 +143,7 @@ module _ {Value Item : Type 0} (logs : Value → List Item) (who : Item → ℕ)
           place = inr (out_moves w log out at is_busy live (inr (refl, whole)) (ap (λ (l : List ℕ). slice_set l 0 (slice_index l 0)) out.words) refl refl);
         },
         refl,
-      ))
-      h.place
+      )
 
   -- the add to the count, of what the value in the slot has gained
   adds_allowed : (slots id : ℕ) (v : View Item) (value : Value) (k : ℕ)
@@ -162,13 +156,8 @@ module _ {Value Item : Type 0} (logs : Value → List Item) (who : Item → ℕ)
       let is_busy : ¬ (v.phase ≡ Idle) = λ e. absurd cc in
       let f : Fits who h.account v = h.roster.fits id v at in
       let w : View Item = added later v in
-      ⊎_elim
-      (λ (home : IsHome logs fixed_of log h.account.fixed s). absurd (is_busy (home.idle id v at)))
-      (λ (out : IsOut log s).
-      let whole : v.seen ≡ log = ⊎_elim
-      (λ (t : (v.phase ≡ Taken) × (v.held ≡ log)). let p = t.0 in absurd cc)
-      (λ (t : (v.phase ≡ Holding) × (v.seen ≡ log)). t.1)
-      (holder_has out at is_busy) in
+      let out : IsOut log s = is_out logs fixed_of h.place at is_busy in
+      let whole : v.seen ≡ log = holding_sees out at phase in
       let grew' : GrewByOwn who v.who log later = subst (λ (l : List Item). GrewByOwn who v.who l later) whole grew in
       let gained : entries_since who v.who v.base later ≡ v.mine ++ drop (length v.seen) later =
       own_adds who v.base grew f.recalls.past_base ∙ ap (λ l. l ++ drop (length v.seen) later) f.recalls.own in
@@ -188,8 +177,7 @@ module _ {Value Item : Type 0} (logs : Value → List Item) (who : Item → ℕ)
               (ap (λ (l : List ℕ). slice_set l 0 k) out.words ∙ ap (λ n. n ∷ 1 ∷ []) count) refl refl);
         },
         λ other e. ap (λ (l : List Item). (added l v, (0, Some value) ∷ [])) (same_log value other e),
-      ))
-      h.place
+      )
 
   -- the exchange that gives
   gives_allowed : (slots id : ℕ) (v : View Item) (value : Value)
@@ -201,13 +189,8 @@ module _ {Value Item : Type 0} (logs : Value → List Item) (who : Item → ℕ)
       let is_busy : ¬ (v.phase ≡ Idle) = λ e. absurd cc in
       let f : Fits who h.account v = h.roster.fits id v at in
       let w : View Item = returned v in
-      ⊎_elim
-      (λ (home : IsHome logs fixed_of log h.account.fixed s). absurd (is_busy (home.idle id v at)))
-      (λ (out : IsOut log s).
-      let whole : v.seen ≡ log = ⊎_elim
-      (λ (t : (v.phase ≡ Taken) × (v.held ≡ log)). let p = t.0 in absurd cc)
-      (λ (t : (v.phase ≡ Holding) × (v.seen ≡ log)). t.1)
-      (holder_has out at is_busy) in
+      let out : IsOut log s = is_out logs fixed_of h.place at is_busy in
+      let whole : v.seen ≡ log = holding_sees out at phase in
       let mine : id ≡ out.holder = holder_is out at is_busy in
       let fits' : Fits who h.account w =
       fits_moves who f f.sees f.found (record { past_base = f.recalls.past_base; own = f.recalls.own }) f.all_own in (
@@ -230,8 +213,7 @@ module _ {Value Item : Type 0} (logs : Value → List Item) (who : Item → ℕ)
           };
         },
         refl,
-      ))
-      h.place
+      )
 
   -- the seat of a pass, once the value is taken and its log is seen
   pub seen_all : (before after later : SeatState Value Item) (t : Took logs who fixed_of before after) → loads after later
