@@ -10,6 +10,7 @@ use Rattle.im_turn.specs.inner.Views.{Recalls, taken, loaded, added, returned}
 use Rattle.im_turn.specs.inner.Rule.{Account, Fits, IsAt, Roster, IsHome, IsOut, OneHistory}
 use Rattle.im_turn.specs.inner.Steps.{SeatState, IsFree, IsHolder, IsFilled, Took, takes, loads, adds, gives_back}
 use Rattle.im_turn.specs.declared.view.View.{View}
+use Rattle.im_turn.specs.declared.view.Phase.{Phase}
 use Rattle.im_turn.specs.declared.view.Phase.TheVariants.{Idle, Taken, Holding}
 use Rattle.im_turn.proofs.LogLemmas.{begins_self, begins_trans, begins_length, own_nothing, own_begins, own_adds, others_leave, others_alone}
 use Rattle.im_turn.proofs.RosterLemmas.{with_log, is_at_set, at_of_set, fits_moves, roster_moves}
@@ -21,6 +22,14 @@ module _ {Item : Type 0} (who : Item → ℕ) where
       → Fits who account (taken log v)
   fits_found log f whole =
       fits_moves who f f.sees (subst (Begins log) whole (begins_self log)) (record { past_base = f.recalls.past_base; own = f.recalls.own }) f.all_own
+
+  -- a view that adds own entries knows them
+  recalls_added : {v : View Item} {phase : Phase} {later : List Item} → Recalls who v → GrewByOwn who v.who v.seen later
+      → Recalls who (record v { phase = phase; seen = later; mine = v.mine ++ drop (length v.seen) later })
+  recalls_added {v} {later = later} r grew = record {
+    past_base = let p = begins_length (own_begins who grew) in let q = r.past_base in omega arith;
+    own = own_adds who v.base grew r.past_base ∙ ap (λ l. l ++ drop (length v.seen) later) r.own;
+  }
 
 module _ {Value Item : Type 0} (logs : Value → List Item) (who : Item → ℕ) (fixed_of : Value → List ℕ) where
   -- what the slot holds that was taken last
@@ -159,14 +168,9 @@ module _ {Value Item : Type 0} (logs : Value → List Item) (who : Item → ℕ)
       let out : IsOut log s = is_out logs fixed_of h.place at is_busy in
       let whole : v.seen ≡ log = holding_sees out at phase in
       let grew' : GrewByOwn who v.who log later = subst (λ (l : List Item). GrewByOwn who v.who l later) whole grew in
-      let gained : entries_since who v.who v.base later ≡ v.mine ++ drop (length v.seen) later =
-      own_adds who v.base grew f.recalls.past_base ∙ ap (λ l. l ++ drop (length v.seen) later) f.recalls.own in
-      let knows : Recalls who w = record {
-        past_base = let p = begins_length (own_begins who grew) in let q = f.recalls.past_base in omega arith;
-        own = gained;
-      } in
+      let knows : Recalls who w = recalls_added who f.recalls grew in
       let fits' : Fits who (with_log h.account later) w = fits_moves who f (begins_self later) (begins_trans f.found (own_begins who grew')) knows
-      (ap (λ b. entries_since who v.who b later) (sym f.same_base) ∙ gained) in (
+      (ap (λ b. entries_since who v.who b later) (sym f.same_base) ∙ knows.own) in (
         w,
         keeps,
         tt,
@@ -265,14 +269,10 @@ module _ {Value Item : Type 0} (logs : Value → List Item) (who : Item → ℕ)
       → after ≡ (returned (added (logs value) before.0), []) → IsFree who after
   free_after before after value h grew is =
       let v = before.0 in
-      let new = drop (length v.seen) (logs value) in
       let given : SeatState Value Item = (returned (added (logs value) v), []) in
       let free : IsFree who given = record {
         live = h.live;
-        recalls = record {
-          past_base = let p = begins_length (own_begins who grew) in let q = h.recalls.past_base in omega arith;
-          own = own_adds who v.base grew h.recalls.past_base ∙ ap (λ l. l ++ new) h.recalls.own;
-        };
+        recalls = recalls_added who h.recalls grew;
         idle = refl;
         carries = refl;
       } in
