@@ -6,29 +6,29 @@ use prog.Atomic.{either}
 use Rattle.atomic_table.specs.Table.{State, Act, keeps, takes as takes_slot, gives, Valid, rest, carried_after, stepped, Allows}
 use Rattle.atomic_table.proofs.Lists.{set_again}
 use Rattle.im_turn.specs.Logs.{entries_since, Begins, GrewByOwn, GrewByOthers}
-use Rattle.im_turn.specs.inner.Views.{taken, loaded, added, returned}
+use Rattle.im_turn.specs.inner.Views.{Recalls, taken, loaded, added, returned}
 use Rattle.im_turn.specs.inner.Rule.{Account, Fits, IsAt, Roster, IsHome, IsOut, OneHistory}
 use Rattle.im_turn.specs.inner.Steps.{SeatState, IsFree, IsHolder, IsFilled, Took, takes, loads, adds, gives_back}
 use Rattle.im_turn.specs.declared.view.View.{View}
+use Rattle.im_turn.specs.declared.view.Phase.{Phase}
 use Rattle.im_turn.specs.declared.view.Phase.TheVariants.{Idle, Taken, Holding}
 use Rattle.im_turn.proofs.LogLemmas.{begins_self, begins_trans, begins_length, own_nothing, own_begins, own_adds, others_leave, others_alone}
-use Rattle.im_turn.proofs.RosterLemmas.{with_log, is_at_set, at_of_set, roster_moves}
-use Rattle.im_turn.proofs.PlaceLemmas.{holder_is, holder_has, out_moves}
+use Rattle.im_turn.proofs.RosterLemmas.{with_log, is_at_set, at_of_set, fits_moves, roster_moves}
+use Rattle.im_turn.proofs.PlaceLemmas.{holder_is, holding_sees, is_out, out_moves, taken_finds}
 
 module _ {Item : Type 0} (who : Item → ℕ) where
   -- a view changes its phase and what it has found
   pub fits_found : {account : Account Item} {v : View Item} (log : List Item) → Fits who account v → log ≡ account.log
       → Fits who account (taken log v)
-  fits_found {account} log f whole = record {
-    sees = f.sees;
-    found = subst (Begins log) whole (begins_self log);
-    recalls = record { past_base = f.recalls.past_base; own = f.recalls.own };
-    all_own = f.all_own;
-    given = f.given;
-    not_ended = f.not_ended;
-    first = f.first;
-    same_fixed = f.same_fixed;
-    same_base = f.same_base;
+  fits_found log f whole =
+      fits_moves who f f.sees (subst (Begins log) whole (begins_self log)) (record { past_base = f.recalls.past_base; own = f.recalls.own }) f.all_own
+
+  -- a view that adds own entries knows them
+  recalls_added : {v : View Item} {phase : Phase} {later : List Item} → Recalls who v → GrewByOwn who v.who v.seen later
+      → Recalls who (record v { phase = phase; seen = later; mine = v.mine ++ drop (length v.seen) later })
+  recalls_added {v} {later = later} r grew = record {
+    past_base = let p = begins_length (own_begins who grew) in let q = r.past_base in omega arith;
+    own = own_adds who v.base grew r.past_base ∙ ap (λ l. l ++ drop (length v.seen) later) r.own;
   }
 
 module _ {Value Item : Type 0} (logs : Value → List Item) (who : Item → ℕ) (fixed_of : Value → List ℕ) where
@@ -135,28 +135,14 @@ module _ {Value Item : Type 0} (logs : Value → List Item) (who : Item → ℕ)
       let is_busy : ¬ (v.phase ≡ Idle) = λ e. absurd cc in
       let f : Fits who h.account v = h.roster.fits id v at in
       let w : View Item = loaded v in
-      ⊎_elim
-      (λ (home : IsHome logs fixed_of log h.account.fixed s). absurd (is_busy (home.idle id v at)))
-      (λ (out : IsOut log s).
-      let whole : v.held ≡ log = ⊎_elim
-      (λ (t : (v.phase ≡ Taken) × (v.held ≡ log)). t.1)
-      (λ (t : (v.phase ≡ Holding) × (v.seen ≡ log)). let p = t.0 in absurd cc)
-      (holder_has out at is_busy) in
+      let out : IsOut log s = is_out logs fixed_of h.place at is_busy in
+      let whole : v.held ≡ log = taken_finds out at phase in
       let past = h.roster.past_base in
-      let fits' : Fits who h.account w = record {
-        sees = f.found;
-        found = f.found;
-        recalls = record {
-          past_base = let e = ap length whole in let b = f.same_base in omega arith;
-          own = ap (entries_since who v.who v.base) whole ∙ (ap (λ b. entries_since who v.who b log) f.same_base ∙ f.all_own);
-        };
-        all_own = f.all_own;
-        given = f.given;
-        not_ended = f.not_ended;
-        first = f.first;
-        same_fixed = f.same_fixed;
-        same_base = f.same_base;
-      } in (
+      let knows : Recalls who w = record {
+        past_base = let e = ap length whole in let b = f.same_base in omega arith;
+        own = ap (entries_since who v.who v.base) whole ∙ (ap (λ b. entries_since who v.who b log) f.same_base ∙ f.all_own);
+      } in
+      let fits' : Fits who h.account w = fits_moves who f f.found f.found knows f.all_own in (
         w,
         keeps,
         tt,
@@ -166,8 +152,7 @@ module _ {Value Item : Type 0} (logs : Value → List Item) (who : Item → ℕ)
           place = inr (out_moves w log out at is_busy live (inr (refl, whole)) (ap (λ (l : List ℕ). slice_set l 0 (slice_index l 0)) out.words) refl refl);
         },
         refl,
-      ))
-      h.place
+      )
 
   -- the add to the count, of what the value in the slot has gained
   adds_allowed : (slots id : ℕ) (v : View Item) (value : Value) (k : ℕ)
@@ -180,30 +165,12 @@ module _ {Value Item : Type 0} (logs : Value → List Item) (who : Item → ℕ)
       let is_busy : ¬ (v.phase ≡ Idle) = λ e. absurd cc in
       let f : Fits who h.account v = h.roster.fits id v at in
       let w : View Item = added later v in
-      ⊎_elim
-      (λ (home : IsHome logs fixed_of log h.account.fixed s). absurd (is_busy (home.idle id v at)))
-      (λ (out : IsOut log s).
-      let whole : v.seen ≡ log = ⊎_elim
-      (λ (t : (v.phase ≡ Taken) × (v.held ≡ log)). let p = t.0 in absurd cc)
-      (λ (t : (v.phase ≡ Holding) × (v.seen ≡ log)). t.1)
-      (holder_has out at is_busy) in
+      let out : IsOut log s = is_out logs fixed_of h.place at is_busy in
+      let whole : v.seen ≡ log = holding_sees out at phase in
       let grew' : GrewByOwn who v.who log later = subst (λ (l : List Item). GrewByOwn who v.who l later) whole grew in
-      let gained : entries_since who v.who v.base later ≡ v.mine ++ drop (length v.seen) later =
-      own_adds who v.base grew f.recalls.past_base ∙ ap (λ l. l ++ drop (length v.seen) later) f.recalls.own in
-      let fits' : Fits who (with_log h.account later) w = record {
-        sees = begins_self later;
-        found = begins_trans f.found (own_begins who grew');
-        recalls = record {
-          past_base = let p = begins_length (own_begins who grew) in let q = f.recalls.past_base in omega arith;
-          own = gained;
-        };
-        all_own = ap (λ b. entries_since who v.who b later) (sym f.same_base) ∙ gained;
-        given = f.given;
-        not_ended = f.not_ended;
-        first = f.first;
-        same_fixed = f.same_fixed;
-        same_base = f.same_base;
-      } in (
+      let knows : Recalls who w = recalls_added who f.recalls grew in
+      let fits' : Fits who (with_log h.account later) w = fits_moves who f (begins_self later) (begins_trans f.found (own_begins who grew')) knows
+      (ap (λ b. entries_since who v.who b later) (sym f.same_base) ∙ knows.own) in (
         w,
         keeps,
         tt,
@@ -214,8 +181,7 @@ module _ {Value Item : Type 0} (logs : Value → List Item) (who : Item → ℕ)
               (ap (λ (l : List ℕ). slice_set l 0 k) out.words ∙ ap (λ n. n ∷ 1 ∷ []) count) refl refl);
         },
         λ other e. ap (λ (l : List Item). (added l v, (0, Some value) ∷ [])) (same_log value other e),
-      ))
-      h.place
+      )
 
   -- the exchange that gives
   gives_allowed : (slots id : ℕ) (v : View Item) (value : Value)
@@ -227,25 +193,11 @@ module _ {Value Item : Type 0} (logs : Value → List Item) (who : Item → ℕ)
       let is_busy : ¬ (v.phase ≡ Idle) = λ e. absurd cc in
       let f : Fits who h.account v = h.roster.fits id v at in
       let w : View Item = returned v in
-      ⊎_elim
-      (λ (home : IsHome logs fixed_of log h.account.fixed s). absurd (is_busy (home.idle id v at)))
-      (λ (out : IsOut log s).
-      let whole : v.seen ≡ log = ⊎_elim
-      (λ (t : (v.phase ≡ Taken) × (v.held ≡ log)). let p = t.0 in absurd cc)
-      (λ (t : (v.phase ≡ Holding) × (v.seen ≡ log)). t.1)
-      (holder_has out at is_busy) in
+      let out : IsOut log s = is_out logs fixed_of h.place at is_busy in
+      let whole : v.seen ≡ log = holding_sees out at phase in
       let mine : id ≡ out.holder = holder_is out at is_busy in
-      let fits' : Fits who h.account w = record {
-        sees = f.sees;
-        found = f.found;
-        recalls = record { past_base = f.recalls.past_base; own = f.recalls.own };
-        all_own = f.all_own;
-        given = f.given;
-        not_ended = f.not_ended;
-        first = f.first;
-        same_fixed = f.same_fixed;
-        same_base = f.same_base;
-      } in (
+      let fits' : Fits who h.account w =
+      fits_moves who f f.sees f.found (record { past_base = f.recalls.past_base; own = f.recalls.own }) f.all_own in (
         w,
         gives,
         tt,
@@ -265,8 +217,7 @@ module _ {Value Item : Type 0} (logs : Value → List Item) (who : Item → ℕ)
           };
         },
         refl,
-      ))
-      h.place
+      )
 
   -- the seat of a pass, once the value is taken and its log is seen
   pub seen_all : (before after later : SeatState Value Item) (t : Took logs who fixed_of before after) → loads after later
@@ -318,14 +269,10 @@ module _ {Value Item : Type 0} (logs : Value → List Item) (who : Item → ℕ)
       → after ≡ (returned (added (logs value) before.0), []) → IsFree who after
   free_after before after value h grew is =
       let v = before.0 in
-      let new = drop (length v.seen) (logs value) in
       let given : SeatState Value Item = (returned (added (logs value) v), []) in
       let free : IsFree who given = record {
         live = h.live;
-        recalls = record {
-          past_base = let p = begins_length (own_begins who grew) in let q = h.recalls.past_base in omega arith;
-          own = own_adds who v.base grew h.recalls.past_base ∙ ap (λ l. l ++ new) h.recalls.own;
-        };
+        recalls = recalls_added who h.recalls grew;
         idle = refl;
         carries = refl;
       } in

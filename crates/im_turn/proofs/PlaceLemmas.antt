@@ -1,5 +1,5 @@
 -- Where the value is, when one view changes.
-use Rattle.std.proofs.Common.{◌≡◌, ◌≢◌, ℕ, List, [], ◌∷◌, ◌++◌, true, length, set, Option, sym, ap, ◌∙◌, subst, ⊎_elim}
+use Rattle.std.proofs.Common.{◌≡◌, ◌≢◌, ℕ, ◌⊎◌, List, [], ◌∷◌, ◌++◌, true, length, set, Option, sym, ap, ◌∙◌, subst, ⊎_elim}
 use mathlib.Core.Option.{some}
 use mathlib.Core.Logic.{dite}
 use native.Mathlib.Decide.{ℕ_discrete}
@@ -30,6 +30,22 @@ module _ {Value Item : Type 0} where
   holder_has {log} {s} {seat} {v} out at is_busy =
       let moved : IsAt s.views out.holder v = subst (λ (i : ℕ). IsAt s.views i v) (holder_is out at is_busy) at in
       subst (HasValue log) (same_view out.there moved) out.has
+
+  -- before the load it has found the history
+  pub taken_finds : {log : List Item} {s : State (Option Value) (View Item)} {seat : ℕ} {v : View Item} (out : IsOut log s)
+      → IsAt s.views seat v → v.phase ≡ Taken → v.held ≡ log
+  taken_finds {log} {v = v} out at phase = ⊎_elim
+      (λ (t : (v.phase ≡ Taken) × (v.held ≡ log)). t.1)
+      (λ (t : (v.phase ≡ Holding) × (v.seen ≡ log)). let p = t.0 in absurd cc)
+      (holder_has out at (λ e. absurd cc))
+
+  -- from the load on it has seen the history
+  pub holding_sees : {log : List Item} {s : State (Option Value) (View Item)} {seat : ℕ} {v : View Item} (out : IsOut log s)
+      → IsAt s.views seat v → v.phase ≡ Holding → v.seen ≡ log
+  holding_sees {log} {v = v} out at phase = ⊎_elim
+      (λ (t : (v.phase ≡ Taken) × (v.held ≡ log)). let p = t.0 in absurd cc)
+      (λ (t : (v.phase ≡ Holding) × (v.seen ≡ log)). t.1)
+      (holder_has out at (λ e. absurd cc))
 
   -- the holder's view changes
   pub out_moves : {log : List Item} {s t : State (Option Value) (View Item)} {seat : ℕ} {v : View Item} (w : View Item) (later : List Item)
@@ -91,6 +107,14 @@ module _ {Value Item : Type 0} where
   }
 
 module _ {Value Item : Type 0} (logs : Value → List Item) (fixed_of : Value → List ℕ) where
+  -- where a live view is not idle, the value is out
+  pub is_out : {log : List Item} {fixed : List ℕ} {s : State (Option Value) (View Item)} {seat : ℕ} {v : View Item}
+      → IsHome logs fixed_of log fixed s ⊎ IsOut log s → IsAt s.views seat v → ¬ (v.phase ≡ Idle) → IsOut log s
+  is_out {log} {fixed} {s} {seat} {v} place at is_busy = ⊎_elim
+      (λ (home : IsHome logs fixed_of log fixed s). absurd (is_busy (home.idle seat v at)))
+      (λ (out : IsOut log s). out)
+      place
+
   -- a view changes and is idle, and the value is at home
   pub home_stays : {log : List Item} {fixed : List ℕ} {s t : State (Option Value) (View Item)} (seat : ℕ) (w : View Item)
       → IsHome logs fixed_of log fixed s → w.phase ≡ Idle

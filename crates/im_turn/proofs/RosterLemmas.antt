@@ -1,11 +1,13 @@
 -- The live views, when one of them changes.
-use Rattle.std.proofs.Common.{◌≡◌, ◌≢◌, ℕ, zero, suc, ◌≤◌, ◌⊎◌, List, [], ◌∷◌, true, length, set, Contains, get_or, refl, sym, ap, ◌∙◌, subst, inl, inr, ⊎_elim, arith}
+use Rattle.std.proofs.Common.{◌≡◌, ◌≢◌, ℕ, zero, suc, ◌≤◌, ◌⊎◌, List, [], ◌∷◌, true, length, set, All, Contains, get_or, refl, sym, ap, ◌∙◌, subst, inl, inr, ⊎_elim, arith}
 use mathlib.Core.Option.{some, some-injective, some-ne-none}
 use lib.ListN.{get_elem?}
 use Rattle.atomic_table.proofs.Lists.{at_set, set_else}
-use Rattle.im_turn.specs.Logs.{GrewByOwn}
+use Rattle.im_turn.specs.Logs.{entries_since, Begins, GrewByOwn}
+use Rattle.im_turn.specs.inner.Views.{Recalls}
 use Rattle.im_turn.specs.inner.Rule.{Account, Fits, IsAt, Roster}
 use Rattle.im_turn.specs.declared.view.View.{View}
+use Rattle.im_turn.specs.declared.view.Phase.{Phase}
 use Rattle.im_turn.proofs.LogLemmas.{begins_trans, begins_length, own_leaves, own_begins}
 
 -- an element that is there can be set
@@ -42,20 +44,46 @@ abbrev pub with_log : {Item : Type 0} → Account Item → List Item → Account
 with_log account log = record account { log = log }
 
 module _ {Item : Type 0} (who : Item → ℕ) where
-  -- a view still fits, once the history has grown by entries of another number
-  pub fits_later : {account : Account Item} {n : ℕ} {u : View Item} (log : List Item) → account.base ≤ length account.log
-      → GrewByOwn who n account.log log → u.who ≢ n → Fits who account u → Fits who (with_log account log) u
-  fits_later {account} {n} {u} log past grew ne f = record {
-    sees = begins_trans f.sees (own_begins who grew);
-    found = begins_trans f.found (own_begins who grew);
-    recalls = f.recalls;
-    all_own = own_leaves who u.who account.base grew ne past ∙ f.all_own;
+  -- a view still fits where it knows this of the history, which may have grown, and the rest stays
+  pub fits_moves : {account : Account Item} {v : View Item} {phase : Phase} {seen mine held log : List Item} → Fits who account v
+      → Begins seen log → Begins held log → Recalls who (record v { phase = phase; seen = seen; mine = mine; held = held })
+      → entries_since who v.who account.base log ≡ mine
+      → Fits who (with_log account log) (record v { phase = phase; seen = seen; mine = mine; held = held })
+  fits_moves f sees found recalls all_own = record {
+    sees = sees;
+    found = found;
+    recalls = recalls;
+    all_own = all_own;
     given = f.given;
     not_ended = f.not_ended;
     first = f.first;
     same_fixed = f.same_fixed;
     same_base = f.same_base;
   }
+
+  -- and where more numbers were given, or more passes have ended, which the first pass is told
+  pub fits_told : {account : Account Item} {v : View Item} {held : List Item} {gave told_gave : List ℕ} {olds told_olds : List (ℕ × List Item)}
+      → Fits who account v → Begins held account.log → (v.who ≡ 0) ⊎ Contains gave v.who → All (λ old. old.0 ≢ v.who) olds
+      → (v.who ≡ 0 → (told_gave ≡ gave) × (told_olds ≡ olds))
+      → Fits who (record account { gave = gave; olds = olds }) (record v { held = held; gave = told_gave; olds = told_olds })
+  fits_told f found given not_ended first = record {
+    sees = f.sees;
+    found = found;
+    recalls = record { past_base = f.recalls.past_base; own = f.recalls.own };
+    all_own = f.all_own;
+    given = given;
+    not_ended = not_ended;
+    first = first;
+    same_fixed = f.same_fixed;
+    same_base = f.same_base;
+  }
+
+  -- a view still fits, once the history has grown by entries of another number
+  pub fits_later : {account : Account Item} {n : ℕ} {u : View Item} (log : List Item) → account.base ≤ length account.log
+      → GrewByOwn who n account.log log → u.who ≢ n → Fits who account u → Fits who (with_log account log) u
+  fits_later {account} {n} {u} log past grew ne f =
+      fits_moves f (begins_trans f.sees (own_begins who grew)) (begins_trans f.found (own_begins who grew)) f.recalls
+      (own_leaves who u.who account.base grew ne past ∙ f.all_own)
 
   -- a view's number is neither one that was not given nor one that has ended
   not_stranger : {account : Account Item} {v : View Item} (n : ℕ) → Fits who account v → n ≢ 0 → ¬ Contains account.gave n → n ≢ v.who

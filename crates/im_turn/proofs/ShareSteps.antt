@@ -14,7 +14,7 @@ use Rattle.im_turn.specs.declared.view.View.{View}
 use Rattle.im_turn.specs.declared.view.Phase.{Phase}
 use Rattle.im_turn.specs.declared.view.Phase.TheVariants.{Idle, Taken, Holding}
 use Rattle.im_turn.proofs.LogLemmas.{IsLonger, begins_length, entries_since-begins, no_parts, same_between, own_nothing, longer_is}
-use Rattle.im_turn.proofs.RosterLemmas.{at_of_set, roster_moves}
+use Rattle.im_turn.proofs.RosterLemmas.{at_of_set, fits_moves, fits_told, roster_moves}
 use Rattle.im_turn.proofs.PlaceLemmas.{holder_has, out_moves, out_stays, out_comes, home_stays, home_comes}
 
 -- an element that stands in a list with one more at its end
@@ -41,32 +41,15 @@ module _ {Item : Type 0} (who : Item → ℕ) where
 
   -- another view than the first still fits, once a number was given
   fits_given : {account : Account Item} {u : View Item} (n : ℕ) → (u.who ≡ 0 → ⊥) → Fits who account u → Fits who (with_given account n) u
-  fits_given {account} {u} n nz f = record {
-    sees = f.sees;
-    found = f.found;
-    recalls = f.recalls;
-    all_own = f.all_own;
-    given = ⊎_elim (λ (z : u.who ≡ 0). inl z) (λ (c : Contains account.gave u.who). inr (Contains-append_left account.gave (n ∷ []) u.who c)) f.given;
-    not_ended = f.not_ended;
-    first = λ z. absurd (nz z);
-    same_fixed = f.same_fixed;
-    same_base = f.same_base;
-  }
+  fits_given {account} {u} n nz f =
+      fits_told who f f.found
+      (⊎_elim (λ (z : u.who ≡ 0). inl z) (λ (c : Contains account.gave u.who). inr (Contains-append_left account.gave (n ∷ []) u.who c)) f.given)
+      f.not_ended (λ z. absurd (nz z))
 
   -- and so does the first
   fits_first : {account : Account Item} {v : View Item} (n : ℕ) → Fits who account v → v.who ≡ 0
       → Fits who (with_given account n) (giving n v)
-  fits_first n f z = record {
-    sees = f.sees;
-    found = f.found;
-    recalls = record { past_base = f.recalls.past_base; own = f.recalls.own };
-    all_own = f.all_own;
-    given = inl z;
-    not_ended = f.not_ended;
-    first = λ _. (ap (λ (l : List ℕ). l ++ n ∷ []) (f.first z).0, (f.first z).1);
-    same_fixed = f.same_fixed;
-    same_base = f.same_base;
-  }
+  fits_first n f z = fits_told who f f.found (inl z) f.not_ended (λ _. (ap (λ (l : List ℕ). l ++ n ∷ []) (f.first z).0, (f.first z).1))
 
   -- and so does the new one
   fits_newcomer : {account : Account Item} {views : List (View Item)} {v : View Item} (n : ℕ) → Roster who account views
@@ -140,32 +123,17 @@ module _ {Item : Type 0} (who : Item → ℕ) where
   -- another view still fits, once a pass has ended whose number is not its own
   fits_ended : {account : Account Item} {u : View Item} (old : ℕ × List Item) → (u.who ≡ 0 → ⊥) → old.0 ≢ u.who
       → Fits who account u → Fits who (with_ended account old) u
-  fits_ended {account} {u} old nz ne f = record {
-    sees = f.sees;
-    found = f.found;
-    recalls = f.recalls;
-    all_own = f.all_own;
-    given = f.given;
-    not_ended = let P : ℕ × List Item → Type 0 = λ o. o.0 ≢ u.who in All-push P account.olds old f.not_ended ne;
-    first = λ z. absurd (nz z);
-    same_fixed = f.same_fixed;
-    same_base = f.same_base;
-  }
+  fits_ended {account} {u} old nz ne f =
+      let P : ℕ × List Item → Type 0 = λ o. o.0 ≢ u.who in
+      fits_told who f f.found f.given (All-push P account.olds old f.not_ended ne) (λ z. absurd (nz z))
 
   -- and so does the first, which has taken the pass in
   fits_joined : {account : Account Item} {v w : View Item} → Fits who account v → Fits who account w → v.who ≡ 0
       → ¬ (w.who ≡ 0) → Fits who (with_ended account (w.who, w.mine)) (joined v w)
-  fits_joined {account} {v} {w} f g z nz = record {
-    sees = f.sees;
-    found = g.sees;
-    recalls = record { past_base = f.recalls.past_base; own = f.recalls.own };
-    all_own = f.all_own;
-    given = inl z;
-    not_ended = let P : ℕ × List Item → Type 0 = λ o. o.0 ≢ v.who in All-push P account.olds (w.who, w.mine) f.not_ended (λ e. nz (e ∙ z));
-    first = λ _. ((f.first z).0, ap (λ (l : List (ℕ × List Item)). l ++ (w.who, w.mine) ∷ []) (f.first z).1);
-    same_fixed = f.same_fixed;
-    same_base = f.same_base;
-  }
+  fits_joined {account} {v} {w} f g z nz =
+      let P : ℕ × List Item → Type 0 = λ o. o.0 ≢ v.who in
+      fits_told who f g.sees (inl z) (All-push P account.olds (w.who, w.mine) f.not_ended (λ e. nz (e ∙ z)))
+      (λ _. ((f.first z).0, ap (λ (l : List (ℕ × List Item)). l ++ (w.who, w.mine) ∷ []) (f.first z).1))
 
   -- the live views after a join
   roster_joins : {account : Account Item} {views : List (View Item)} {seat other : ℕ} {v w : View Item}
@@ -328,17 +296,7 @@ module _ {Value Item : Type 0} (logs : Value → List Item) (who : Item → ℕ)
         past_base = let p = begins_length top.one_begins in let q = f.recalls.past_base in omega arith;
         own = same_between who v.who v.base top.one_begins top.begins f.recalls.past_base whole ∙ f.recalls.own;
       } in
-      let fits' : Fits who h.account w = record {
-        sees = top.begins;
-        found = f.found;
-        recalls = knows;
-        all_own = f.all_own;
-        given = f.given;
-        not_ended = f.not_ended;
-        first = f.first;
-        same_fixed = f.same_fixed;
-        same_base = f.same_base;
-      } in (
+      let fits' : Fits who h.account w = fits_moves who f top.begins f.found knows f.all_own in (
         w,
         keeps,
         tt,
