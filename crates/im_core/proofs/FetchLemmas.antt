@@ -1,7 +1,7 @@
 -- What a pin fetches.
 use Rattle.std.proofs.Common.{◌≡◌, ℕ, ◌-◌, ◌*◌, ◌<◌, ◌≤◌, Bool, true, false, min, List, [], ◌∷◌, Option, Some, None, refl, sym, ◌∙◌, subst, arith, All}
 use Rattle.std.specs.List.{find}
-use Rattle.std.specs.Option.{option_map}
+use Rattle.std.specs.Option.{IsSome, option_map}
 use Rattle.std.proofs.lemmas.List.Elements.{All-head, All-tail}
 use Rattle.im_values.specs.declared.limits.TheConstants.{CHANGE_WEIGHT, MOST_ROWS, MOST_WEIGHT}
 use Rattle.im_history.specs.declared.limits.Limits.{Limits}
@@ -74,14 +74,6 @@ finds_view h who cursor extent found views light found_is within = by (cursor_at
           };
         }
 
--- the cursor that was found
-pub view_found : (view : View) (extent : ℕ) (found : Option Cursor) (cursor : Cursor) → FindsView view extent found → found ≡ Some cursor
-    → HasView view extent cursor
-view_found view extent found cursor finds is = subst (HasView view extent) (some-inj (sym finds.is ∙ is)) finds.has
-  where
-    some-inj : {a b : Cursor} → Some a ≡ Some b → a ≡ b
-    some-inj e = cc
-
 -- what is read for it
 pub fetched_is : (h : History) (blocks : List (List Versions)) (view : View) (extent count : ℕ) (cursor : Cursor) → IsKept h blocks
     → HasView view extent cursor → count ≡ min cursor.per (cursor.rows - extent * cursor.per)
@@ -110,3 +102,19 @@ pub store_view : {U : Type 0} (content : U → Content) (limits : Limits) (histo
 store_view content limits history caches who cursor extent holds within =
     finds_view history.entries who cursor extent (cursor_in (activity_at caches.standing who) cursor) holds.views
     (given_few content limits history caches holds) (cursor-by history.entries caches.standing who cursor holds.sessions) within
+
+-- what a store found where it looked for that cursor
+module _ {U : Type 0} {content : U → Content} {limits : Limits} {history : Stored} {caches : Caches U} {found : Option Cursor} {extent : ℕ} (who cursor : ℕ)
+    (holds : Holds content limits history caches) (within : extent < (cursor_view history.entries who cursor).extents)
+    (found_is : found ≡ cursor_in (activity_at caches.standing who) cursor) where
+  finds : FindsView (cursor_view history.entries who cursor) extent (cursor_in (activity_at caches.standing who) cursor)
+  finds = store_view content limits history caches who cursor extent holds within
+
+  pub is_found : IsSome found
+  is_found = rw (found_is ∙ finds.is) refl
+
+  pub has_view : {one : Cursor} → found ≡ Some one → HasView (cursor_view history.entries who cursor) extent one
+  has_view is = subst (HasView (cursor_view history.entries who cursor) extent) (some-inj (sym finds.is ∙ (sym found_is ∙ is))) finds.has
+    where
+      some-inj : {a b : Cursor} → Some a ≡ Some b → a ≡ b
+      some-inj e = cc

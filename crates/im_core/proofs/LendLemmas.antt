@@ -1,15 +1,24 @@
 -- What a pin is lent of an extent, and what it reads beside that.
-use Rattle.std.proofs.Common.{◌≡◌, ℕ, Bool, true, false, length, nat_le, Option, Some, None, if◌then◌else◌, refl, sym, ap, ◌∙◌, subst}
+use Rattle.std.proofs.Common.{◌≡◌, ℕ, Bool, true, false, List, length, map, nat_le, Option, Some, None, if◌then◌else◌, refl, sym, ap, ◌∙◌, subst}
 use Rattle.std.specs.Option.{option_map}
 use Rattle.std.proofs.lemmas.List.{length-map}
 use Rattle.std.proofs.lemmas.List.FromFn.{length-range_with_len}
+use Rattle.im_versions.specs.Versions.{Versions}
+use Rattle.im_history.specs.declared.limits.Limits.{Limits}
 use Rattle.im_history.specs.declared.view.View.{View}
 use Rattle.im_history.specs.History.{History}
-use Rattle.im_history.specs.Units.{Content, content_at, stale, unit}
-use Rattle.im_directory.specs.Agrees.{Agrees}
-use Rattle.im_directory.specs.Slots.{Kept, Stock, told_at, unit_in}
-use Rattle.im_txn.specs.declared.cursor.Cursor.{Cursor}
+use Rattle.im_history.specs.Rows.{rows}
 use Rattle.im_history.specs.Serving.{committed_in, fetched_in, not_newer, rows_in, serving_content}
+use Rattle.im_history.specs.Stored.{Stored}
+use Rattle.im_history.specs.Units.{Content, content_at, unit}
+use Rattle.im_history.proofs.ShapeLaws.{per_at-some}
+use Rattle.im_blocks.specs.Chains.{rows_among}
+use Rattle.im_blocks.proofs.ForCallers.{rows_among_kept}
+use Rattle.im_directory.specs.Agrees.{Agrees}
+use Rattle.im_directory.specs.Slots.{Kept, Stock, stale_told, told_at, unit_in}
+use Rattle.im_directory.proofs.ForCallers.{stale-of}
+use Rattle.im_txn.specs.declared.cursor.Cursor.{Cursor}
+use Rattle.im_core.specs.inner.Holds.{Caches, Holds}
 use Rattle.im_core.specs.inner.Lending.{stale_in}
 use Rattle.im_core.proofs.FetchLemmas.{HasView}
 use Rattle.im_core.proofs.UnitLemmas.{unit-by}
@@ -44,44 +53,67 @@ lent-by content h kept table extent most of agrees is =
 -- ---- what a view is lent
 
 -- an SCN is lent
-pub record Lent (o : Option ℕ) (most : ℕ) : Type 0 where
+record IsLent (o : Option ℕ) (most : ℕ) : Type 0 where
   pub at : ℕ
   pub is : o ≡ Some at
   pub lent : not_newer most o ≡ Some at
 
-lent_if : (n most : ℕ) (b : Bool) (x : Content) (f : ℕ → Content) → nat_le n most ≡ b → Some x ≡ option_map f (if b then Some n else None) → Lent (Some n) most
+lent_if : (n most : ℕ) (b : Bool) (x : Content) (f : ℕ → Content) → nat_le n most ≡ b → Some x ≡ option_map f (if b then Some n else None)
+    → IsLent (Some n) most
 lent_if n most true x f e is = record { at = n; is = refl; lent = ap (λ (b : Bool). if b then Some n else None) e }
 lent_if n most false x f e is = cc
 
-pub lent-some : (o : Option ℕ) (most : ℕ) (x : Content) (f : ℕ → Content) → Some x ≡ option_map f (not_newer most o) → Lent o most
+lent-some : (o : Option ℕ) (most : ℕ) (x : Content) (f : ℕ → Content) → Some x ≡ option_map f (not_newer most o) → IsLent o most
 lent-some None most x f is = cc
 lent-some (Some n) most x f is = lent_if n most (nat_le n most) x f refl is
 
-pub lent-none : (o : Option ℕ) (f : ℕ → Content) → None ≡ option_map f o → o ≡ None
+lent-none : (o : Option ℕ) (f : ℕ → Content) → None ≡ option_map f o → o ≡ None
 lent-none None f is = refl
 lent-none (Some n) f is = cc
+
+-- a unit is lent, and beside it the stale rows are read
+pub record ReadsStale (h : History) (view : View) (extent : ℕ) (cursor : Cursor) : Type 0 where
+  pub at : ℕ
+  pub is : unit h cursor.table extent ≡ Some at
+  pub rows : stale_in h cursor.table extent cursor.scn at ≡ fetched_in h view extent
+
+-- no unit is lent, and all rows are read
+pub record ReadsAll (h : History) (view : View) (extent : ℕ) : Type 0 where
+  pub rows : committed_in h view extent ≡ fetched_in h view extent
+  pub long : rows_in view extent ≡ length (fetched_in h view extent)
 
 module _ (h : History) (view : View) (extent : ℕ) (cursor : Cursor) (has : HasView view extent cursor) where
   -- the view is lent what its cursor is
   pub lent-content : option_map (content_at h cursor.table extent) (not_newer cursor.scn (unit h cursor.table extent)) ≡ serving_content h view extent
   lent-content = rw (has.table, has.scn) refl
 
-  -- beside a unit the stale rows are read
-  pub fetched-lent : (l : Lent (unit h cursor.table extent) cursor.scn) → stale_in h cursor.table extent cursor.scn l.at ≡ fetched_in h view extent
-  fetched-lent l =
+  stale_beside : IsLent (unit h cursor.table extent) cursor.scn → ReadsStale h view extent cursor
+  stale_beside l =
       let one : not_newer view.scn (unit h view.table extent) ≡ Some l.at = rw (has.table, has.scn) at l.lent in
-      rw (has.table, has.scn, one) refl
+      record { at = l.at; is = l.is; rows = rw (has.table, has.scn, one) refl }
 
-  -- else all rows
-  pub fetched-bare : not_newer cursor.scn (unit h cursor.table extent) ≡ None → committed_in h view extent ≡ fetched_in h view extent
-  fetched-bare none =
-      let one : not_newer view.scn (unit h view.table extent) ≡ None = rw (has.table, has.scn) at none in
-      rw one refl
+  pub reads_stale : (x : Content) → Some x ≡ option_map (content_at h cursor.table extent) (not_newer cursor.scn (unit h cursor.table extent))
+      → ReadsStale h view extent cursor
+  reads_stale x lent = stale_beside (lent-some _ _ x _ lent)
 
--- so many rows are stale
-pub stale-long : (h : History) (table extent scn at : ℕ) → length (stale_in h table extent scn at) ≡ length (stale h table extent at scn)
-stale-long h table extent scn at = length-map _ _
+  pub reads_all : None ≡ option_map (content_at h cursor.table extent) (not_newer cursor.scn (unit h cursor.table extent)) → ReadsAll h view extent
+  reads_all lent =
+      let none : not_newer view.scn (unit h view.table extent) ≡ None = rw (has.table, has.scn) at (lent-none _ _ lent) in
+      let rows : committed_in h view extent ≡ fetched_in h view extent = rw none refl in
+      record { rows = rows; long = sym (length-map _ _ ∙ length-range_with_len _ _) ∙ ap length rows }
 
--- there are as many as the view has
-pub committed-long : (h : History) (view : View) (extent : ℕ) → length (committed_in h view extent) ≡ rows_in view extent
-committed-long h view extent = length-map _ _ ∙ length-range_with_len _ _
+-- the rows that are stale beside a unit, as they are kept
+pub record KeepsStale (h : History) (blocks : List (List Versions)) (table extent scn at : ℕ) (rids : List ℕ) : Type 0 where
+  pub rows : rows_among blocks table rids scn ≡ stale_in h table extent scn at
+  pub long : length rids ≡ length (stale_in h table extent scn at)
+
+pub keeps_stale : {U : Type 0} {content : U → Content} {limits : Limits} {history : Stored} {caches : Caches U} {rids : List ℕ} (table extent scn at : ℕ)
+    → Holds content limits history caches → unit history.entries table extent ≡ Some at → rids ≡ stale_told caches.kept table extent scn
+    → KeepsStale history.entries caches.blocks table extent scn at rids
+keeps_stale {U} {content} {limits} {history} {caches} {rids} table extent scn at holds is told =
+    let h = history.entries in
+    let stale_is = told ∙ stale-of content h caches.kept table extent at scn holds.units (per_at-some limits h table holds.legal) is in
+    record {
+      rows = rows_among_kept h caches.blocks holds.rows table rids scn ∙ ap (map (λ rid. (rid, rows h table scn rid))) stale_is;
+      long = ap length stale_is ∙ sym (length-map _ _);
+    }

@@ -5,6 +5,7 @@ mod HoldsLemmas
 mod LendLemmas
 mod RefusalLemmas
 mod RewriteLemmas
+mod SeenLemmas
 mod TaskLemmas
 mod UnitLemmas
 mod ViewLemmas

@@ -1,16 +1,19 @@
 -- Refusals, as what is kept tells them.
-use Rattle.std.proofs.Common.{◌≡◌, ℕ, ◌<◌, ◌≤◌, ◌==◌, ◌&&◌, Bool, true, false, not, nat_lt, List, length, Some, None, refl, sym, ap, ◌∙◌, arith}
+use Rattle.std.proofs.Common.{◌≡◌, ℕ, ◌<◌, ◌≤◌, ◌==◌, ◌&&◌, Bool, true, false, not, nat_lt, List, length, Option, Some, None, refl, sym, ap, ◌∙◌, arith}
 use Rattle.std.proofs.lemmas.Bool.Decides.{nat_tests}
-use Rattle.std.specs.Option.{option_or}
+use Rattle.std.specs.Option.{option_map, option_or}
 use Rattle.im_values.specs.declared.limits.TheConstants.{MOST_CURSORS, MOST_TABLES}
 use Rattle.im_history.specs.declared.change.Change.{Change}
 use Rattle.im_history.specs.declared.look.TableInfo.{TableInfo}
-use Rattle.im_history.specs.declared.refused.Why.TheVariants.{TableExists, TooManyTables, CursorOpen, TooManyCursors, Serialize}
+use Rattle.im_history.specs.declared.refused.Why.TheVariants.{TableExists, TooManyTables, CursorOpen, TooManyCursors, RowLocked, Serialize}
 use Rattle.im_history.specs.Cursors.{is_cursor_open, cursors_open}
 use Rattle.im_history.specs.History.{History}
-use Rattle.im_history.specs.Refusals.{when, create_refusal, open_refusal, touch_after}
+use Rattle.im_history.specs.Refusals.{when, create_refusal, lock_on, open_refusal, touch_after}
 use Rattle.im_history.specs.Tables.{tables, number_among, table_named}
 use Rattle.im_history.specs.Touched.{last_touch}
+use Rattle.im_txn.specs.Agrees.{Agrees}
+use Rattle.im_txn.specs.Standing.{Standing, holder_in}
+use Rattle.im_txn.proofs.ForCallers.{holder-by}
 
 pub open_refused : (h : History) (who cursor : ℕ) → is_cursor_open h who cursor ≡ true → Some CursorOpen ≡ open_refusal h who cursor
 open_refused h who cursor opened = rw opened refl
@@ -50,28 +53,22 @@ table_free h name catalog b same free room =
     let few : nat_lt (length (tables h)) MOST_TABLES ≡ b = ap (λ (ts : List TableInfo). nat_lt (length ts) MOST_TABLES) (sym same) ∙ room in
     rw (named, few) refl
 
--- what is read of the last commit that is known to have touched a row: whether it is later than an SCN, and then that it is
--- the last that touched it
-pub record IsLatest (scn latest last : ℕ) : Type 0 where
-  pub later : nat_lt scn latest ≡ nat_lt scn last
-  pub is : scn < latest → latest ≡ last
-
--- the last commit itself is so
-pub latest-last : (scn latest last : ℕ) → latest ≡ last → IsLatest scn latest last
-latest-last scn latest last same = record { later = ap (nat_lt scn) same; is = λ later. same }
+-- the session that holds the row
+pub lock_is : (h : History) (standing : Standing) (who : ℕ) (change : Change) (found : Option ℕ) → Agrees h standing
+    → found ≡ holder_in standing who change.table change.rid → option_map (λ other. RowLocked change.rid other) found ≡ lock_on h who change
+lock_is h standing who change found agrees is =
+    ap (option_map (λ other. RowLocked change.rid other)) (is ∙ holder-by h standing who change.table change.rid agrees)
 
 -- a commit after this SCN touched the row
-pub touch_found : (h : History) (scn latest : ℕ) (change : Change) → IsLatest scn latest (last_touch h change.table change.rid) → scn < latest
-    → Some (Serialize change.rid latest) ≡ touch_after h scn change
-touch_found h scn latest change known later =
-    let before : nat_lt scn latest ≡ true = grind (arith, nat_tests) in
-    let yes : nat_lt scn (last_touch h change.table change.rid) ≡ true = sym known.later ∙ before in
-    rw (known.is later, yes) refl
+pub touch_found : (h : History) (scn last : ℕ) (change : Change) → last ≡ last_touch h change.table change.rid → scn < last
+    → Some (Serialize change.rid last) ≡ touch_after h scn change
+touch_found h scn last change is later =
+    let yes : nat_lt scn (last_touch h change.table change.rid) ≡ true = grind (arith, nat_tests) in
+    rw (is, yes) refl
 
 -- none did
-pub touch_none : (h : History) (scn latest : ℕ) (change : Change) → IsLatest scn latest (last_touch h change.table change.rid) → latest ≤ scn
+pub touch_none : (h : History) (scn last : ℕ) (change : Change) → last ≡ last_touch h change.table change.rid → last ≤ scn
     → None ≡ touch_after h scn change
-touch_none h scn latest change known earlier =
-    let before : nat_lt scn latest ≡ false = grind (arith, nat_tests) in
-    let no : nat_lt scn (last_touch h change.table change.rid) ≡ false = sym known.later ∙ before in
+touch_none h scn last change is earlier =
+    let no : nat_lt scn (last_touch h change.table change.rid) ≡ false = grind (arith, nat_tests) in
     rw no refl

@@ -1,12 +1,12 @@
 -- What a write to rows that a cursor saw may rely on.
-use Rattle.std.proofs.Common.{◌≡◌, ℕ, zero, suc, ◌*◌, ◌≤◌, inr, List, length, Option, Some, None, sym, ap, ◌∙◌, subst, arith}
-use Rattle.std.specs.Option.{option_map}
+use Rattle.std.proofs.Common.{◌≡◌, ℕ, zero, suc, ◌*◌, ◌≤◌, inr, List, length, Option, Some, None, refl, sym, ap, ◌∙◌, subst, arith}
+use Rattle.std.specs.Option.{IsSome, option_map}
 use Rattle.std.proofs.lemmas.Option.{slice_get_within}
 use Rattle.im_values.specs.declared.limits.TheConstants.{CHANGE_WEIGHT}
 use Rattle.im_history.specs.declared.change.Change.{Change}
 use Rattle.im_history.specs.declared.entry.What.TheVariants.{Write}
 use Rattle.im_history.specs.declared.limits.Limits.{Limits}
-use Rattle.im_history.specs.Cursors.{Opened, opened, cursor_at, is_cursor}
+use Rattle.im_history.specs.Cursors.{Opened, opened, is_cursor}
 use Rattle.im_history.specs.History.{History}
 use Rattle.im_history.specs.Legal.{Exists, MayWrite, IsAllowed}
 use Rattle.im_history.specs.Refusals.{write_refusal}
@@ -15,8 +15,8 @@ use Rattle.im_history.specs.Tables.{tables, given}
 use Rattle.im_history.specs.Weights.{weight}
 use Rattle.im_txn.specs.declared.cursor.Cursor.{Cursor}
 use Rattle.im_txn.specs.Activity.{cursor_in}
-use Rattle.im_txn.specs.Agrees.{Agrees, kept}
-use Rattle.im_txn.specs.Standing.{Standing, activity_at}
+use Rattle.im_txn.specs.Agrees.{kept}
+use Rattle.im_txn.specs.Standing.{activity_at}
 use Rattle.im_txn.proofs.ForCallers.{cursor-by}
 use Rattle.im_core.specs.Answers.{cursor_view, view_of}
 use Rattle.im_history.specs.Units.{Content}
@@ -39,34 +39,38 @@ pub record Rewrites (limits : Limits) (h : History) (who cursor : ℕ) (changes 
   pub range : (1 ≤ view.table) × (view.table ≤ length (tables h))
   pub scn : view.scn ≡ (cursor_view h who cursor).scn
   pub gives : Gives h view.table changes (given h view.table)
-  pub allowed : write_refusal limits h who view.scn changes ≡ None → IsAllowed limits h who (Write changes)
+  pub allowed : write_refusal limits h who (cursor_view h who cursor).scn changes ≡ None → IsAllowed limits h who (Write changes)
 
 kept_of : (limits : Limits) (h : History) (who cursor : ℕ) (changes : List Change) (may : MayWrite h who cursor changes) → IsView h may.opened.view
     → given h may.opened.view.table * CHANGE_WEIGHT ≤ weight h → Rewrites limits h who cursor changes (kept may.opened)
-kept_of limits h who cursor changes may view light = record {
-  exists = may.exists;
-  range = exists_range h may.opened.view.table may.exists;
-  scn = ap (λ (o : Option Opened). (view_of o).scn) (sym may.is);
-  gives = Gives-rewrite h may.opened.view.table changes may.same
-      (λ i within. let inside = may.inside i within in let given_then = view.within in omega (arith, inside, given_then)) light;
-  allowed = λ none. inr (record { cursor = cursor; may = may; allowed = none });
-}
+kept_of limits h who cursor changes may view light =
+    let scn_is : may.opened.view.scn ≡ (cursor_view h who cursor).scn = ap (λ (o : Option Opened). (view_of o).scn) (sym may.is) in
+    record {
+      exists = may.exists;
+      range = exists_range h may.opened.view.table may.exists;
+      scn = scn_is;
+      gives = Gives-rewrite h may.opened.view.table changes may.same
+          (λ i within. let inside = may.inside i within in let given_then = view.within in omega (arith, inside, given_then)) light;
+      allowed = λ none. inr (record { cursor = cursor; may = may; allowed = rw scn_is none });
+    }
 
--- the cursor that a session has open is the one that it keeps
-pub kept_is : (h : History) (standing : Standing) (who cursor : ℕ) (opened_one : Opened) → Agrees h standing → cursor_at h who cursor ≡ Some opened_one
-    → cursor_in (activity_at standing who) cursor ≡ Some (kept opened_one)
-kept_is h standing who cursor opened_one agrees is = cursor-by h standing who cursor agrees ∙ ap (option_map kept) is
+-- what a store found where it looked for the cursor
+module _ {U : Type 0} {content : U → Content} {limits : Limits} {history : Stored} {caches : Caches U} {caller : ℕ} {found : Option Cursor} (who cursor : ℕ)
+    (changes : List Change) (holds : Holds content limits history caches) (may : MayWrite history.entries who cursor changes) (called : caller ≡ who)
+    (found_is : found ≡ cursor_in (activity_at caches.standing caller) cursor) where
+  -- the cursor that a session has open is the one that it keeps
+  kept_is : found ≡ Some (kept may.opened)
+  kept_is = (rw called at found_is) ∙ (cursor-by history.entries caches.standing who cursor holds.sessions ∙ ap (option_map kept) may.is)
 
-pub rewrites : {U : Type 0} (content : U → Content) (limits : Limits) (history : Stored) (caches : Caches U) (who cursor : ℕ)
-    (changes : List Change) (view : Cursor)
-    → Holds content limits history caches → MayWrite history.entries who cursor changes → cursor_in (activity_at caches.standing who) cursor ≡ Some view
-    → Rewrites limits history.entries who cursor changes view
-rewrites content limits history caches who cursor changes view holds may found =
-    let is = kept_is history.entries caches.standing who cursor may.opened holds.sessions may.is in
-    let seen : IsView history.entries may.opened.view =
-    found_has (λ (o : Opened). IsView history.entries o.view) (is_cursor cursor) (opened history.entries who) may.opened (holds.views.each who) may.is in
-    subst (Rewrites limits history.entries who cursor changes) (some-inj (sym is ∙ found))
-    (kept_of limits history.entries who cursor changes may seen (holds.tables.light may.opened.view.table))
-  where
-    some-inj : {a b : Cursor} → Some a ≡ Some b → a ≡ b
-    some-inj e = cc
+  pub is_kept : IsSome found
+  is_kept = rw kept_is refl
+
+  pub rewrites : {view : Cursor} → found ≡ Some view → Rewrites limits history.entries who cursor changes view
+  rewrites is =
+      let seen : IsView history.entries may.opened.view =
+      found_has (λ (o : Opened). IsView history.entries o.view) (is_cursor cursor) (opened history.entries who) may.opened (holds.views.each who) may.is in
+      subst (Rewrites limits history.entries who cursor changes) (some-inj (sym kept_is ∙ is))
+      (kept_of limits history.entries who cursor changes may seen (holds.tables.light may.opened.view.table))
+    where
+      some-inj : {a b : Cursor} → Some a ≡ Some b → a ≡ b
+      some-inj e = cc

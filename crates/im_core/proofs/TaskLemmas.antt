@@ -26,9 +26,9 @@ pub record HasTask (h : History) (task : Task) (given : ℕ) : Type 0 where
 same_held : {a b : Held} → Some a ≡ Some b → a ≡ b
 same_held e = cc
 
-pub has_task : {U : Type 0} (content : U → Content) (limits : Limits) (history : Stored) (caches : Caches U) (task : Task) (found : Held)
+pub has_task : {U : Type 0} {content : U → Content} {limits : Limits} {history : Stored} {caches : Caches U} (task : Task) (found : Held)
     → Holds content limits history caches → IsHeld history.entries task → build_in caches.kept task.id ≡ Some found → HasTask history.entries task found.given
-has_task content limits history caches task found holds held is =
+has_task {U} {content} {limits} {history} {caches} task found holds held is =
     let here : held_at history.entries task.id ≡ Some found = sym (holds.units.held task.id) ∙ is in
     let same : held.held ≡ found = same_held (sym held.is ∙ here) in
     let task_is : found.task ≡ task = ap (λ (one : Held). one.task) (sym same) ∙ held.same in
