@@ -3,6 +3,7 @@ use Rattle.std.proofs.Common.{◌≡◌, ℕ, zero, suc, ◌+◌, ◌≤◌, ◌
 use Rattle.std.proofs.lemmas.Bool.Decides.{nat_tests}
 use Rattle.std.specs.Prelude.{⊤}
 use Rattle.std.specs.List.{list_any}
+use Rattle.std.specs.Result.{IfOk}
 use Rattle.im_values.specs.declared.priority.Priority.{Priority}
 use Rattle.im_values.specs.declared.schema.Column.{Column}
 use Rattle.im_values.specs.declared.value.Value.{Value}
@@ -27,8 +28,7 @@ use Rattle.im_history.specs.Views.{view_at}
 use Rattle.im_names.specs.declared.fault.NameFault.{NameFault}
 use Rattle.im_names.specs.declared.resolved.Resolved.{Resolved}
 use Rattle.im_names.specs.declared.resolved.Resolved.TheVariants as resolved
-use Rattle.im_names.specs.Faults.{formed, unless}
-use Rattle.im_names.specs.Lookups.{of_table, table_called}
+use Rattle.im_names.specs.Lookups.{table_called}
 use Rattle.im_names.specs.Statements.{answer, query_answer}
 use Rattle.im_plan.specs.Plan.{Plan, End, Turn}
 use Rattle.im_replies.specs.declared.fault.Fault.{Fault}
@@ -52,6 +52,7 @@ use Rattle.im_statements.specs.Turns.{answer_at, look, or_refused, served_reply,
 use Rattle.im_statements.specs.Writes.{changes_to, insert, inserts, kept_rows, or_fault, rewrite, write_or_end, written}
 use Rattle.im_statements.specs.declared.rewriting.Rewriting.{Rewriting}
 use Rattle.im_statements.specs.declared.rewriting.Rewriting.TheVariants.{Updating, Deleting}
+use Rattle.im_statements.proofs.AnswerLaws.{formed-each, of_table-each, unless-each}
 use Rattle.im_statements.proofs.KeptLaws.{IsApart, IsGood, Keeps, Moves, none, opens, shuts, stays, Plain, Steady, Stops, goes-keeps, lacks-keeps, moved, plain-good, without-none, without_scan}
 
 -- ---- plans that keep what is kept
@@ -224,10 +225,6 @@ abbrev IsFine : Resolved → Type 0
 IsFine (resolved.OpenFor cursor bound) = 1 ≤ cursor
 IsFine _ = ⊤
 
-abbrev AreFine : Result Resolved NameFault → Type 0
-AreFine (Ok r) = IsFine r
-AreFine (Err fault) = ⊤
-
 module _ (who : ℕ) (state : State) (cursors : List Opened) (steady : Steady state cursors) where
   closes : Steady state (without_scan cursors)
   closes = subst (λ (os : List Opened). Steady state os) (sym (without-none cursors steady.0)) steady
@@ -337,47 +334,22 @@ module _ (who : ℕ) (state : State) (cursors : List Opened) (steady : Steady st
   good-resolved limits at (resolved.Trickle credits) fine = plain-good who state cursors steady _ (refl, refl)
   good-resolved limits at (resolved.Evict table extent) fine = plain-good who state cursors steady _ (refl, refl)
 
-  good-found : (limits : Limits) (at : History) (r : Result Resolved NameFault) → AreFine r → IsGood who state cursors (found_plan limits who state at r)
+  good-found : (limits : Limits) (at : History) (r : Result Resolved NameFault) → IfOk r IsFine → IsGood who state cursors (found_plan limits who state at r)
   good-found limits at (Ok r) fine = good-resolved limits at r fine
   good-found limits at (Err fault) fine = plain-good who state cursors steady _ (refl, refl)
 
-  fine-formed : {A : Type 0} (form : A → Resolved) → ((value : A) → IsFine (form value)) → (r : Result A NameFault) → AreFine (formed form r)
-  fine-formed form each (Ok value) = each value
-  fine-formed form each (Err fault) = tt
-
-  fine-unless : (fault : Option NameFault) (r : Resolved) → IsFine r → AreFine (unless fault r)
-  fine-unless None r fine = fine
-  fine-unless (Some fault) r fine = tt
-
-  fine-table : (found : Option TableInfo) (name : List ℕ) (f : TableInfo → Result Resolved NameFault) → ((table : TableInfo) → AreFine (f table))
-      → AreFine (of_table found name f)
-  fine-table None name f each = tt
-  fine-table (Some table) name f each = each table
-
-  fine-answer : (known : List TableInfo) (s : Stmt) → IsStmt s → AreFine (answer known s)
-  fine-answer known (stmt.Select q) is = fine-formed resolved.Select (λ bound. tt) (query_answer known q)
-  fine-answer known (stmt.Explain q) is = fine-formed resolved.Explain (λ bound. tt) (query_answer known q)
-  fine-answer known (stmt.OpenFor cursor q) is = fine-formed (resolved.OpenFor cursor) (λ bound. is.0.low_end) (query_answer known q)
-  fine-answer known (stmt.Create name columns block extent memory) is = fine-unless _ _ tt
-  fine-answer known (stmt.AlterMemory name memory) is = fine-table (table_called known name) name _ (λ table. tt)
-  fine-answer known (stmt.AlterNoMemory name) is = fine-table (table_called known name) name _ (λ table. tt)
-  fine-answer known (stmt.Insert name names tuples) is = fine-table (table_called known name) name _ (λ table. fine-unless _ _ tt)
-  fine-answer known (stmt.Update name sets cond) is = fine-table (table_called known name) name _ (λ table. fine-unless _ _ tt)
-  fine-answer known (stmt.Delete name cond) is = fine-table (table_called known name) name _ (λ table. fine-unless _ _ tt)
-  fine-answer known (stmt.Evict name extent) is = fine-table (table_called known name) name _ (λ table. tt)
-  fine-answer known stmt.SetReadOnly is = tt
-  fine-answer known stmt.SetSerializable is = tt
-  fine-answer known stmt.SetCommitted is = tt
-  fine-answer known stmt.Commit is = tt
-  fine-answer known stmt.Rollback is = tt
-  fine-answer known (stmt.Step cursor) is = tt
-  fine-answer known (stmt.Fetch cursor) is = tt
-  fine-answer known (stmt.Close cursor) is = tt
-  fine-answer known stmt.Run is = tt
-  fine-answer known stmt.Begin is = tt
-  fine-answer known stmt.Switch is = tt
-  fine-answer known stmt.Cancel is = tt
-  fine-answer known (stmt.Trickle credits) is = tt
+  fine-answer : (known : List TableInfo) (s : Stmt) → IsStmt s → IfOk (answer known s) IsFine
+  fine-answer known (stmt.Select q) is = formed-each IsFine resolved.Select (λ bound. tt) (query_answer known q)
+  fine-answer known (stmt.Explain q) is = formed-each IsFine resolved.Explain (λ bound. tt) (query_answer known q)
+  fine-answer known (stmt.OpenFor cursor q) is = formed-each IsFine (resolved.OpenFor cursor) (λ bound. is.0.low_end) (query_answer known q)
+  fine-answer known (stmt.Create name columns block extent memory) is = unless-each IsFine _ _ tt
+  fine-answer known (stmt.AlterMemory name memory) is = of_table-each IsFine (table_called known name) name _ (λ table. tt)
+  fine-answer known (stmt.AlterNoMemory name) is = of_table-each IsFine (table_called known name) name _ (λ table. tt)
+  fine-answer known (stmt.Insert name names tuples) is = of_table-each IsFine (table_called known name) name _ (λ table. unless-each IsFine _ _ tt)
+  fine-answer known (stmt.Update name sets cond) is = of_table-each IsFine (table_called known name) name _ (λ table. unless-each IsFine _ _ tt)
+  fine-answer known (stmt.Delete name cond) is = of_table-each IsFine (table_called known name) name _ (λ table. unless-each IsFine _ _ tt)
+  fine-answer known (stmt.Evict name extent) is = of_table-each IsFine (table_called known name) name _ (λ table. tt)
+  fine-answer known _ is = tt
 
   good-named : (limits : Limits) (s : Stmt) → IsStmt s → (at : History) → IsGood who state cursors (named_plan limits who state s at)
   good-named limits s is at = good-found limits at (answer (tables at) s) (fine-answer (tables at) s is)

@@ -1,4 +1,5 @@
 pub mod AgreementLaws
+pub mod AnswerLaws
 mod KeptLaws
 pub mod OtherLaws
 pub mod RoundLaws
