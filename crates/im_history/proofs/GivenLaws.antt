@@ -8,7 +8,7 @@ use Rattle.im_history.specs.History.{History}
 use Rattle.im_history.specs.Tables.{given, given_by, given_after}
 use Rattle.im_history.proofs.Laws.{given-push}
 
-given_by-grows : (table n : ℕ) (changes : List Change) → n ≤ given_by table n changes
+pub given_by-grows : (table n : ℕ) (changes : List Change) → n ≤ given_by table n changes
 given_by-grows table n [] = omega arith
 given_by-grows table n (change ∷ changes) = by (change.table == table) (given_by-grows table n changes) (given_by-grows table (max n (change.rid + 1)) changes)
   where
