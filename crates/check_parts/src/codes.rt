@@ -1,11 +1,8 @@
-use im_codes::{Dict, Run, Runs};
-use im_values::{Name, Value};
+use crate::values::text;
+use im_codes::{Dict, Runs};
+use im_values::Value;
 use std::alloc::Global;
 use std::test::Fail;
-
-fn text(alloc: Global, bytes: &[u8]) -> Result<Value, Fail> {
-    Ok(Value::Text(Name::of(alloc, bytes)?))
-}
 
 /// 30, NULL, 10, 30, 'b', 'a', 'b'.
 fn mixed(alloc: Global) -> Result<Vec<Value>, Fail> {
@@ -40,8 +37,8 @@ fn a_dictionary_numbers_the_distinct_values_in_their_order(rt: HostRuntime) -> R
     for (number, code) in [(9, 1), (10, 1), (20, 2), (30, 2), (31, 3)] {
         assert_eq!(rt; dict.lower(&Value::Int(number)), code);
     }
-    assert_eq!(rt; dict.lower(&Value::Text(Name::of(alloc, b"aa")?)), 4);
-    assert_eq!(rt; dict.lower(&Value::Text(Name::of(alloc, b"c")?)), 5);
+    assert_eq!(rt; dict.lower(&text(alloc, b"aa")?), 4);
+    assert_eq!(rt; dict.lower(&text(alloc, b"c")?), 5);
     Ok(())
 }
 
@@ -74,13 +71,7 @@ fn runs_are_as_long_as_they_can_be(rt: HostRuntime) -> Result<(), Fail> {
         let runs = Runs::build(alloc, codes)?;
         assert_eq!(rt; runs.runs().len(), expected.len());
         for (run, (code, end)) in runs.runs().iter().zip(expected) {
-            assert_eq!(rt;
-                *run,
-                Run {
-                    code: *code,
-                    end: *end
-                }
-            );
+            assert_eq!(rt; (run.code, run.end), (*code, *end));
         }
         for (i, code) in codes.iter().enumerate() {
             assert!(rt; (i as u64) < runs.len());

@@ -23,6 +23,18 @@ const STEPPED: &str = "1> CREATE TABLE T (K NUMBER) BLOCK 2 EXTENT 2 INMEMORY PR
     1> INSERT INTO T VALUES (1), (2), (3), (4), (5), (6)\n1> COMMIT\nrace>\n\
     1> OPEN 1 FOR SELECT SUM(K) FROM T\n1> STEP 1\n1> STEP 1\n1> FETCH 1";
 
+/// Two sessions have a table each, and both create one that they share, so one is refused.
+const SHARED: &str = "race>\n\
+    1> CREATE TABLE A (K NUMBER)\n1> CREATE TABLE S (K NUMBER)\n1> INSERT INTO A VALUES (1), (2)\n\
+    1> INSERT INTO S VALUES (11)\n1> COMMIT\n1> UPDATE A SET K = 3 WHERE K = 1\n1> COMMIT\n\
+    1> SELECT COUNT(*) FROM S\n\
+    2> CREATE TABLE B (K NUMBER)\n2> CREATE TABLE S (K NUMBER)\n2> INSERT INTO S VALUES (21), (22)\n\
+    2> INSERT INTO B VALUES (5)\n2> COMMIT\n2> DELETE FROM B WHERE K = 5\n2> ROLLBACK\n\
+    2> SELECT COUNT(*) FROM S";
+
+/// How often each of eight sessions commits.
+const COMMITS: usize = 1000;
+
 /// The report of a race that is played whole.
 fn report_of<R: Abort + Threads + Wait + Sync, G: Gate + Sync>(
     rt: &R,
@@ -71,6 +83,49 @@ fn a_session_whose_lines_are_refused_leaves(rt: HostRuntime) -> Result<(), Fail>
     let text = text_of(report.as_slice());
     assert!(rt; text.contains(",2,leave\n") && text.contains(",3,leave\n"));
     assert!(rt; text.contains("\n5,error,01,syntax,3\n6,error,01,syntax,4\n"));
+    Ok(())
+}
+
+#[test]
+fn two_sessions_share_a_table(rt: HostRuntime) -> Result<(), Fail> {
+    let words = ["ime", "race", "--workers", "1"];
+    let report = report_of(&rt, rt.alloc(), &words, SHARED, &OpenGate)?;
+    let race = Race {
+        script: SHARED,
+        prelude: 0,
+        workers: 1,
+    };
+    assert_eq!(rt; read_report(rt.alloc(), &race, report.as_slice()), Ok(()));
+    let text = text_of(report.as_slice());
+    assert_eq!(rt;
+        text.lines().filter(|line| line.contains(",error,")).count(),
+        1
+    );
+    Ok(())
+}
+
+#[test]
+fn eight_sessions_commit_and_each_commit_is_there(rt: HostRuntime) -> Result<(), Fail> {
+    let mut script = String::from_str(rt.alloc(), "race>\n")?;
+    for _ in 0..COMMITS {
+        script.push_str("1> COMMIT\n2> COMMIT\n3> COMMIT\n4> COMMIT\n")?;
+        script.push_str("5> COMMIT\n6> COMMIT\n7> COMMIT\n8> COMMIT\n")?;
+    }
+    let words = ["ime", "race", "--workers", "1"];
+    let report = report_of(&rt, rt.alloc(), &words, script.as_str(), &OpenGate)?;
+    let text = text_of(report.as_slice());
+    assert!(rt; text.starts_with("history,8008\n"));
+    assert_eq!(rt;
+        text.lines()
+            .filter(|line| line.ends_with(",commit"))
+            .count(),
+        8 * COMMITS
+    );
+    assert_eq!(rt;
+        text.lines().filter(|line| line.ends_with(",leave")).count(),
+        8
+    );
+    assert!(rt; text.contains(",committed,8000\n"));
     Ok(())
 }
 

@@ -85,7 +85,7 @@ fn outcome<R: Threads + Wait + Sync, G: Gate + Sync, L: Ledger>(
     let script = Vec::from_slice(alloc, case.script.as_bytes())?;
     let mut source = MemSource::new(script, case.read_piece, one_call(alloc, case.read_fails)?);
     let mut sink = MemSink::new(alloc, case.write_piece, one_call(alloc, case.write_fails)?);
-    sink.push_room(65536)?;
+    sink.push_room(1 << 19)?;
     let words = words(alloc, command)?;
     let mut steps = Steps::<L>::new(blank);
     let status = run(

@@ -1,0 +1,10 @@
+use Rattle.std.proofs.Common.{◌≡◌, rules}
+use Rattle.im_turn.specs.Passes.{numbers_of}
+use Rattle.im_turn.proofs.ForCallers.{all_joined}
+use Rattle.check_parts.proofs.turn.write_both.Goals as goal
+
+pub close-requires-clause-all_joined : goal.close-requires-clause-all_joined
+close-requires-clause-all_joined g c =
+    let pass = c.join-2.new.pass in
+    let same : numbers_of pass.olds ≡ pass.gave = search rules in
+    all_joined pass.olds pass.gave same
