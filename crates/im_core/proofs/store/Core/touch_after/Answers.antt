@@ -6,8 +6,10 @@ use Rattle.im_core.proofs.store.Core.touch_after.Goals as goal
 
 pub returns-then-last-scn : goal.returns-then-last-scn
 returns-then-last-scn g c =
-    touch_found _ c.args.scn _ c.args.change.now (c.latest-last.ensures ∙ latest_kept _ _ (Holds-seen c.self.invariant c.self.view_is).rows _ _) c.if-last-scn.true
+    touch_found _ c.args.scn _ c.args.change.now (c.latest-last.ensures ∙ latest_kept _ _ (Holds-seen c.self.invariant c.self.view_is).rows _ _)
+    c.if-last-scn.true
 
 pub returns-else-last-scn : goal.returns-else-last-scn
 returns-else-last-scn g c =
-    touch_none _ c.args.scn _ c.args.change.now (c.latest-last.ensures ∙ latest_kept _ _ (Holds-seen c.self.invariant c.self.view_is).rows _ _) c.if-last-scn.false
+    touch_none _ c.args.scn _ c.args.change.now (c.latest-last.ensures ∙ latest_kept _ _ (Holds-seen c.self.invariant c.self.view_is).rows _ _)
+    c.if-last-scn.false
