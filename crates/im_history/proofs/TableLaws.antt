@@ -13,6 +13,7 @@ use Rattle.im_history.specs.Tables.{created, table_among, table_at, tables, with
 use Rattle.im_history.specs.Units.{columns_of}
 use Rattle.im_history.specs.Views.{per_at}
 use Rattle.im_history.proofs.Laws.{tables-push}
+use Rattle.im_history.proofs.RowLaws.{each_longer}
 
 -- a table stands there with the same columns and the same shape
 pub record StaysAs (made : TableInfo) (found : Option TableInfo) : Type 0 where
@@ -59,6 +60,15 @@ table-stays : (h : History) (entry : Entry) (table : ℕ) (exists : Exists h tab
 table-stays h entry table exists =
     let now = stays-among (tables h) entry.what table exists.made exists.is in
     record { info = now.info; is = ap (λ (ts : List TableInfo). table_among ts table) (tables-push h entry) ∙ now.is; schema = now.schema; shape = now.shape }
+
+-- and so it stands there in each longer history
+pub table-longer : (h more : History) (table : ℕ) (exists : Exists h table) → StaysAs exists.made (table_at (h ++ more) table)
+table-longer h more table exists =
+    each_longer (λ (log : History). StaysAs exists.made (table_at log table))
+    (λ log entry so_far.
+    let now = table-stays log entry table (record { made = so_far.info; is = so_far.is }) in
+    record { info = now.info; is = now.is; schema = now.schema ∙ so_far.schema; shape = now.shape ∙ so_far.shape })
+    h more (stays exists.made (table_at h table) exists.is)
 
 -- a table that exists is there after one more entry
 pub Exists-push : (h : History) (entry : Entry) (table : ℕ) → Exists h table → Exists (h ++ entry ∷ []) table
