@@ -70,12 +70,17 @@ fn select(alloc: Global, tokens: &[Token]) -> Result<(Stmt, &[Token]), Halt>
 }
 
 /// A statement of one keyword.
+///
+/// Where it is not read, a call drops it: in line, its every variant would be a case of this function's proof.
 fn single(tokens: &[Token], keyword: Keyword, stmt: Stmt) -> Result<(Stmt, &[Token]), Halt>
     ensures { Gives (λ x. Found x.0 x.1.now) result (statements.single_at keyword stmt tokens.now) }
 {
     match word(tokens, keyword) {
         Ok(rest) => Ok((stmt, rest)),
-        Err(halt) => Err(halt),
+        Err(halt) => {
+            drop(stmt);
+            Err(halt)
+        }
     }
 }
 
