@@ -10,7 +10,7 @@ use std::marker::Model;
 /// A list of codes, packed.
 ///
 /// Fewer than 2^31 codes of at most 32 bits each.
-#[derive(Debug, Drop)]
+#[derive(Drop)]
 pub struct Bits {
     words: Vec<u64>,
     width: u32,

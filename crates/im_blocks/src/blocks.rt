@@ -16,7 +16,7 @@ use std::sync::ledger::Ledger;
 ///
 /// Contracts see for each table its chains by row number, and read them through `chain_of`, which answers an empty
 /// chain past the ends. A row number takes 64 bytes, in which its first version stands.
-#[derive(Debug, Drop)]
+#[derive(Drop)]
 pub struct Blocks {
     chains: Cells<Chain>,
 }

@@ -8,7 +8,7 @@ use im_values::{NoMemory, Value, order};
 use std::alloc::Global;
 
 /// A dictionary, and the code of each value of the list that it was made of.
-#[derive(Debug, Drop)]
+#[derive(Drop)]
 pub struct Coding {
     pub dict: Dict,
 

@@ -8,7 +8,7 @@ use indexmap::IndexSet;
 use std::alloc::Global;
 
 /// Each value of a list under a number: the place of the same value among those seen.
-#[derive(Debug, Drop)]
+#[derive(Drop)]
 pub struct Numbering<'a> {
     /// The values, each at its number.
     pub seen: Vec<&'a Value>,

@@ -1,5 +1,5 @@
 /// A run of equal codes.
-#[derive(Clone, Copy, Debug, PartialEq, Eq)]
+#[derive(Clone, Copy)]
 pub struct Run {
     /// The code of each place of the run.
     pub code: u32,

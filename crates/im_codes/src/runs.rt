@@ -9,7 +9,7 @@ use std::marker::Model;
 /// A list of codes, kept as runs of equal ones. Each run is as long as it can be.
 ///
 /// There are fewer than 2^31 codes.
-#[derive(Debug, Drop)]
+#[derive(Drop)]
 pub struct Runs {
     runs: Vec<Run>,
     len: u64,

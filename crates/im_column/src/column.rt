@@ -21,7 +21,7 @@ use std::marker::Model;
 /// A list of values, in the form that takes the least bytes, with its bounds and its sum.
 ///
 /// There are fewer than 2^31 values.
-#[derive(Debug, Drop)]
+#[derive(Drop)]
 pub struct Column {
     kept: Kept,
     bytes: u64,
@@ -47,7 +47,7 @@ impl Model for Column {
 }
 
 /// A form, and the bytes that it takes.
-#[derive(Debug, Drop)]
+#[derive(Drop)]
 struct Counted {
     kept: Kept,
     bytes: u64,

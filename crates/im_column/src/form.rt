@@ -15,7 +15,7 @@ pub enum Form<'a> {
 }
 
 /// The form of a column.
-#[derive(Debug, Drop)]
+#[derive(Drop)]
 pub enum Kept {
     Plain(Vec<Value>),
     Coded(Dict, Bits),

@@ -8,7 +8,7 @@ ghost use Rattle.im_column.specs.inner.Sized.{IsSummary, IsWithin};
 use im_values::Value;
 
 /// What one pass over values finds.
-#[derive(Clone, Copy, Debug)]
+#[derive(Clone, Copy)]
 pub struct Summary {
     pub nulls: u64,
     pub sum: i128,

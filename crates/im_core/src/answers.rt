@@ -3,7 +3,7 @@ use im_history::Task;
 use std::sync::Arc;
 
 /// A table was created.
-#[derive(Clone, Copy, Debug, PartialEq, Eq)]
+#[derive(Clone, Copy)]
 pub struct Made {
     /// The place of its entry.
     pub place: u64,
@@ -14,7 +14,7 @@ pub struct Made {
 }
 
 /// A transaction began.
-#[derive(Clone, Copy, Debug, PartialEq, Eq)]
+#[derive(Clone, Copy)]
 pub struct Begun {
     /// The place of its entry.
     pub place: u64,
@@ -23,7 +23,7 @@ pub struct Begun {
 }
 
 /// Rows were inserted.
-#[derive(Clone, Copy, Debug, PartialEq, Eq)]
+#[derive(Clone, Copy)]
 pub struct Wrote {
     /// The place of the entry.
     pub place: u64,
@@ -32,7 +32,7 @@ pub struct Wrote {
 }
 
 /// A transaction was committed.
-#[derive(Clone, Copy, Debug, PartialEq, Eq)]
+#[derive(Clone, Copy)]
 pub struct Committed {
     /// The place of the entry.
     pub place: u64,
@@ -41,7 +41,7 @@ pub struct Committed {
 }
 
 /// What a scan needs of one extent.
-#[derive(Debug, Drop)]
+#[derive(Drop)]
 pub struct Pin<U> {
     /// The place of the reading.
     pub place: u64,
@@ -53,7 +53,7 @@ pub struct Pin<U> {
 }
 
 /// A build was asked for.
-#[derive(Debug, Drop)]
+#[derive(Drop)]
 pub enum Offer {
     /// It began.
     Task(Task),

@@ -11,7 +11,7 @@ use std::marker::Model;
 /// The history, and what is counted of it as it grows: credits, who left, and which tables were opened.
 ///
 /// Contracts see the history.
-#[derive(Debug, Drop)]
+#[derive(Drop)]
 pub struct Chronicle {
     history: History,
     demand: Demand,

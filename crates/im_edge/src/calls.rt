@@ -4,7 +4,7 @@ ghost use Rattle.im_edge.specs.Faults.{one_more};
 ghost use Rattle.im_edge.specs.FromMemory.{fails_next};
 
 /// Counts calls and faults, and knows the numbers, from 1, of the calls that fail.
-#[derive(Debug, Drop)]
+#[derive(Drop)]
 pub(crate) struct Calls {
     pub fails: Vec<u64>,
     pub made: u64,

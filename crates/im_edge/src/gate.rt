@@ -2,7 +2,7 @@
 use std::sync::Wait;
 
 /// What a gate is asked about.
-#[derive(Clone, Copy, Debug, PartialEq, Eq)]
+#[derive(Clone, Copy)]
 pub enum At {
     /// A scan step: the number of the cursor, and the extent that the step serves.
     Step { cursor: u32, extent: u64 },
@@ -24,7 +24,7 @@ pub trait Gate {
 }
 
 /// The gate of a program: it never holds anybody up.
-#[derive(Clone, Copy, Debug, Default, PartialEq, Eq)]
+#[derive(Clone, Copy, Default)]
 pub struct OpenGate;
 
 impl Gate for OpenGate {

@@ -8,7 +8,7 @@ use std::cmp::Ordering;
 /// One cell of an answer: a value, or a count or sum of up to 128 bits.
 ///
 /// The variants stand in SQL's order of values, NULL last, and that is their derived order.
-#[derive(Debug, PartialEq, Eq, PartialOrd, Ord, Drop)]
+#[derive(PartialEq, Eq, PartialOrd, Ord, Drop)]
 pub enum Cell {
     Int(i128),
     Text(Name),

@@ -18,7 +18,7 @@ use std::cmp::Ordering;
 use std::marker::Model;
 
 /// What some rows give to a query: the kept rows where it is not grouped, and the groups where it is.
-#[derive(Debug, Drop)]
+#[derive(Drop)]
 pub struct Partial {
     rows: Vec<(u64, Row)>,
     groups: Groups,

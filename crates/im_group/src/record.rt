@@ -4,7 +4,7 @@ use crate::cell::Cell;
 use std::marker::Model;
 
 /// A record of an answer that is not in order yet: what the list of the query asks for, and then its keys of ORDER BY.
-#[derive(Debug, Drop)]
+#[derive(Drop)]
 pub struct Record {
     cells: Vec<Cell>,
 }

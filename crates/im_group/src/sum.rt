@@ -7,7 +7,7 @@ use im_values::Value;
 use std::marker::Model;
 
 /// How many values were added, and what they add up to: exactly, in 128 bits.
-#[derive(Debug, Drop)]
+#[derive(Drop)]
 pub struct Sum {
     values: u64,
     total: i128,

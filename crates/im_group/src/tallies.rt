@@ -11,7 +11,7 @@ use std::alloc::Global;
 use std::marker::Model;
 
 /// What a group has taken of its rows, for each item that the query wants of it.
-#[derive(Debug, Drop)]
+#[derive(Drop)]
 pub struct Tallies {
     tallies: Vec<Tally>,
 }

@@ -10,7 +10,7 @@ use im_values::{NoMemory, Value, order};
 use std::alloc::Global;
 
 /// What a group has taken of its rows for one item.
-#[derive(Debug, Drop)]
+#[derive(Drop)]
 pub enum Tally {
     /// Of a column of GROUP BY, which is the group's own.
     Column,

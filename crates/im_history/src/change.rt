@@ -4,7 +4,7 @@ use im_values::{NoMemory, Row, clone_row};
 use std::alloc::Global;
 
 /// A row put at a row number of a table, or the row there taken away.
-#[derive(Debug, Drop)]
+#[derive(Drop)]
 pub struct Change {
     /// The table's number, from 1.
     pub table: u32,

@@ -17,7 +17,7 @@ pub struct LentChange<'a> {
 }
 
 /// How changes are kept: rows put from a row number of a table on, or each change by itself.
-#[derive(Debug, Drop)]
+#[derive(Drop)]
 enum Form {
     Put(u32, u64, Vec<Row>),
     Each(Vec<Change>),
@@ -26,7 +26,7 @@ enum Form {
 /// Changes in the order in which they were written.
 ///
 /// Contracts see the list. Rows that were put at row numbers in a row are kept as they are, with the first number.
-#[derive(Debug, Drop)]
+#[derive(Drop)]
 pub struct Changes {
     form: Form,
 }

@@ -6,7 +6,7 @@ use crate::shape::Shape;
 use im_values::{Name, Priority, Schema};
 
 /// The isolation of a transaction.
-#[derive(Clone, Copy, Debug, PartialEq, Eq)]
+#[derive(Clone, Copy)]
 pub enum Mode {
     /// READ COMMITTED: each statement sees what was committed when it began.
     Committed,
@@ -17,7 +17,7 @@ pub enum Mode {
 }
 
 /// What an entry of the history records.
-#[derive(Debug, Drop)]
+#[derive(Drop)]
 pub enum What {
     /// A table was created. Tables are numbered from 1 in this order.
     Create {
@@ -90,7 +90,7 @@ impl What {
 }
 
 /// One entry of the history: who did what.
-#[derive(Debug, Drop)]
+#[derive(Drop)]
 pub struct Entry {
     /// 0 is the background of a script, 1 to 16 are sessions, 17 to 24 are workers.
     pub who: u32,

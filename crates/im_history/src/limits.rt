@@ -3,7 +3,7 @@
 ///
 /// [`MOST_WEIGHT`]: im_values::limits::MOST_WEIGHT
 /// [`MOST_CHANGES`]: im_values::limits::MOST_CHANGES
-#[derive(Clone, Copy, Debug, PartialEq, Eq)]
+#[derive(Clone, Copy)]
 pub struct Limits {
     /// Counted bytes of all current units together.
     pub area: u64,

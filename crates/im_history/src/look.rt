@@ -11,7 +11,7 @@ use std::marker::Model;
 use std::sync::Arc;
 
 /// A table as it stands.
-#[derive(Debug, Drop)]
+#[derive(Drop)]
 pub struct TableInfo {
     pub name: Name,
     pub schema: Schema,
@@ -37,7 +37,7 @@ impl TableInfo {
 /// The tables in the order of their creation: the first of them is table 1.
 ///
 /// Contracts see the list, which has at most [`MOST_TABLES`]. A catalog never changes, so one list serves all who look at it.
-#[derive(Debug, Drop)]
+#[derive(Drop)]
 pub struct Catalog {
     tables: Arc<Vec<TableInfo>>,
 }
@@ -149,7 +149,7 @@ fn place_named(tables: &[TableInfo], name: &[u8]) -> Option<usize>
 }
 
 /// What a session finds when it looks at the store.
-#[derive(Debug, Drop)]
+#[derive(Drop)]
 pub struct Look {
     /// The place of the look: how many entries there were.
     pub place: u64,

@@ -1,5 +1,5 @@
 /// Why a call of the store was refused. The store is then as it was before the call.
-#[derive(Clone, Copy, Debug, PartialEq, Eq)]
+#[derive(Clone, Copy)]
 pub enum Why {
     /// A table has the name already.
     TableExists { table: u32 },
@@ -27,7 +27,7 @@ pub enum Why {
 }
 
 /// A call that was refused.
-#[derive(Clone, Copy, Debug, PartialEq, Eq)]
+#[derive(Clone, Copy)]
 pub struct Refused {
     /// How many entries the history had when the call was refused.
     pub place: u64,

@@ -4,7 +4,7 @@ use std::marker::Model;
 
 /// How a table's row numbers are cut: so many to a block, and so many blocks to an extent. Each is from 1 to
 /// [`im_values::limits::MOST_IN_SHAPE`].
-#[derive(Clone, Copy, Debug)]
+#[derive(Clone, Copy)]
 pub struct Shape {
     block: u32,
     extent: u32,

@@ -11,7 +11,7 @@ use std::sync::ledger::Ledger;
 ///
 /// Contracts see its entries and its spare room, the number of entries that [`History::append`] can add without taking
 /// memory.
-#[derive(Debug, Drop)]
+#[derive(Drop)]
 pub struct History {
     entries: Vec<Entry>,
     spare: u64,

@@ -1,7 +1,7 @@
 /// A build of a column unit that was begun: who holds it reads the extent's rows at its SCN, and then ends it.
 ///
 /// It is no copy, so that it is ended once.
-#[derive(Debug, Drop)]
+#[derive(Drop)]
 pub struct Task {
     /// Builds are numbered from 1 in the order in which they began.
     pub id: u64,
@@ -19,7 +19,7 @@ pub struct Task {
 }
 
 /// The extent whose unit is built next.
-#[derive(Clone, Copy, Debug, PartialEq, Eq)]
+#[derive(Clone, Copy)]
 pub struct Choice {
     /// The table's number.
     pub table: u32,
@@ -29,7 +29,7 @@ pub struct Choice {
 }
 
 /// A build that was begun and is not ended.
-#[derive(Debug, Drop)]
+#[derive(Drop)]
 pub struct Held {
     /// Who began it.
     pub who: u32,

@@ -10,7 +10,7 @@ use std::marker::Model;
 ///
 /// Contracts see the number. That it is below [`NUMBERS`] is a fact of the type, which [`Who::number`] and [`Who::index`]
 /// hand out.
-#[derive(Clone, Copy, Debug)]
+#[derive(Clone, Copy)]
 pub struct Who {
     number: u32,
 }

@@ -11,7 +11,7 @@ use std::marker::Model;
 ///
 /// Contracts see these first notes and the spare room, the number of calls of [`Journal::note`] that can be made without
 /// taking memory.
-#[derive(Debug, Drop)]
+#[derive(Drop)]
 pub struct Journal {
     first: IndexMap<u64, u64>,
     spare: u64,

@@ -92,7 +92,7 @@ fn with_digit(value: u64, digit: u8) -> u64
 }
 
 /// The digits at the front of the bytes.
-#[derive(Clone, Copy, Debug)]
+#[derive(Clone, Copy)]
 pub struct Digits {
     pub count: usize,
     /// The number that they say, or 2^63 + 1 where it is at least that.

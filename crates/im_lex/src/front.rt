@@ -1,7 +1,7 @@
 use im_syntax::Token;
 
 /// What stands at the front of the bytes of a line.
-#[derive(Debug, Drop)]
+#[derive(Drop)]
 pub enum Front {
     /// Nothing more: the bytes are over, or a comment or the last `;` stands there.
     Stop,
@@ -13,7 +13,7 @@ pub enum Front {
 }
 
 /// What comes next in a text.
-#[derive(Clone, Copy, Debug)]
+#[derive(Clone, Copy)]
 pub enum Piece {
     /// Nothing: the text does not end.
     Over,

@@ -12,7 +12,7 @@ use im_values::NoMemory;
 use std::alloc::{AllocError, AllocFailed, Global};
 
 /// Why the bytes of a line are no tokens.
-#[derive(Clone, Copy, Debug, PartialEq, Eq)]
+#[derive(Clone, Copy)]
 pub enum LexFault {
     /// The first bad byte: so many bytes stand before it.
     At(u64),
@@ -45,7 +45,7 @@ impl<T: Drop> From<AllocFailed<T>> for LexFault {
 }
 
 /// The first tokens of a line.
-#[derive(Debug, Drop)]
+#[derive(Drop)]
 struct First {
     tokens: Vec<Token>,
     /// How many bytes stand before the next one, where there is one.

@@ -5,7 +5,7 @@ use im_values::{Name, NoMemory};
 use std::alloc::{AllocError, AllocFailed};
 
 /// Why the names and values of a statement have no numbers.
-#[derive(Debug, PartialEq, Eq, Drop)]
+#[derive(Drop)]
 pub enum NameFault {
     /// No table has the name.
     UnknownTable {

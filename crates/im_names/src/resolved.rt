@@ -3,7 +3,7 @@ use im_syntax::{Bound, Filter};
 use im_values::{List, Name, Row, Schema, Value};
 
 /// A statement whose names are numbers: of a table from 1 on in the order of creation, and of a column from 0 on.
-#[derive(Debug, Drop)]
+#[derive(Drop)]
 pub enum Resolved {
     Select(Bound),
     Explain(Bound),

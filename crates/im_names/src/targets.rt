@@ -9,7 +9,7 @@ use im_values::{Name, NoMemory, Schema};
 use std::alloc::Global;
 
 /// The columns that the values of a tuple are for.
-#[derive(Debug, Drop)]
+#[derive(Drop)]
 pub enum Targets {
     /// Each column of a table that has so many, in order.
     Whole(u32),

@@ -8,7 +8,7 @@ use im_values::limits::MOST_TABLES;
 /// many sessions left, and which tables were opened since they joined the column store, changed their priority there or left.
 ///
 /// It takes no memory.
-#[derive(Debug, Drop)]
+#[derive(Drop)]
 pub struct Demand {
     credits: u128,
     left: u64,

@@ -19,7 +19,7 @@ use std::thread;
 use std::thread::Threads;
 
 /// How a race is held.
-#[derive(Clone, Copy, Debug, PartialEq, Eq)]
+#[derive(Clone, Copy)]
 pub struct Setting {
     /// How many bytes the column units may take together.
     pub area: u64,

@@ -4,7 +4,7 @@ ghost use Rattle.im_readers.specs.declared.halt.Halt.TheVariants.{NoMemory};
 use std::alloc::{AllocError, AllocFailed};
 
 /// Why a reader gave no value.
-#[derive(Clone, Copy, Debug, PartialEq, Eq)]
+#[derive(Clone, Copy)]
 pub enum Halt {
     /// No value begins so: this many tokens are left where reading stops.
     Left(usize),

@@ -5,7 +5,7 @@ use crate::task::{Built, Ending};
 use im_values::List;
 
 /// What a reply says.
-#[derive(Debug, Drop)]
+#[derive(Drop)]
 pub enum Body {
     /// CREATE TABLE made a table.
     Created {

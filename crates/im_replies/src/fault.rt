@@ -1,7 +1,7 @@
 use im_values::Name;
 
 /// Why a line was refused.
-#[derive(Debug, Drop)]
+#[derive(Drop)]
 pub enum Fault {
     /// The line is longer than a line may be, and was read no further.
     LineTooLong {

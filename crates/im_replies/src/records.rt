@@ -4,7 +4,7 @@ use im_group::Cell;
 use std::marker::Model;
 
 /// The records of an answer, each a list of cells. Contracts see the list of these lists.
-#[derive(Debug, Drop)]
+#[derive(Drop)]
 pub struct Records {
     records: Vec<Vec<Cell>>,
 }

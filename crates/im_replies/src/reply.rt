@@ -8,7 +8,7 @@ use im_values::List;
 use std::alloc::Global;
 
 /// The reply to a line.
-#[derive(Debug, Drop)]
+#[derive(Drop)]
 pub struct Reply {
     /// How many entries the history had when the reply was settled. None where that says nothing: for a line that was not
     /// played, for one of the background, and for out of memory.

@@ -1,5 +1,5 @@
 /// How a scan was served an extent.
-#[derive(Clone, Copy, Debug, PartialEq, Eq)]
+#[derive(Clone, Copy)]
 pub enum How {
     /// By its column unit, and by the blocks for the rows that are stale there.
     Unit {
@@ -20,7 +20,7 @@ pub enum How {
 }
 
 /// A mark: how one extent was served, and when.
-#[derive(Clone, Copy, Debug, PartialEq, Eq)]
+#[derive(Clone, Copy)]
 pub struct Served {
     /// How many entries the history had when the extent was served.
     pub place: u64,

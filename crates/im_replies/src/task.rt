@@ -1,5 +1,5 @@
 /// The beginning of a build: a column unit for an extent is to be made from the rows at an SCN.
-#[derive(Clone, Copy, Debug, PartialEq, Eq)]
+#[derive(Clone, Copy)]
 pub struct Built {
     /// The build's number, from 1 in the order of the history.
     pub id: u64,
@@ -14,7 +14,7 @@ pub struct Built {
 }
 
 /// The end of a build.
-#[derive(Clone, Copy, Debug, PartialEq, Eq)]
+#[derive(Clone, Copy)]
 pub enum Ending {
     /// The unit took its place.
     Switch {

@@ -1,7 +1,7 @@
 use im_unit::ColumnUnit;
 
 /// What a scan reads of an extent's column unit.
-#[derive(Clone, Copy, Debug)]
+#[derive(Clone, Copy)]
 pub enum Face<'a> {
     /// All of it.
     Whole(&'a ColumnUnit),

@@ -1,5 +1,5 @@
 /// The form of a line, before its statement is read.
-#[derive(Clone, Copy, Debug)]
+#[derive(Clone, Copy)]
 pub enum Form {
     Long,
     Skip,

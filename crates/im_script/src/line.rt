@@ -1,7 +1,7 @@
 use im_syntax::Stmt;
 
 /// A line of a script.
-#[derive(Debug, Drop)]
+#[derive(Drop)]
 pub struct Line {
     /// From 1; every line counts.
     pub number: u64,
@@ -13,7 +13,7 @@ pub struct Line {
 }
 
 /// What a line is.
-#[derive(Debug, Drop)]
+#[derive(Drop)]
 pub enum LineKind {
     /// Blanks alone, or a comment.
     Skip,

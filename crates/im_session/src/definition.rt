@@ -25,7 +25,7 @@ use std::alloc::Global;
 use std::sync::Wait;
 
 /// A table that is to be created.
-#[derive(Debug, Drop)]
+#[derive(Drop)]
 pub struct NewTable {
     pub name: Name,
     pub schema: Schema,

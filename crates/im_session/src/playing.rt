@@ -150,7 +150,7 @@ fn open<R: Wait, H: Reach<ColumnUnit>, G: Gate>(
 }
 
 /// What a statement does with a cursor that its session keeps.
-#[derive(Clone, Copy, Debug, PartialEq, Eq)]
+#[derive(Clone, Copy)]
 pub enum Use {
     /// STEP: it is served its next extent.
     Step,

@@ -28,7 +28,7 @@ use std::sync::Wait;
 use std::sync::ledger::Ledger;
 
 /// What a statement scans a table for.
-#[derive(Debug, Drop)]
+#[derive(Drop)]
 pub enum Purpose {
     /// SELECT: to answer the query.
     Answer,

@@ -36,7 +36,7 @@ use std::sync::Wait;
 use std::sync::ledger::Ledger;
 
 /// What is wanted of each extent that a scan is served.
-#[derive(Clone, Copy, Debug, PartialEq, Eq)]
+#[derive(Clone, Copy)]
 pub enum Wanted {
     /// How it was served, and what its rows give to the query.
     Parts,

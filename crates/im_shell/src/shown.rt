@@ -4,7 +4,7 @@ ghost use Rattle.im_shell.specs.Texts as spec;
 use im_replies::Body;
 
 /// Which replies are written: all of a script that is read, and the outcomes of one that is made.
-#[derive(Clone, Copy, Debug, PartialEq, Eq)]
+#[derive(Clone, Copy)]
 pub enum Shown {
     /// Every reply.
     All,

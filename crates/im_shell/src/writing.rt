@@ -15,7 +15,7 @@ use thiserror::Error;
 pub const PIECE: usize = 65536;
 
 /// Why not all was written.
-#[derive(Clone, Copy, Debug, PartialEq, Eq, Error)]
+#[derive(Clone, Copy, Debug, Error)]
 pub enum Stop {
     /// The sink met a fault.
     #[error("write failed")]

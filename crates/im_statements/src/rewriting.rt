@@ -5,7 +5,7 @@ use im_replies::Body;
 use im_values::{List, Value};
 
 /// What UPDATE or DELETE does to the rows that it keeps.
-#[derive(Debug, Drop)]
+#[derive(Drop)]
 pub enum Rewriting {
     /// Values are assigned to columns, in order.
     Updating(List<(u32, Value)>),

@@ -2,7 +2,7 @@ use crate::condition::Filter;
 use im_values::List;
 
 /// One column of an answer, on columns of the table by their numbers.
-#[derive(Clone, Copy, Debug, PartialEq, Eq)]
+#[derive(Clone, Copy)]
 pub enum Item {
     Column(u32),
     CountAll,
@@ -13,7 +13,7 @@ pub enum Item {
 }
 
 /// A key of ORDER BY.
-#[derive(Clone, Copy, Debug, PartialEq, Eq)]
+#[derive(Clone, Copy)]
 pub struct Key {
     pub item: Item,
     pub descending: bool,
@@ -23,7 +23,7 @@ pub struct Key {
 ///
 /// `groups` and `keys` are empty where the query has no GROUP BY or ORDER BY. `grouped` says that it has a GROUP BY, or
 /// an aggregate among its items or keys.
-#[derive(Debug, Drop)]
+#[derive(Drop)]
 pub struct Bound {
     pub table: u32,
     pub filter: Option<Filter>,

@@ -10,7 +10,7 @@ use std::alloc::Global;
 use std::marker::Model;
 
 /// The values of an IN, as they are written. They are also kept in order, so that a look-up is a binary search.
-#[derive(Debug, Drop)]
+#[derive(Drop)]
 pub struct Choices {
     values: Vec<Value>,
     ordered: Vec<Value>,

@@ -23,14 +23,14 @@ pub type TestForm = FormOf<u32, Value, Choices>;
 
 /// One term of a condition, over columns `C`, values `V` and lists of values `L`.
 #[cycle(condition)]
-#[derive(Debug, Drop)]
+#[derive(Drop)]
 pub struct TermOf<C, V, L> {
     form: FormOf<C, V, L>,
 }
 
 /// What a term tests.
 #[cycle(condition)]
-#[derive(Debug, Drop)]
+#[derive(Drop)]
 pub enum FormOf<C, V, L> {
     Not(Box<TermOf<C, V, L>>),
     /// A condition in parentheses.
@@ -60,14 +60,14 @@ pub enum FormOf<C, V, L> {
 
 /// Terms with AND between them.
 #[cycle(condition)]
-#[derive(Debug, Drop)]
+#[derive(Drop)]
 pub struct ConjOf<C, V, L> {
     terms: Vec<TermOf<C, V, L>>,
 }
 
 /// A condition: conjunctions with OR between them.
 #[cycle(condition)]
-#[derive(Debug, Drop)]
+#[derive(Drop)]
 pub struct CondOf<C, V, L> {
     lists: Vec<ConjOf<C, V, L>>,
 }

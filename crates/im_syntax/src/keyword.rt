@@ -4,7 +4,7 @@ ghost use Rattle.im_syntax.specs.Keywords as keywords;
 ghost use Rattle.im_syntax.specs.inner.Slots as slots;
 
 /// A word that the language keeps for itself: it names no table and no column.
-#[derive(Clone, Copy, Debug, PartialEq, Eq)]
+#[derive(Clone, Copy)]
 pub enum Keyword {
     Alter,
     And,

@@ -1,7 +1,7 @@
 use im_values::Name;
 
 /// A value as it is written. A text of length zero is written so, and means NULL.
-#[derive(Debug, PartialEq, Eq, Drop)]
+#[derive(Drop)]
 pub enum Lit {
     Null,
     Int(i64),

@@ -2,7 +2,7 @@ use crate::condition::Cond;
 use im_values::{List, Name};
 
 /// One column of an answer.
-#[derive(Debug, Drop)]
+#[derive(Drop)]
 pub enum ItemPart {
     Column(Name),
     /// `COUNT(*)`, which counts rows. The other aggregates pass over NULL.
@@ -14,7 +14,7 @@ pub enum ItemPart {
 }
 
 /// The direction of a key of ORDER BY as it is written. Unsaid means ascending.
-#[derive(Clone, Copy, Debug, PartialEq, Eq)]
+#[derive(Clone, Copy)]
 pub enum Way {
     Unsaid,
     Asc,
@@ -22,21 +22,21 @@ pub enum Way {
 }
 
 /// A key of ORDER BY.
-#[derive(Debug, Drop)]
+#[derive(Drop)]
 pub struct KeyPart {
     pub item: ItemPart,
     pub way: Way,
 }
 
 /// What a query answers: each column, or these items.
-#[derive(Debug, Drop)]
+#[derive(Drop)]
 pub enum ListPart {
     Star,
     Items(List<ItemPart>),
 }
 
 /// A query. `groups` and `keys` are empty where the clause is not written.
-#[derive(Debug, Drop)]
+#[derive(Drop)]
 pub struct Query {
     pub list: ListPart,
     pub table: Name,

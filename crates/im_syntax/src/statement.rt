@@ -5,7 +5,7 @@ use crate::table::{ColumnPart, MemoryPart};
 use im_values::{List, Name};
 
 /// A statement, each optional part of it as written or absent.
-#[derive(Debug, Drop)]
+#[derive(Drop)]
 pub enum Stmt {
     Select(Query),
     /// How a query would be served, extent by extent.
@@ -71,7 +71,7 @@ pub enum Stmt {
 }
 
 /// Whose statement it is: a session's, or one of the background that keeps the column store.
-#[derive(Clone, Copy, Debug, PartialEq, Eq)]
+#[derive(Clone, Copy, PartialEq, Eq)]
 pub enum Side {
     Session,
     Background,

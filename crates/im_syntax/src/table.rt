@@ -1,7 +1,7 @@
 use im_values::{Name, Priority};
 
 /// The kind of a column as it is written: INTEGER is another word for NUMBER.
-#[derive(Clone, Copy, Debug, PartialEq, Eq)]
+#[derive(Clone, Copy)]
 pub enum KindWord {
     Number,
     Integer,
@@ -10,14 +10,14 @@ pub enum KindWord {
 }
 
 /// A column of a table that is created.
-#[derive(Debug, Drop)]
+#[derive(Drop)]
 pub struct ColumnPart {
     pub name: Name,
     pub kind: KindWord,
 }
 
 /// An INMEMORY clause as it is written.
-#[derive(Clone, Copy, Debug, PartialEq, Eq)]
+#[derive(Clone, Copy)]
 pub struct MemoryPart {
     /// MEMCOMPRESS FOR QUERY LOW is written.
     pub compress: bool,

@@ -2,7 +2,7 @@ use crate::keyword::Keyword;
 use im_values::Name;
 
 /// A sign of the language. `!=` is [`Sign::Ne`], as `<>` is.
-#[derive(Clone, Copy, Debug, PartialEq, Eq)]
+#[derive(Clone, Copy)]
 pub enum Sign {
     LeftParen,
     RightParen,
@@ -17,7 +17,7 @@ pub enum Sign {
 }
 
 /// The smallest part of a line that has a meaning.
-#[derive(Debug, PartialEq, Eq, Drop)]
+#[derive(Drop)]
 pub enum Token {
     /// A word that the language keeps for itself.
     Keyword(Keyword),

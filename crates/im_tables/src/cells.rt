@@ -11,7 +11,7 @@ use std::alloc::Global;
 use std::marker::Model;
 
 /// The cells of all tables, by table and number.
-#[derive(Debug, Drop)]
+#[derive(Drop)]
 pub struct Cells<T> {
     alloc: Global,
     lines: Vec<Line<T>>,

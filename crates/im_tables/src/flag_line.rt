@@ -9,7 +9,7 @@ use std::marker::Model;
 /// The flags of one table, by number, 64 in a word.
 ///
 /// Two hints say where the first words stand that are not all down and not all up, so the least numbers are found at once.
-#[derive(Debug, Drop)]
+#[derive(Drop)]
 pub struct FlagLine {
     words: Vec<u64>,
     up: usize,

@@ -8,7 +8,7 @@ use std::alloc::Global;
 use std::marker::Model;
 
 /// A flag for each number of each table, up or down.
-#[derive(Debug, Drop)]
+#[derive(Drop)]
 pub struct Flags {
     alloc: Global,
     lines: Vec<FlagLine>,

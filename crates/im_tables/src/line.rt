@@ -10,7 +10,7 @@ use std::alloc::Global;
 use std::marker::Model;
 
 /// The cells of one table, by number.
-#[derive(Debug, Drop)]
+#[derive(Drop)]
 pub struct Line<T> {
     cells: Vec<T>,
 }

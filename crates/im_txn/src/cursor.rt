@@ -3,7 +3,7 @@ ghost use Rattle.std.specs.List.{find};
 ghost use Rattle.im_txn.specs.Activity.{is_number};
 
 /// An open cursor: what a scan or a write needs to know of its view.
-#[derive(Clone, Copy, Debug, PartialEq, Eq)]
+#[derive(Clone, Copy)]
 pub struct Cursor {
     /// Its number in its session. A statement's own scan uses 0.
     pub cursor: u32,

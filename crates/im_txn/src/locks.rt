@@ -8,7 +8,7 @@ use std::alloc::Global;
 use std::marker::Model;
 
 /// The lock cells of all rows: 0 where the row is free, else one more than the number of its holder.
-#[derive(Debug, Drop)]
+#[derive(Drop)]
 pub struct Locks {
     cells: Cells<u8>,
 }

@@ -9,7 +9,7 @@ use std::alloc::Global;
 use std::marker::Model;
 
 /// Which rows of an extent are present: a bit for each row number. There are fewer than 2^31.
-#[derive(Debug, Drop)]
+#[derive(Drop)]
 pub struct Presence {
     bits: Bits,
     count: u64,

@@ -16,7 +16,7 @@ use std::marker::Model;
 use std::sync::Arc;
 
 /// The rows of one extent that were committed by an SCN.
-#[derive(Debug, Drop)]
+#[derive(Drop)]
 pub struct ColumnUnit {
     scn: u64,
     first: u64,

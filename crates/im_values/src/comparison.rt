@@ -6,7 +6,7 @@ use crate::value::Value;
 use std::cmp::Ordering;
 
 /// One of SQL's six comparisons.
-#[derive(Clone, Copy, Debug, PartialEq, Eq)]
+#[derive(Clone, Copy)]
 pub enum Cmp {
     Eq,
     Ne,

@@ -4,7 +4,7 @@ use std::marker::Model;
 
 /// A list that stands inside another type. Contracts see it as the list of its items, so two types with equal lists are
 /// equal.
-#[derive(Debug, Drop)]
+#[derive(Drop)]
 pub struct List<T> {
     items: Vec<T>,
 }

@@ -11,7 +11,7 @@ use std::sync::Arc;
 const IN_PLACE: usize = 14;
 
 /// How the bytes of a text are kept.
-#[derive(Debug, Drop)]
+#[derive(Drop)]
 enum Form {
     /// The first so many bytes of the array.
     Short(u8, [u8; IN_PLACE]),
@@ -23,7 +23,7 @@ enum Form {
 ///
 /// Any bytes may stand in it, so it is no `String`. Names compare by their bytes. Up to 14 bytes stand in place and take no
 /// memory; longer ones are shared by all copies. A name takes 16 bytes itself.
-#[derive(Debug, Drop)]
+#[derive(Drop)]
 pub struct Name {
     form: Form,
 }

@@ -1,5 +1,5 @@
 /// How soon a table's extents are populated in memory.
-#[derive(Clone, Copy, Debug, PartialEq, Eq)]
+#[derive(Clone, Copy)]
 pub enum Priority {
     Critical,
     High,

@@ -8,7 +8,7 @@ use std::marker::Model;
 use std::sync::Arc;
 
 /// How the values of a row are kept.
-#[derive(Debug, Drop)]
+#[derive(Drop)]
 enum Form {
     /// In memory of the row's own.
     Owned(Vec<Value>),
@@ -20,7 +20,7 @@ enum Form {
 ///
 /// A row has memory of its own, or is a stretch of a block that rows share (see [`rows_of_block`]). It takes 32 bytes beside
 /// its values. A block lives as long as any of its rows.
-#[derive(Debug, Drop)]
+#[derive(Drop)]
 pub struct Row {
     form: Form,
 }

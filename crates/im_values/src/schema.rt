@@ -10,7 +10,7 @@ use std::alloc::Global;
 use std::marker::Model;
 
 /// What a column holds: whole numbers, or texts of at most so many bytes. NULL stands in either.
-#[derive(Clone, Copy, Debug, PartialEq, Eq)]
+#[derive(Clone, Copy)]
 pub enum Kind {
     Int,
     Text(u16),
@@ -30,7 +30,7 @@ impl Kind {
 }
 
 /// A column of a table.
-#[derive(Debug, Drop)]
+#[derive(Drop)]
 pub struct Column {
     pub name: Name,
     pub kind: Kind,
@@ -49,7 +49,7 @@ impl Column {
 }
 
 /// The columns of a table, in order: at least one, and at most [`MOST_COLUMNS`].
-#[derive(Debug, Drop)]
+#[derive(Drop)]
 pub struct Schema {
     columns: Vec<Column>,
 }

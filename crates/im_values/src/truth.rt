@@ -2,7 +2,7 @@ ghost use Rattle.std.specs.Prelude.{◌≡◌};
 ghost use Rattle.im_values.specs.Truth as truth;
 
 /// The truth of a condition, as SQL has it: a comparison with NULL is neither true nor false.
-#[derive(Clone, Copy, Debug, PartialEq, Eq)]
+#[derive(Clone, Copy)]
 pub enum Truth {
     Yes,
     No,

@@ -7,7 +7,7 @@ use std::alloc::Global;
 /// One value of a row: NULL, a whole number or a text.
 ///
 /// The variants stand in SQL's order of values, NULL last, and that is their derived order.
-#[derive(Debug, PartialEq, Eq, PartialOrd, Ord, Hash, Drop)]
+#[derive(PartialEq, Eq, PartialOrd, Ord, Hash, Drop)]
 pub enum Value {
     Int(i64),
     Text(Name),

@@ -11,7 +11,7 @@ use std::marker::Model;
 use std::sync::ledger::Ledger;
 
 /// How the versions of a chain are kept.
-#[derive(Debug, Drop)]
+#[derive(Drop)]
 enum Form {
     /// No version, and room in place for one.
     Empty,
@@ -26,7 +26,7 @@ enum Form {
 /// Contracts see the versions and the spare room, the number of versions that [`Chain::push`] can add without taking
 /// memory. The first version stands in the chain itself and takes no memory. The second takes memory for both; longer
 /// chains grow by doubling. A chain takes 64 bytes beside that, with a version or without.
-#[derive(Debug, Drop)]
+#[derive(Drop)]
 pub struct Chain {
     form: Form,
     spare: u64,

@@ -1,7 +1,7 @@
 use im_values::Row;
 
 /// What one commit left of a row.
-#[derive(Debug, Drop)]
+#[derive(Drop)]
 pub struct Version {
     /// The SCN of the commit.
     pub scn: u64,

@@ -4,7 +4,7 @@ use std::convert::AsStr;
 use std::marker::Model;
 
 /// A word of the command line. A contract sees it as its bytes.
-#[derive(Debug, Drop)]
+#[derive(Drop)]
 pub struct Word {
     text: String,
 }

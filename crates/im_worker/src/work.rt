@@ -20,7 +20,7 @@ use std::sync::ledger::Ledger;
 use std::time::Duration;
 
 /// How a worker's job ended.
-#[derive(Clone, Copy, Debug, PartialEq, Eq)]
+#[derive(Clone, Copy)]
 pub enum Ended {
     /// All its turns were made.
     Spent {
@@ -37,7 +37,7 @@ pub enum Ended {
 }
 
 /// How many turns of a job are left, and what was met in those that were made.
-#[derive(Clone, Copy, Debug)]
+#[derive(Clone, Copy)]
 pub struct Tally {
     pub left: u64,
     pub lacks: u64,

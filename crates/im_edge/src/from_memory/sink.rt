@@ -13,7 +13,7 @@ use std::marker::Model;
 ///
 /// It takes no memory in a write: `push_room` makes the room beforehand, and a write past the room
 /// is a fault.
-#[derive(Debug, Drop)]
+#[derive(Drop)]
 pub struct MemSink {
     taken: Vec<u8>,
     room: usize,

@@ -8,7 +8,7 @@ use crate::source::{Got, Source};
 use std::marker::Model;
 
 /// A source over bytes in memory, which hands out small pieces and fails where it is told to.
-#[derive(Debug, Drop)]
+#[derive(Drop)]
 pub struct MemSource {
     bytes: Vec<u8>,
     at: usize,
