@@ -78,19 +78,19 @@ went_on old mid core who took mine = record {
 }
 
 -- the same of a side as it stands at the call
-pub mine_in : (side now : SharedState) (who : ℕ) → side ≡ now → speaks (known_by now.pass now.misses).side who ≡ true
+pub mine_in : {side now : SharedState} (who : ℕ) → side ≡ now → speaks (known_by now.pass now.misses).side who ≡ true
     → speaks (side_of side.pass) who ≡ true
-mine_in side now who same mine = ap (λ (s : SharedState). speaks (side_of s.pass) who) same ∙ mine
+mine_in who same mine = ap (λ (s : SharedState). speaks (side_of s.pass) who) same ∙ mine
 
-pub went_since : (side now : SharedState) (mid : PassState Entry) (core : Seen) (who : ℕ) → side ≡ now → Took side.pass mid core
+pub went_since : {side now : SharedState} {mid : PassState Entry} {core : Seen} (who : ℕ) → side ≡ now → Took side.pass mid core
     → speaks (known_by now.pass now.misses).side who ≡ true → WentOn core.limits who now.pass.seen core.log
-went_since side now mid core who same took mine =
+went_since {side} {now} {mid} {core} who same took mine =
     subst (λ (s : SharedState). WentOn core.limits who s.pass.seen core.log) same
-    (went_on side.pass mid core who took (mine_in side now who same mine))
+    (went_on side.pass mid core who took (mine_in who same mine))
 
 -- ---- giving it back
 
-module _ (old mid : PassState Entry) (core : Seen) (took : Took old mid core) where
+module _ {old mid : PassState Entry} {core : Seen} (took : Took old mid core) where
   seen_is : mid.seen ≡ core.log
   seen_is = ap (λ (p : PassState Entry). p.seen) took.pass
 
@@ -101,39 +101,39 @@ module _ (old mid : PassState Entry) (core : Seen) (took : Took old mid core) wh
   who_is = ap (λ (p : PassState Entry). p.who) took.pass
 
   -- as it was taken
-  pub grew_not : (after : Seen) → after ≡ core → Grew mid after
-  grew_not after same = record {
+  pub grew_not : {after : Seen} → after ≡ core → Grew mid after
+  grew_not {after} same = record {
     own = grew_by_none who_of mid.who mid.seen after.log (ap (λ (s : Seen). s.log) same ∙ sym seen_is);
     fixed = ap (λ (s : Seen). fixed_of s.limits) same ∙ fixed_is;
   }
 
   -- with one entry more
-  pub grew_once : (who : ℕ) (what : What) (after : Seen) → speaks (side_of old) who ≡ true → Adds core who what after → Grew mid after
-  grew_once who what after mine adds = record {
+  pub grew_once : {after : Seen} (who : ℕ) (what : What) → speaks (side_of old) who ≡ true → Adds core who what after → Grew mid after
+  grew_once {after} who what mine adds = record {
     own =
         grew_by_one who_of mid.who mid.seen after.log (record { who = who; what = what }) (sym (number_is old.who who mine) ∙ sym who_is)
         (ap (λ (s : Seen). s.log) adds ∙ ap (λ (h : History). h ++ record { who = who; what = what } ∷ []) (sym seen_is));
     fixed = ap (λ (s : Seen). fixed_of s.limits) adds ∙ fixed_is;
   }
 
-  pub grew_either : {A : Type 0} (answer : Result A Refused) (who : ℕ) (what : What) (after : Seen) → speaks (side_of old) who ≡ true
+  pub grew_either : {A : Type 0} {after : Seen} (answer : Result A Refused) (who : ℕ) (what : What) → speaks (side_of old) who ≡ true
       → OnOk answer (Adds core who what after) → OnErr answer (after ≡ core) → Grew mid after
-  grew_either (Ok a) who what after mine adds same = grew_once who what after mine adds
-  grew_either (Err why) who what after mine adds same = grew_not after same
+  grew_either (Ok a) who what mine adds same = grew_once who what mine adds
+  grew_either (Err why) who what mine adds same = grew_not same
 
   -- by the build that comes next, if there is one
-  pub grew_offer : (answer : Result Offer Refused) (who : ℕ) (after : Seen) → speaks (side_of old) who ≡ true
+  pub grew_offer : {after : Seen} (answer : Result Offer Refused) (who : ℕ) → speaks (side_of old) who ≡ true
       → IfOk answer (λ offer. IsOffer core who offer after) → OnErr answer (after ≡ core) → Grew mid after
-  grew_offer (Ok (Task task)) who after mine offered same = grew_once who (build_of core.log offered.0) after mine offered.3
-  grew_offer (Ok (Idle place left)) who after mine offered same = grew_not after offered.3
-  grew_offer (Err why) who after mine offered same = grew_not after same
+  grew_offer (Ok (Task task)) who mine offered same = grew_once who (build_of core.log offered.0) mine offered.3
+  grew_offer (Ok (Idle place left)) who mine offered same = grew_not offered.3
+  grew_offer (Err why) who mine offered same = grew_not same
 
   -- by the end of a build
-  pub grew_switched : {U : Type 0} (content : U → Content) (who : ℕ) (task : TaskInfo) (switched : Switched U) (after : Seen)
+  pub grew_switched : {U : Type 0} {after : Seen} (content : U → Content) (who : ℕ) (task : TaskInfo) (switched : Switched U)
       → speaks (side_of old) who ≡ true → IsSwitch content core who task switched after → Grew mid after
-  grew_switched content who task (Done place sum before) after mine is = grew_once who (Switch task.id) after mine is.5
-  grew_switched content who task (AreaFull place need free) after mine is = grew_once who (Cancel task.id true) after mine is.5
-  grew_switched content who task (Cancelled place at) after mine is = grew_once who (Cancel task.id false) after mine is.2
+  grew_switched content who task (Done place sum before) mine is = grew_once who (Switch task.id) mine is.5
+  grew_switched content who task (AreaFull place need free) mine is = grew_once who (Cancel task.id true) mine is.5
+  grew_switched content who task (Cancelled place at) mine is = grew_once who (Cancel task.id false) mine is.2
 
 -- what was given back is lawful, as its pass has seen it
 pub was_given : (old new : PassState Entry) (core : Seen)

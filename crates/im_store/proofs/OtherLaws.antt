@@ -1,27 +1,23 @@
 -- What entries of other numbers leave as it is, in a legal history.
-use Rattle.std.proofs.Common.{◌≡◌, ℕ, zero, suc, ◌+◌, ◌≤◌, ◌==◌, ◌&&◌, ◌||◌, Bool, true, false, IsTrue, if◌then◌else◌, List, [], ◌∷◌, ◌++◌, length, is_some, All, Option, Some, None, slice_get, refl, sym, ap, ◌∙◌, subst, arith, append-nil, append_assoc}
+use Rattle.std.proofs.Common.{◌≡◌, ℕ, ◌+◌, ◌≤◌, ◌==◌, ◌&&◌, ◌||◌, Bool, true, false, IsTrue, if◌then◌else◌, List, [], ◌∷◌, ◌++◌, length, is_some, All, refl, sym, ap, ◌∙◌, subst, arith, append-nil, append_assoc}
 use Rattle.std.specs.List.{list_any}
-use Rattle.std.specs.Option.{option_map}
 use Rattle.std.proofs.lemmas.List.Elements.{All-head, All-tail}
-use Rattle.im_values.specs.declared.priority.Priority.{Priority}
 use Rattle.im_values.specs.declared.schema.Column.{Column}
 use Rattle.im_values.specs.Fits.{fits}
 use Rattle.im_history.specs.declared.entry.Entry.{Entry}
-use Rattle.im_history.specs.declared.entry.What.{What}
-use Rattle.im_history.specs.declared.entry.What.TheVariants as what
 use Rattle.im_history.specs.declared.limits.Limits.{Limits}
-use Rattle.im_history.specs.declared.look.TableInfo.{TableInfo}
 use Rattle.im_history.specs.Commits.{moves_clock, scn}
 use Rattle.im_history.specs.Cursors.{is_cursor, is_cursor_open, opened, opened_after}
 use Rattle.im_history.specs.History.{History}
 use Rattle.im_history.specs.Leaves.{has_left, is_leave}
 use Rattle.im_history.specs.Legal.{Exists, IsAllowed, IsLegal, IsLegalFrom, MayInsert, MayLeave, MaySetMemory}
 use Rattle.im_history.specs.Rows.{Row}
-use Rattle.im_history.specs.Tables.{created, table_among, table_at, tables, with_memory}
+use Rattle.im_history.specs.Tables.{table_at}
 use Rattle.im_history.specs.Transactions.{begun, begun_after, is_open, pending, pending_after}
 use Rattle.im_history.proofs.LeaveLaws.{has_left-push}
-use Rattle.im_history.proofs.Laws.{IsLegal-push, begun-push, opened-push, pending-push, scn-push, tables-push}
+use Rattle.im_history.proofs.Laws.{IsLegal-push, begun-push, opened-push, pending-push, scn-push}
 use Rattle.im_history.proofs.RowLaws.{each_longer}
+use Rattle.im_history.proofs.TableLaws.{StaysAs, table-longer}
 
 -- others went on: none of them has this number, and the whole history is legal
 pub record WentOn (limits : Limits) (who : ℕ) (old at : History) : Type 0 where
@@ -70,7 +66,7 @@ or_nothing false = refl
 
 -- ---- a number's transaction and cursors, and whether it left
 
-module _ (limits : Limits) (who : ℕ) (old at : History) (went : WentOn limits who old at) where
+module _ {limits : Limits} {who : ℕ} {old at : History} (went : WentOn limits who old at) where
   pub begun-on : begun at who ≡ begun old who
   begun-on =
       on-others limits who (λ h. begun h who ≡ begun old who)
@@ -112,75 +108,24 @@ module _ (limits : Limits) (who : ℕ) (old at : History) (went : WentOn limits 
 
 -- ---- tables
 
--- the columns of a table, where it is there
-abbrev columns_of : Option TableInfo → Option (List Column)
-columns_of found = option_map (λ table. table.schema) found
-
-columns-append : (ts more : List TableInfo) (place : ℕ) (columns : List Column) → columns_of (slice_get ts place) ≡ Some columns
-    → columns_of (slice_get (ts ++ more) place) ≡ Some columns
-columns-append [] more place columns is = absurd cc
-columns-append (t ∷ ts) more zero columns is = is
-columns-append (t ∷ ts) more (suc place) columns is = columns-append ts more place columns is
-
-columns-memory : (at : ℕ) (priority : Option Priority) (ts : List TableInfo) (place : ℕ)
-    → columns_of (slice_get (with_memory at priority ts) place) ≡ columns_of (slice_get ts place)
-columns-memory at priority [] place = refl
-columns-memory zero priority (t ∷ ts) zero = refl
-columns-memory zero priority (t ∷ ts) (suc place) = refl
-columns-memory (suc at) priority (t ∷ ts) zero = refl
-columns-memory (suc at) priority (t ∷ ts) (suc place) = columns-memory at priority ts place
-
-columns-created : (ts : List TableInfo) (entry : What) (table : ℕ) (columns : List Column) → columns_of (table_among ts table) ≡ Some columns
-    → columns_of (table_among (created ts entry) table) ≡ Some columns
-columns-created ts entry zero columns is = is
-columns-created ts (what.Create name schema grid) (suc place) columns is =
-    columns-append ts (record { name = name; schema = schema; shape = grid; memory = None } ∷ []) place columns is
-columns-created ts (what.Memory zero priority) (suc place) columns is = is
-columns-created ts (what.Memory (suc at) priority) (suc place) columns is = columns-memory at priority ts place ∙ is
-columns-created ts _ (suc place) columns is = is
-
--- a table is there, and has these columns
-pub record IsTable (h : History) (table : ℕ) (columns : List Column) : Type 0 where
-  pub made : TableInfo
-  pub is : table_at h table ≡ Some made
-  pub schema : made.schema ≡ columns
-
-is_table : (found : Option TableInfo) (h : History) (table : ℕ) (columns : List Column) → table_at h table ≡ found → columns_of found ≡ Some columns
-    → IsTable h table columns
-is_table None h table columns is has = absurd cc
-is_table (Some made) h table columns is has = record { made = made; is = is; schema = inside has }
-  where
-    inside : {a b : List Column} → Some a ≡ Some b → a ≡ b
-    inside same = cc
-
--- it is there later, with the same columns
-pub table-longer : (h more : History) (table : ℕ) (exists : Exists h table) → IsTable (h ++ more) table exists.made.schema
-table-longer h more table exists =
-    is_table (table_at (h ++ more) table) (h ++ more) table exists.made.schema refl
-    (each_longer (λ (log : History). columns_of (table_at log table) ≡ Some exists.made.schema)
-    (λ log entry so_far.
-    ap (λ (ts : List TableInfo). columns_of (table_among ts table)) (tables-push log entry)
-    ∙ columns-created (tables log) entry.what table exists.made.schema so_far)
-    h more (ap columns_of exists.is))
-
-module _ (limits : Limits) (who : ℕ) (old at : History) (went : WentOn limits who old at) (table : ℕ) where
-  pub table-on : (exists : Exists old table) → IsTable at table exists.made.schema
-  table-on exists = subst (λ (h : History). IsTable h table exists.made.schema) (sym went.is) (table-longer old went.between table exists)
+module _ {limits : Limits} {who : ℕ} {old at : History} (went : WentOn limits who old at) (table : ℕ) where
+  pub table-on : (exists : Exists old table) → StaysAs exists.made (table_at at table)
+  table-on exists = subst (λ (h : History). StaysAs exists.made (table_at h table)) (sym went.is) (table-longer old went.between table exists)
 
   pub Exists-on : Exists old table → Exists at table
-  Exists-on exists = let now = table-on exists in record { made = now.made; is = now.is }
+  Exists-on exists = let now = table-on exists in record { made = now.info; is = now.is }
 
   pub MayInsert-on : (rows : List Row) → MayInsert old table rows → MayInsert at table rows
   MayInsert-on rows may =
       let now = table-on may.exists in
       record {
-        exists = record { made = now.made; is = now.is };
+        exists = record { made = now.info; is = now.is };
         some = may.some;
         fit = subst (λ (columns : List Column). All (λ row. IsTrue (fits row columns)) rows) (sym now.schema) may.fit;
       }
 
   pub MaySetMemory-on : MaySetMemory old who table → MaySetMemory at who table
-  MaySetMemory-on may = record { exists = Exists-on may.exists; idle = is_open-on limits who old at went may.idle }
+  MaySetMemory-on may = record { exists = Exists-on may.exists; idle = is_open-on went may.idle }
 
 -- ---- the SCN
 

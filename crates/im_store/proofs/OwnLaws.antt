@@ -119,7 +119,7 @@ map_same : {X : Type 0} (f g : ℕ → X) → ((k : ℕ) → f k ≡ g k) → (k
 map_same f g same [] = refl
 map_same f g same (k ∷ ks) = ap₂ (λ x xs. x ∷ xs) (same k) (map_same f g same ks)
 
-module _ (limits : Limits) (who : ℕ) (old at : History) (went : WentOn limits who old at) (task : Task) (own : IsOwn old who task) where
+module _ {limits : Limits} {who : ℕ} {old at : History} (went : WentOn limits who old at) (task : Task) (own : IsOwn old who task) where
   holds-on : Holds who task own.held.given at
   holds-on =
       on-others limits who (Holds who task own.held.given) (holds-push limits who task own.held.given) old at went
@@ -218,9 +218,9 @@ seen-same : (h more : History) (table n : ℕ) (own : List Change) (rid : ℕ) �
 unfolding seen
 seen-same h more table n own rid within = ap (λ (row : Option Row). fold (row_after table rid) row own) (rows-append h more table n rid within)
 
-module _ (limits : Limits) (who : ℕ) (old at : History) (went : WentOn limits who old at) (cursor : ℕ) where
+module _ {limits : Limits} {who : ℕ} {old at : History} (went : WentOn limits who old at) (cursor : ℕ) where
   cursor_at-on : cursor_at at who cursor ≡ cursor_at old who cursor
-  cursor_at-on = ap (find (is_cursor cursor)) (opened-on limits who old at went)
+  cursor_at-on = ap (find (is_cursor cursor)) (opened-on went)
 
   pub cursor_view-on : cursor_view at who cursor ≡ cursor_view old who cursor
   cursor_view-on = ap view_of cursor_at-on
@@ -239,16 +239,16 @@ module _ (limits : Limits) (who : ℕ) (old at : History) (went : WentOn limits 
 
     still-on : (rid : ℕ) → still_seen at who opening rid ≡ still_seen old who opening rid
     still-on rid =
-        ap (fold (row_after opening.view.table rid) (seen_by at opening.view rid)) (pending-on limits who old at went)
+        ap (fold (row_after opening.view.table rid) (seen_by at opening.view rid)) (pending-on went)
         ∙ ap (λ (row : Option Row). fold (row_after opening.view.table rid) row (transactions.pending old who)) (seen-on rid)
 
     pub MayWrite-on : MayWrite at who cursor changes
     MayWrite-on =
-        let now = table-on limits who old at went opening.view.table may.exists in
+        let now = table-on went opening.view.table may.exists in
         record {
           opened = opening;
           is = cursor_at-on ∙ may.is;
-          exists = record { made = now.made; is = now.is };
+          exists = record { made = now.info; is = now.is };
           some = may.some;
           same = may.same;
           rising = may.rising;

@@ -4,6 +4,5 @@ use Rattle.im_store.proofs.calls.SharedReach.begin.Goals as goal
 
 pub give-requires-clause-grew : goal.give-requires-clause-grew
 give-requires-clause-grew g c =
-    grew_either c.self.inside.pass c.take-core.new.pass c.take-core.result c.take-core.ensures.took
-    c.begin-answer.result c.args.who (Begin c.args.mode)
-    c.begin-answer.new.self (mine_in _ _ c.args.who c.self.view_is c.requires.speaks) c.begin-answer.ensures.ok c.begin-answer.ensures.err
+    grew_either c.take-core.ensures.took c.begin-answer.result c.args.who (Begin c.args.mode)
+    (mine_in c.args.who c.self.view_is c.requires.speaks) c.begin-answer.ensures.ok c.begin-answer.ensures.err

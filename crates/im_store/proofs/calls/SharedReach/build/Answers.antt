@@ -3,6 +3,5 @@ use Rattle.im_store.proofs.calls.SharedReach.build.Goals as goal
 
 pub give-requires-clause-grew : goal.give-requires-clause-grew
 give-requires-clause-grew g c =
-    grew_offer c.self.inside.pass c.take-core.new.pass c.take-core.result c.take-core.ensures.took
-    c.build-answer.result c.args.who c.build-answer.new.self
-    (mine_in _ _ c.args.who c.self.view_is c.requires.speaks) c.build-answer.ensures.ok c.build-answer.ensures.err
+    grew_offer c.take-core.ensures.took c.build-answer.result c.args.who
+    (mine_in c.args.who c.self.view_is c.requires.speaks) c.build-answer.ensures.ok c.build-answer.ensures.err

@@ -4,6 +4,5 @@ use Rattle.im_store.proofs.calls.SharedReach.commit.Goals as goal
 
 pub give-requires-clause-grew : goal.give-requires-clause-grew
 give-requires-clause-grew g c =
-    grew_either c.self.inside.pass c.take-core.new.pass c.take-core.result c.take-core.ensures.took
-    c.commit-answer.result c.args.who (Commit)
-    c.commit-answer.new.self (mine_in _ _ c.args.who c.self.view_is c.requires.speaks) c.commit-answer.ensures.ok c.commit-answer.ensures.err
+    grew_either c.take-core.ensures.took c.commit-answer.result c.args.who Commit
+    (mine_in c.args.who c.self.view_is c.requires.speaks) c.commit-answer.ensures.ok c.commit-answer.ensures.err

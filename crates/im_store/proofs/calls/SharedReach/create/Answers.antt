@@ -5,12 +5,9 @@ use Rattle.im_store.proofs.calls.SharedReach.create.Goals as goal
 
 pub create-answer-requires-clause-idle : goal.create-answer-requires-clause-idle
 create-answer-requires-clause-idle g c =
-    is_open-on c.take-core.result.limits c.args.who c.args.self.now.pass.seen c.take-core.result.log
-    (went_since _ c.args.self.now c.take-core.new.pass c.take-core.result c.args.who c.self.view_is
-    c.take-core.ensures.took c.requires.speaks) c.requires.idle
+    is_open-on (went_since c.args.who c.self.view_is c.take-core.ensures.took c.requires.speaks) c.requires.idle
 
 pub give-requires-clause-grew : goal.give-requires-clause-grew
 give-requires-clause-grew g c =
-    grew_either c.self.inside.pass c.take-core.new.pass c.take-core.result c.take-core.ensures.took
-    c.create-answer.result c.args.who (Create c.args.name c.args.schema c.args.shape)
-    c.create-answer.new.self (mine_in _ _ c.args.who c.self.view_is c.requires.speaks) c.create-answer.ensures.ok c.create-answer.ensures.err
+    grew_either c.take-core.ensures.took c.create-answer.result c.args.who (Create c.args.name c.args.schema c.args.shape)
+    (mine_in c.args.who c.self.view_is c.requires.speaks) c.create-answer.ensures.ok c.create-answer.ensures.err

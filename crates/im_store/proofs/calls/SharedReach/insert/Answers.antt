@@ -7,12 +7,10 @@ use Rattle.im_store.proofs.calls.SharedReach.insert.Goals as goal
 
 pub insert-answer-requires-clause-may : goal.insert-answer-requires-clause-may
 insert-answer-requires-clause-may g c =
-    MayInsert-on c.take-core.result.limits c.args.who c.args.self.now.pass.seen c.take-core.result.log
-    (went_since _ c.args.self.now c.take-core.new.pass c.take-core.result c.args.who c.self.view_is
-    c.take-core.ensures.took c.requires.speaks) c.args.table c.args.rows.items c.requires.may
+    MayInsert-on (went_since c.args.who c.self.view_is c.take-core.ensures.took c.requires.speaks) c.args.table c.args.rows.items c.requires.may
 
 pub give-requires-clause-grew : goal.give-requires-clause-grew
 give-requires-clause-grew g c =
-    grew_either c.self.inside.pass c.take-core.new.pass c.take-core.result c.take-core.ensures.took
-    c.insert-answer.result c.args.who (Write (put_from c.args.table (given c.take-core.result.log c.args.table) c.args.rows.items))
-    c.insert-answer.new.self (mine_in _ _ c.args.who c.self.view_is c.requires.speaks) c.insert-answer.ensures.ok c.insert-answer.ensures.err
+    grew_either c.take-core.ensures.took c.insert-answer.result c.args.who
+    (Write (put_from c.args.table (given c.take-core.result.log c.args.table) c.args.rows.items))
+    (mine_in c.args.who c.self.view_is c.requires.speaks) c.insert-answer.ensures.ok c.insert-answer.ensures.err

@@ -5,12 +5,9 @@ use Rattle.im_store.proofs.calls.SharedReach.open_cursor.Goals as goal
 
 pub open_cursor-answer-requires-clause-exists : goal.open_cursor-answer-requires-clause-exists
 open_cursor-answer-requires-clause-exists g c =
-    Exists-on c.take-core.result.limits c.args.who c.args.self.now.pass.seen c.take-core.result.log
-    (went_since _ c.args.self.now c.take-core.new.pass c.take-core.result c.args.who c.self.view_is
-    c.take-core.ensures.took c.requires.speaks) c.args.table c.requires.exists
+    Exists-on (went_since c.args.who c.self.view_is c.take-core.ensures.took c.requires.speaks) c.args.table c.requires.exists
 
 pub give-requires-clause-grew : goal.give-requires-clause-grew
 give-requires-clause-grew g c =
-    grew_either c.self.inside.pass c.take-core.new.pass c.take-core.result c.take-core.ensures.took
-    c.open_cursor-answer.result c.args.who (Open c.args.cursor c.args.table)
-    c.open_cursor-answer.new.self (mine_in _ _ c.args.who c.self.view_is c.requires.speaks) c.open_cursor-answer.ensures.ok c.open_cursor-answer.ensures.err
+    grew_either c.take-core.ensures.took c.open_cursor-answer.result c.args.who (Open c.args.cursor c.args.table)
+    (mine_in c.args.who c.self.view_is c.requires.speaks) c.open_cursor-answer.ensures.ok c.open_cursor-answer.ensures.err

@@ -7,11 +7,8 @@ use Rattle.im_store.proofs.calls.SharedReach.pin.Goals as goal
 pub pin-answer-requires-clause-within : goal.pin-answer-requires-clause-within
 pin-answer-requires-clause-within g c =
     subst (λ (view : View). c.args.extent < view.extents)
-    (sym (cursor_view-on c.take-core.result.limits c.args.who c.args.self.now.pass.seen c.take-core.result.log
-    (went_since _ c.args.self.now c.take-core.new.pass c.take-core.result c.args.who c.self.view_is
-    c.take-core.ensures.took c.requires.speaks) c.args.cursor)) c.requires.within
+    (sym (cursor_view-on (went_since c.args.who c.self.view_is c.take-core.ensures.took c.requires.speaks) c.args.cursor)) c.requires.within
 
 pub give-requires-clause-grew : goal.give-requires-clause-grew
 give-requires-clause-grew g c =
-    grew_not c.self.inside.pass c.take-core.new.pass c.take-core.result c.take-core.ensures.took
-    c.pin-answer.new.self c.pin-answer.ensures.same
+    grew_not c.take-core.ensures.took c.pin-answer.ensures.same

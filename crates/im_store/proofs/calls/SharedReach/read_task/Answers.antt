@@ -6,20 +6,15 @@ use Rattle.im_store.proofs.calls.SharedReach.read_task.Goals as goal
 pub read_task-answer-requires : goal.read_task-answer-requires
 read_task-answer-requires g c =
     record {
-      own = IsOwn-on c.take-core.result.limits c.args.who c.args.self.now.pass.seen c.take-core.result.log
-          (went_since _ c.args.self.now c.take-core.new.pass c.take-core.result c.args.who c.self.view_is
-          c.take-core.ensures.took c.requires.speaks) c.args.task.now c.requires.own;
+      own = IsOwn-on (went_since c.args.who c.self.view_is c.take-core.ensures.took c.requires.speaks) c.args.task.now c.requires.own;
     }
 
 pub give-requires-clause-grew : goal.give-requires-clause-grew
 give-requires-clause-grew g c =
-    grew_not c.self.inside.pass c.take-core.new.pass c.take-core.result c.take-core.ensures.took
-    c.read_task-answer.new.self c.read_task-answer.ensures.same
+    grew_not c.take-core.ensures.took c.read_task-answer.ensures.same
 
 pub returns-clause-steps : goal.returns-clause-steps
 returns-clause-steps g c =
     subst (λ (rows : ℕ). c.read_task-answer.new.steps ≤ c.args.steps.now + rows)
-    (task_rows-on c.take-core.result.limits c.args.who c.args.self.now.pass.seen c.take-core.result.log
-    (went_since _ c.args.self.now c.take-core.new.pass c.take-core.result c.args.who c.self.view_is
-    c.take-core.ensures.took c.requires.speaks) c.args.task.now c.requires.own)
+    (task_rows-on (went_since c.args.who c.self.view_is c.take-core.ensures.took c.requires.speaks) c.args.task.now c.requires.own)
     c.read_task-answer.ensures.steps

@@ -4,6 +4,4 @@ use Rattle.im_store.proofs.calls.SharedReach.rollback.Goals as goal
 
 pub rollback-answer-requires-clause-transaction : goal.rollback-answer-requires-clause-transaction
 rollback-answer-requires-clause-transaction g c =
-    is_open-on c.take-core.result.limits c.args.who c.args.self.now.pass.seen c.take-core.result.log
-    (went_since _ c.args.self.now c.take-core.new.pass c.take-core.result c.args.who c.self.view_is
-    c.take-core.ensures.took c.requires.speaks) c.requires.transaction
+    is_open-on (went_since c.args.who c.self.view_is c.take-core.ensures.took c.requires.speaks) c.requires.transaction

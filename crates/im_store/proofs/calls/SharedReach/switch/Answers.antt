@@ -5,19 +5,14 @@ use Rattle.im_store.proofs.calls.SharedReach.switch.Goals as goal
 
 pub switch-answer-requires-clause-own : goal.switch-answer-requires-clause-own
 switch-answer-requires-clause-own g c =
-    IsOwn-on c.take-core.result.limits c.args.who c.args.self.now.pass.seen c.take-core.result.log
-    (went_since _ c.args.self.now c.take-core.new.pass c.take-core.result c.args.who c.self.view_is
-    c.take-core.ensures.took c.requires.speaks) c.args.task c.requires.own
+    IsOwn-on (went_since c.args.who c.self.view_is c.take-core.ensures.took c.requires.speaks) c.args.task c.requires.own
 
 pub switch-answer-requires-clause-holds : goal.switch-answer-requires-clause-holds
 switch-answer-requires-clause-holds g c =
     c.requires.holds
-    ∙ sym (task_content-on c.take-core.result.limits c.args.who c.args.self.now.pass.seen c.take-core.result.log
-    (went_since _ c.args.self.now c.take-core.new.pass c.take-core.result c.args.who c.self.view_is
-    c.take-core.ensures.took c.requires.speaks) c.args.task c.requires.own)
+    ∙ sym (task_content-on (went_since c.args.who c.self.view_is c.take-core.ensures.took c.requires.speaks) c.args.task c.requires.own)
 
 pub give-requires-clause-grew : goal.give-requires-clause-grew
 give-requires-clause-grew g c =
-    grew_switched c.self.inside.pass c.take-core.new.pass c.take-core.result c.take-core.ensures.took
-    _ c.args.who c.args.task c.switch-answer.result
-    c.switch-answer.new.self (mine_in _ _ c.args.who c.self.view_is c.requires.speaks) c.switch-answer.ensures
+    grew_switched c.take-core.ensures.took _ c.args.who c.args.task c.switch-answer.result
+    (mine_in c.args.who c.self.view_is c.requires.speaks) c.switch-answer.ensures

@@ -4,6 +4,5 @@ use Rattle.im_store.proofs.calls.SharedReach.trickle.Goals as goal
 
 pub give-requires-clause-grew : goal.give-requires-clause-grew
 give-requires-clause-grew g c =
-    grew_either c.self.inside.pass c.take-core.new.pass c.take-core.result c.take-core.ensures.took
-    c.trickle-answer.result c.args.who (Trickle c.args.n)
-    c.trickle-answer.new.self (mine_in _ _ c.args.who c.self.view_is c.requires.speaks) c.trickle-answer.ensures.ok c.trickle-answer.ensures.err
+    grew_either c.take-core.ensures.took c.trickle-answer.result c.args.who (Trickle c.args.n)
+    (mine_in c.args.who c.self.view_is c.requires.speaks) c.trickle-answer.ensures.ok c.trickle-answer.ensures.err
