@@ -17,13 +17,13 @@ use Rattle.im_history.specs.Legal.{MaySetMemory}
 use Rattle.im_history.specs.Refusals.{create_refusal}
 use Rattle.im_history.specs.Tables.{table_among, table_at, tables}
 use Rattle.im_history.specs.Transactions.{begun, is_open}
-use Rattle.im_history.proofs.Laws.{begun-push, opened-push, tables-push}
+use Rattle.im_history.proofs.Laws.{tables-push}
 use Rattle.im_plan.specs.Plan.{Plan, End}
 use Rattle.im_reach.specs.Sides.{Added, Found, Known, speaks}
 use Rattle.im_replies.specs.Causes.{creation_fault}
 use Rattle.im_session.specs.inner.Definitions.{created_reply}
 use Rattle.im_session.specs.inner.Rests.{IsRest}
-use Rattle.im_session.proofs.OtherLemmas.{begun-after, cursor-after}
+use Rattle.im_session.proofs.OtherLemmas.{begun-added, opened-added}
 use Rattle.im_session.proofs.RestLemmas.{attempt-done, decide-done, rest-refused}
 use Rattle.im_statements.specs.Definitions.{create_table, created, join_memory}
 use Rattle.im_statements.specs.Outcomes.{Outcome, said}
@@ -40,10 +40,6 @@ create-refused who k old new name schema grid None told mine shut found =
 create-refused who k old new name schema grid (Some priority) told mine shut found =
     rest-refused who k old new false (creation_fault name) (λ at. create_refusal at name) (λ at. what.Create name schema grid)
     (λ at. join_memory at priority) told mine shut found
-
-if-same : {A : Type 0} (b : Bool) (x : A) → (if b then x else x) ≡ x
-if-same true x = refl
-if-same false x = refl
 
 module _ (who k : ℕ) (old middle : Known) (name : List ℕ) (schema : List Column) (grid : Grid) (made : Made) where
   -- a table of this name was created, with this number
@@ -77,10 +73,7 @@ module _ (who k : ℕ) (old middle : Known) (name : List ℕ) (schema : List Col
 
     pub created-shut : is_cursor_open old.log who 0 ≡ false → is_cursor_open middle.log who 0 ≡ false
     created-shut shut =
-        ap (λ (log : History). is_cursor_open log who 0) log-is
-        ∙ (ap (list_any (is_cursor 0))
-        (opened-push at (record { who = who; what = what.Create name schema grid }) who ∙ if-same (who == who) (opened at who))
-        ∙ (cursor-after old.side who 0 old.log at mine added.after ∙ shut))
+        ap (list_any (is_cursor 0)) (opened-added who old middle (what.Create name schema grid) IsMade mine added) ∙ shut
 
     slice-last : (ts : List TableInfo) (table : TableInfo) → slice_get (ts ++ table ∷ []) (length ts) ≡ Some table
     slice-last [] table = refl
@@ -102,8 +95,5 @@ module _ (who k : ℕ) (old middle : Known) (name : List ℕ) (schema : List Col
             ∙ among-last (tables at) (record { name = name; schema = schema; shape = grid; memory = None }) made.table
             (ap (λ (m : Made). m.table) added.fact.1));
       };
-      idle =
-          ap (λ (log : History). is_open log who) log-is
-          ∙ (ap is_some (begun-push at (record { who = who; what = what.Create name schema grid }) who ∙ if-same (who == who) (begun at who))
-          ∙ (ap is_some (begun-after old.side who old.log at mine added.after) ∙ idle));
+      idle = ap is_some (begun-added who old middle (what.Create name schema grid) IsMade mine added) ∙ idle;
     }

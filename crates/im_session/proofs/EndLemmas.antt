@@ -6,13 +6,11 @@ use Rattle.std.proofs.lemmas.Bool.Decides.{nat_tests}
 use Rattle.std.proofs.lemmas.List.Elements.{All-head, All-tail}
 use Rattle.im_history.specs.declared.entry.What.{What}
 use Rattle.im_history.specs.declared.entry.What.TheVariants.{Leave, Rollback, Shut}
-use Rattle.im_history.specs.Cursors.{Opened, is_cursor, is_cursor_open, opened, opened_after}
+use Rattle.im_history.specs.Cursors.{Opened, is_cursor, is_cursor_open, opened}
 use Rattle.im_history.specs.History.{History}
-use Rattle.im_history.specs.Leaves.{has_left, is_leave}
+use Rattle.im_history.specs.Leaves.{has_left}
 use Rattle.im_history.specs.Legal.{MayLeave}
-use Rattle.im_history.specs.Transactions.{begun, begun_after, is_open}
-use Rattle.im_history.proofs.Laws.{begun-push, opened-push}
-use Rattle.im_history.proofs.LeaveLaws.{has_left-push}
+use Rattle.im_history.specs.Transactions.{is_open}
 use Rattle.im_plan.specs.Goes.{After, Goes, Others}
 use Rattle.im_plan.specs.Plan.{Plan, End, Turn, made}
 use Rattle.im_plan.proofs.GoesLaws.{after-after, others-go_on}
@@ -24,7 +22,7 @@ use Rattle.im_session.specs.Sessions.{Agrees, AreApart, Kept, state_of}
 use Rattle.im_session.specs.inner.Ends.{IsClosing, IsRolledBack, Leads, kept_numbers}
 use Rattle.im_session.specs.inner.Running.{is_number}
 use Rattle.im_session.proofs.KeptLemmas.{apart-filter}
-use Rattle.im_session.proofs.OtherLemmas.{begun-after, left-after, nobody-came, opened-after, others-of}
+use Rattle.im_session.proofs.OtherLemmas.{begun-added, begun-after, left-added, left-after, nobody-came, opened-added, opened-after, others-of}
 use Rattle.im_statements.specs.Agreement.{AreQueriesOf}
 
 -- ---- numbers in rising order
@@ -165,9 +163,6 @@ queries-none (o ∷ os) are = absurd are
 
 -- ---- one step of the end
 
-itself : (who : ℕ) → (who == who) ≡ true
-itself who = grind (arith, nat_tests)
-
 leads-here : (who : ℕ) (old : Known) (plan : Plan ⊤) → Leads who old plan old plan
 leads-here who old plan = record { known = refl; goes = λ late goes. goes }
 
@@ -211,42 +206,6 @@ leads-look who old adds on is = record {
         (sym (ap (λ (w : Option What). old.log ++ made who w) is ∙ append-nil old.log)) goes,
   );
 }
-
--- ---- what an entry of the session's own leaves as it is
-
-module _ (who : ℕ) (old new : Known) (entry : What) (P : History → Type 0) (mine : speaks old.side who ≡ true)
-    (added : Added old new who (λ at. entry) P) where
-  log : new.log ≡ added.at ++ record { who = who; what = entry } ∷ []
-  log = ap (λ (k : Known). k.log) added.now
-
-  side-added : new.side ≡ old.side
-  side-added = ap (λ (k : Known). k.side) added.now
-
-  opened-added : opened new.log who ≡ opened_after added.at who (opened old.log who) entry
-  opened-added =
-      ap (λ (h : History). opened h who) log
-      ∙ (opened-push added.at (record { who = who; what = entry }) who
-      ∙ (ap (λ (b : Bool). if b then opened_after added.at who (opened added.at who) entry else opened added.at who) (itself who)
-      ∙ ap (λ (os : List Opened). opened_after added.at who os entry) (opened-after old.side who old.log added.at mine added.after)))
-
-  begun-added : begun new.log who ≡ begun_after (length added.at) (begun old.log who) entry
-  begun-added =
-      ap (λ (h : History). begun h who) log
-      ∙ (begun-push added.at (record { who = who; what = entry }) who
-      ∙ (ap (λ (b : Bool). if b then begun_after (length added.at) (begun added.at who) entry else begun added.at who) (itself who)
-      ∙ ap (λ (b : Option ℕ). begun_after (length added.at) b entry) (begun-after old.side who old.log added.at mine added.after)))
-
-  left-added : is_leave entry ≡ false → has_left new.log who ≡ has_left old.log who
-  left-added stays =
-      ap (λ (h : History). has_left h who) log
-      ∙ (has_left-push added.at (record { who = who; what = entry }) who
-      ∙ (ap (λ (b : Bool). has_left added.at who || ((who == who) && b)) stays
-      ∙ (or_never (has_left added.at who) (who == who) ∙ left-after old.side who old.log added.at mine added.after)))
-    where
-      or_never : (a b : Bool) → (a || (b && false)) ≡ a
-      or_never true b = refl
-      or_never false true = refl
-      or_never false false = refl
 
 -- ---- the cursors are closed
 

@@ -9,6 +9,7 @@ use Rattle.im_session.specs.Cursors.{query_of}
 use Rattle.im_session.specs.Sessions.{AreApart, state_of}
 use Rattle.im_session.specs.inner.Cursors.{query_after}
 use Rattle.im_session.specs.inner.Running.{is_number}
+use Rattle.im_session.proofs.OtherLemmas.{itself}
 use Rattle.im_statements.specs.Agreement.{AreQueriesOf}
 use Rattle.im_statements.specs.Outcomes.{Query, is_query, query_at, stepped}
 
@@ -151,9 +152,6 @@ module _ (number : ℕ) where
       → map (stepped number) (map query_of cursors) ≡ map query_of cursors
   others-stay [] apart = refl
   others-stay (kept ∷ others) apart = rw (apart.0, others-stay others apart.1) refl
-
-itself : (n : ℕ) → (n == n) ≡ true
-itself n = grind (arith, nat_tests)
 
 pub set-steps : (cursors : List Cursor) (at : ℕ) (kept now : Cursor) → AreApart cursors → slice_get cursors at ≡ Some kept
     → query_of now ≡ query_after true (query_of kept)

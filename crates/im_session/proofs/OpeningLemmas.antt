@@ -36,7 +36,7 @@ use Rattle.im_session.specs.inner.Cursors.{IsUnopened}
 use Rattle.im_session.specs.inner.Rests.{IsRest}
 use Rattle.im_session.specs.inner.Scans.{IsScan}
 use Rattle.im_session.specs.Cursors.{MayAskIn}
-use Rattle.im_session.proofs.OtherLemmas.{cursor-after}
+use Rattle.im_session.proofs.OtherLemmas.{cursor-after, itself}
 use Rattle.im_session.proofs.RestLemmas.{Onward, attempt-done, rest-lacks_here, rest-refused}
 use Rattle.im_session.proofs.TableLemmas.{asks-own, exists-longer, of_table-longer, per-longer, scn-longer}
 use Rattle.im_statements.specs.Outcomes.{Outcome, said}
@@ -46,9 +46,6 @@ use Rattle.im_syntax.specs.declared.bound.Bound.{Bound}
 use Rattle.im_syntax.specs.Condition.{CondOf}
 
 -- ---- the cursor
-
-itself : (n : ℕ) → (n == n) ≡ true
-itself n = grind (arith, nat_tests)
 
 -- a cursor that may be opened is not open
 open_shut : (h : History) (who cursor : ℕ) → open_refusal h who cursor ≡ None → is_cursor_open h who cursor ≡ false

@@ -1,10 +1,11 @@
--- What others leave as it is: the cursors and the transaction of each number that a side speaks for.
-use Rattle.std.proofs.Common.{◌≡◌, ℕ, ◌==◌, ◌&&◌, ◌||◌, Bool, true, false, if◌then◌else◌, [], ◌∷◌, ◌++◌, length, is_some, All, refl, sym, ap, ◌∙◌, arith, append-nil, append_assoc}
+-- What others leave as it is, the cursors and the transaction of each number that a side speaks for, and what its own entries do.
+use Rattle.std.proofs.Common.{◌≡◌, ℕ, ◌==◌, ◌&&◌, ◌||◌, Bool, true, false, if◌then◌else◌, [], ◌∷◌, ◌++◌, length, List, Option, is_some, All, refl, sym, ap, ◌∙◌, arith, append-nil, append_assoc}
 use Rattle.std.specs.List.{list_any}
 use Rattle.std.proofs.lemmas.Bool.Decides.{nat_tests}
 use Rattle.std.proofs.lemmas.List.Elements.{All-nil, All-head, All-tail, All-weaker}
 use Rattle.im_history.specs.declared.entry.Entry.{Entry}
-use Rattle.im_history.specs.Cursors.{opened, opened_after, is_cursor, is_cursor_open}
+use Rattle.im_history.specs.declared.entry.What.{What}
+use Rattle.im_history.specs.Cursors.{Opened, opened, opened_after, is_cursor, is_cursor_open}
 use Rattle.im_history.specs.History.{History}
 use Rattle.im_history.specs.Leaves.{has_left, is_leave}
 use Rattle.im_history.specs.Transactions.{begun, begun_after, is_open, pending}
@@ -12,7 +13,7 @@ use Rattle.im_history.specs.Transactions as transactions
 use Rattle.im_history.proofs.Laws.{begun-push, opened-push, pending-push}
 use Rattle.im_history.proofs.LeaveLaws.{has_left-push}
 use Rattle.im_plan.specs.Goes.{After, Others}
-use Rattle.im_reach.specs.Sides.{AreOthers, Found, Known, StoreSide, speaks}
+use Rattle.im_reach.specs.Sides.{Added, AreOthers, Found, Known, StoreSide, speaks}
 
 -- others of a side have numbers that it does not speak for
 pub others-of : (side : StoreSide) (old at : History) → After (AreOthers side) old at → After (Others (speaks side)) old at
@@ -107,3 +108,39 @@ pub idle-found : (who : ℕ) (old new : Known) (P : History → Type 0) {b : Boo
     → is_open old.log who ≡ b → is_open new.log who ≡ b
 idle-found who old new P mine found is =
     ap (λ (s : Known). is_open s.log who) found.now ∙ (ap is_some (begun-after old.side who old.log found.at mine found.after) ∙ is)
+
+-- ---- what an entry of the number's own leaves as it is
+
+pub itself : (n : ℕ) → (n == n) ≡ true
+itself n = grind (arith, nat_tests)
+
+module _ (who : ℕ) (old new : Known) (entry : What) (P : History → Type 0) (mine : speaks old.side who ≡ true)
+    (added : Added old new who (λ at. entry) P) where
+  log-added : new.log ≡ added.at ++ record { who = who; what = entry } ∷ []
+  log-added = ap (λ (k : Known). k.log) added.now
+
+  pub opened-added : opened new.log who ≡ opened_after added.at who (opened old.log who) entry
+  opened-added =
+      ap (λ (h : History). opened h who) log-added
+      ∙ (opened-push added.at (record { who = who; what = entry }) who
+      ∙ (ap (λ (b : Bool). if b then opened_after added.at who (opened added.at who) entry else opened added.at who) (itself who)
+      ∙ ap (λ (os : List Opened). opened_after added.at who os entry) (opened-after old.side who old.log added.at mine added.after)))
+
+  pub begun-added : begun new.log who ≡ begun_after (length added.at) (begun old.log who) entry
+  begun-added =
+      ap (λ (h : History). begun h who) log-added
+      ∙ (begun-push added.at (record { who = who; what = entry }) who
+      ∙ (ap (λ (b : Bool). if b then begun_after (length added.at) (begun added.at who) entry else begun added.at who) (itself who)
+      ∙ ap (λ (b : Option ℕ). begun_after (length added.at) b entry) (begun-after old.side who old.log added.at mine added.after)))
+
+  pub left-added : is_leave entry ≡ false → has_left new.log who ≡ has_left old.log who
+  left-added stays =
+      ap (λ (h : History). has_left h who) log-added
+      ∙ (has_left-push added.at (record { who = who; what = entry }) who
+      ∙ (ap (λ (b : Bool). has_left added.at who || ((who == who) && b)) stays
+      ∙ (or_never (has_left added.at who) (who == who) ∙ left-after old.side who old.log added.at mine added.after)))
+    where
+      or_never : (a b : Bool) → (a || (b && false)) ≡ a
+      or_never true b = refl
+      or_never false true = refl
+      or_never false false = refl

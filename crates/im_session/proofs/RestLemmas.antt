@@ -1,5 +1,5 @@
 -- How a line that is played over a side of a store goes by its plan, exit by exit.
-use Rattle.std.proofs.Common.{◌≡◌, ℕ, suc, ◌+◌, ◌&&◌, Bool, true, false, if◌then◌else◌, [], ◌∷◌, ◌++◌, length, Option, Some, None, is_some, refl, sym, ap, ◌∙◌, subst, inl, inr, append-nil, arith}
+use Rattle.std.proofs.Common.{◌≡◌, ℕ, suc, ◌+◌, ◌&&◌, ◌⊎◌, Bool, true, false, if◌then◌else◌, [], ◌∷◌, ◌++◌, length, Option, Some, None, is_some, refl, sym, ap, ◌∙◌, subst, inl, inr, append-nil, arith}
 use Rattle.im_core.specs.Answers.{IsRefusal}
 use Rattle.im_history.specs.declared.entry.What.{What}
 use Rattle.im_history.specs.declared.entry.What.TheVariants as what
@@ -223,13 +223,10 @@ decide_by-done who k old new entry P on outcome added ends =
 -- ---- refusals
 
 -- the reply for a cause: that memory ran out, or its fault
-data IsToldOf (tells : Why → Fault) (k place : ℕ) (cause : Why) : Type 0 where
-  of_memory : refused_reply tells k place cause ≡ memory_reply k → IsToldOf tells k place cause
-  of_fault : refused_reply tells k place cause ≡ settled_reply place (Error (tells cause)) → IsToldOf tells k place cause
-
-told_of : (tells : Why → Fault) (k place : ℕ) (cause : Why) → IsToldOf tells k place cause
-told_of tells k place why.NoMemory = of_memory refl
-told_of tells k place _ = of_fault refl
+refused_reply-either : (tells : Why → Fault) (k place : ℕ) (cause : Why)
+    → (refused_reply tells k place cause ≡ memory_reply k) ⊎ (refused_reply tells k place cause ≡ settled_reply place (Error (tells cause)))
+refused_reply-either tells k place why.NoMemory = inl refl
+refused_reply-either tells k place _ = inr refl
 
 -- a call for an entry was refused
 pub rest-refused : (who k : ℕ) (old new : Known) (decides : Bool) (tells : Why → Fault) (refused : History → Option Why)
@@ -237,7 +234,7 @@ pub rest-refused : (who k : ℕ) (old new : Known) (decides : Bool) (tells : Why
     → is_cursor_open old.log who 0 ≡ false → Found old new (λ at. IsRefusal at (refused at) told)
     → IsRest who k old (Turn decides (λ at. unless_refused (refused at) (entry at)) (λ at. or_refused tells at (refused at) (on at)))
     (said (refused_reply tells k told.place told.why)) new
-rest-refused who k old new decides tells refused entry on told mine shut found = by (told_of tells k told.place told.why)
+rest-refused who k old new decides tells refused entry on told mine shut found = by (refused_reply-either tells k told.place told.why)
   where
     plan : Plan Outcome
     plan = Turn decides (λ at. unless_refused (refused at) (entry at)) (λ at. or_refused tells at (refused at) (on at))
@@ -269,9 +266,11 @@ rest-refused who k old new decides tells refused entry on told mine shut found =
               (others-of old.side old.log at found.after) (ends (refused at) cause);
         })
 
-    by : IsToldOf tells k told.place told.why → IsRest who k old plan (said (refused_reply tells k told.place told.why)) new
-    by (of_memory e) = lacking e
-    by (of_fault e) = elim found.fact.why [
+    by : (refused_reply tells k told.place told.why ≡ memory_reply k)
+        ⊎ (refused_reply tells k told.place told.why ≡ settled_reply told.place (Error (tells told.why)))
+        → IsRest who k old plan (said (refused_reply tells k told.place told.why)) new
+    by (inl e) = lacking e
+    by (inr e) = elim found.fact.why [
       | inl lacks ↦ lacking (ap (refused_reply tells k told.place) lacks)
       | inr cause ↦ subst (λ (reply : Reply). IsRest who k old plan (said reply) new)
           (sym (e ∙ ap (λ (place : ℕ). settled_reply place (Error (tells told.why))) found.fact.place)) (faulty cause)

@@ -1,5 +1,5 @@
 -- What is read of an extent for a scan, and what the parts of the extents so far are.
-use Rattle.std.proofs.Common.{◌≡◌, ℕ, ◌+◌, ◌<◌, ◌≤◌, ◌^◌, true, List, [], length, Option, Some, None, Result, Ok, Err, refl, sym, ap, ◌∙◌, arith}
+use Rattle.std.proofs.Common.{◌≡◌, ℕ, ◌+◌, ◌-◌, ◌<◌, ◌≤◌, ◌^◌, true, List, [], length, Option, Some, None, Result, Ok, Err, refl, sym, ap, ◌∙◌, arith}
 use Rattle.std.specs.List.{AllByRecursion}
 use Rattle.std.specs.Option.{ForSome, option_map}
 use Rattle.std.proofs.lemmas.List.{length-map}
@@ -14,20 +14,27 @@ use Rattle.im_history.specs.Legal.{IsLawful}
 use Rattle.im_history.specs.Rows.{Row}
 use Rattle.im_history.specs.Serving.{fetched_by, fetched_in, serving, serving_content}
 use Rattle.im_history.specs.Units.{Content, content_at, stale}
+use Rattle.im_plan.specs.Plan.{Plan}
 use Rattle.im_reach.specs.Sides.{Known, speaks}
 use Rattle.im_replies.specs.declared.served.How.TheVariants.{Unit as ByUnit}
+use Rattle.im_replies.specs.declared.served.Served.{Served}
 use Rattle.im_replies.specs.Mixes.{mix, mix_by}
 use Rattle.im_scan.specs.Faces.{how_of}
 use Rattle.im_scan.specs.Parts.{MayAsk}
 use Rattle.im_scan.specs.Pinned.{IsPinned, seen_all, seen_in, seen_to}
 use Rattle.im_scan.proofs.ForCallers.{MayAskOf, can-merge-seen, fetched-may, merged-seen, pinned-serving, seen_in-later, seen_to-all, seen_to-none, unit-may}
+use Rattle.im_session.specs.declared.cursor.Cursor.{Cursor}
 use Rattle.im_session.specs.declared.serving.Wanted.{Wanted}
 use Rattle.im_session.specs.declared.serving.Wanted.TheVariants.{Parts as AllParts, Marks}
-use Rattle.im_session.specs.inner.Scans.{IsRead, IsScan, Went}
+use Rattle.im_session.specs.inner.Scans.{Comes, IsRead, IsScan, Stops, Went}
 use Rattle.im_session.specs.inner.Serving.{wanted_of}
 use Rattle.im_session.specs.Cursors.{MayAskIn}
-use Rattle.im_session.proofs.ScanLemmas.{asks-went, scan-went, view-scan}
+use Rattle.im_session.specs.Reads.{AreRead, IsCounted}
+use Rattle.im_session.proofs.ReadsLemmas.{more-read, read-counted}
+use Rattle.im_session.proofs.ScanLemmas.{asks-went, longer-went, scan-went, stops-went, view-scan}
 use Rattle.im_session.proofs.TableLemmas.{asks-of}
+use Rattle.im_statements.specs.Outcomes.{Outcome}
+use Rattle.im_statements.specs.Scans.{serve, serve_from}
 use Rattle.im_syntax.specs.declared.bound.Bound.{Bound}
 use Rattle.im_syntax.specs.Condition.{CondOf}
 use Rattle.im_values.specs.declared.value.Value.{Value}
@@ -132,3 +139,32 @@ pub part-all : (wanted : Wanted) (who cursor extent : ℕ) (bound : Bound) (view
     → part ≡ partial bound (wanted_of wanted (seen_all now.log view))
 part-all wanted who cursor extent bound view now part scan all is =
     is ∙ ap (λ (rows : List Numbered). partial bound (wanted_of wanted rows)) (seen_to-all now.log view extent scan.sees.some (sym all ∙ scan.sees.cut))
+
+-- ---- one more extent
+
+-- the next extent of a cursor was served, after others went on
+module _ (who : ℕ) (cursor : Cursor) (extent : ℕ) (first old new : Known) (served : Went old new) where
+  -- the scan ends there with an error
+  pub stops-served : {T E : Type 0} (result : Result T E) (marks : List Served)
+      → ((k : ℕ) (on : List Served → Plan Outcome) → Comes who k first (serve_from cursor.view cursor.bound.filter cursor.next on) old
+      (serve cursor.view cursor.bound.filter (cursor.view.extents - extent) extent marks on))
+      → IfErr result (λ error. (k : ℕ) (on : List Served → Plan Outcome)
+      → Stops who k first (serve_from cursor.view cursor.bound.filter cursor.next on) new)
+  stops-served result marks comes =
+      let stops : (k : ℕ) (on : List Served → Plan Outcome) → Stops who k first (serve_from cursor.view cursor.bound.filter cursor.next on) new =
+      λ k on.
+      stops-went who k first old new (serve_from cursor.view cursor.bound.filter cursor.next on)
+      (serve cursor.view cursor.bound.filter (cursor.view.extents - extent) extent marks on) served (comes k on) in
+      err-always result _ (λ error. stops)
+
+  -- those so far and it were read
+  module _ (a b c : ℕ) (went : Went first old) (so_far : AreRead who cursor.number cursor.view cursor.next extent a b first.log old.log)
+      (more : AreRead who cursor.number cursor.view extent (extent + 1) b c old.log new.log) where
+    pub read-served : AreRead who cursor.number cursor.view cursor.next (extent + 1) a c first.log new.log
+    read-served =
+        more-read who cursor.number cursor.view cursor.next extent (extent + 1) a b c first old new
+        (longer-went first old went) (longer-went old new served) so_far more
+
+    pub counted-served : extent < cursor.view.extents → IsCounted who a c first new
+    counted-served within =
+        read-counted who cursor.number cursor.view cursor.next (extent + 1) a c first new (omega (arith, within)) read-served

@@ -4,100 +4,27 @@ use Rattle.std.specs.List.{AllByRecursion}
 use Rattle.std.specs.Option.{option_map}
 use Rattle.std.specs.Prelude.{slice_get}
 use Rattle.std.proofs.lemmas.List.Elements.{All-cons, All-head, All-nil, All-tail}
-use Rattle.im_values.specs.declared.priority.Priority.{Priority}
 use Rattle.im_values.specs.declared.schema.Column.{Column}
 use Rattle.im_values.specs.Fits.{fits}
 use Rattle.im_history.specs.declared.change.Change.{Change}
-use Rattle.im_history.specs.declared.entry.What.{What}
-use Rattle.im_history.specs.declared.entry.What.TheVariants as what
 use Rattle.im_history.specs.declared.limits.Limits.{Limits}
 use Rattle.im_history.specs.declared.look.TableInfo.{TableInfo}
 use Rattle.im_history.specs.Commits.{scn, moves_clock}
+use Rattle.im_history.specs.Grid.{per_extent}
 use Rattle.im_history.specs.History.{History}
 use Rattle.im_history.specs.Legal.{Exists, IsLegal, MayInsert, row_fits}
 use Rattle.im_history.specs.Rows.{Row, own_changes}
-use Rattle.im_history.specs.Tables.{created, table_at, tables, with_memory}
+use Rattle.im_history.specs.Tables.{table_among, table_at, tables}
 use Rattle.im_history.specs.Views.{per_at}
 use Rattle.im_history.proofs.FitLaws.{pending-fits, rows-fit}
-use Rattle.im_history.proofs.Laws.{scn-push, tables-push}
+use Rattle.im_history.proofs.Laws.{scn-push}
 use Rattle.im_history.proofs.RowLaws.{each_longer}
-use Rattle.im_history.proofs.TableLaws.{Exists-push, per_at-push}
+use Rattle.im_history.proofs.TableLaws.{table-longer}
 use Rattle.im_names.specs.Fitting.{OfTable, QueryServes, RowsServe, columns_at}
 use Rattle.im_scan.specs.Parts.{MayAsk}
 use Rattle.im_scan.proofs.ForCallers.{MayAskOf}
 use Rattle.im_syntax.specs.declared.bound.Bound.{Bound}
 use Rattle.im_syntax.specs.BoundFits.{BoundFits}
-
--- ---- its columns
-
--- the columns of a table, where it is there
-abbrev columns_of : Option TableInfo → Option (List Column)
-columns_of found = option_map (λ table. table.schema) found
-
-columns-append : (ts more : List TableInfo) (place : ℕ) (columns : List Column) → columns_of (slice_get ts place) ≡ Some columns
-    → columns_of (slice_get (ts ++ more) place) ≡ Some columns
-columns-append [] more place columns is = absurd cc
-columns-append (t ∷ ts) more zero columns is = is
-columns-append (t ∷ ts) more (suc place) columns is = columns-append ts more place columns is
-
-columns-memory : (at : ℕ) (priority : Option Priority) (ts : List TableInfo) (place : ℕ)
-    → columns_of (slice_get (with_memory at priority ts) place) ≡ columns_of (slice_get ts place)
-columns-memory at priority [] place = refl
-columns-memory zero priority (t ∷ ts) zero = refl
-columns-memory zero priority (t ∷ ts) (suc place) = refl
-columns-memory (suc at) priority (t ∷ ts) zero = refl
-columns-memory (suc at) priority (t ∷ ts) (suc place) = columns-memory at priority ts place
-
-columns-created : (ts : List TableInfo) (entry : What) (table : ℕ) (columns : List Column) → columns_at ts table ≡ Some columns
-    → columns_at (created ts entry) table ≡ Some columns
-columns-created ts entry zero columns is = is
-columns-created ts (what.Create name schema grid) (suc place) columns is =
-    columns-append ts (record { name = name; schema = schema; shape = grid; memory = None } ∷ []) place columns is
-columns-created ts (what.Memory zero priority) (suc place) columns is = is
-columns-created ts (what.Memory (suc at) priority) (suc place) columns is = columns-memory at priority ts place ∙ is
-columns-created ts _ (suc place) columns is = is
-
-pub columns-longer : (h more : History) (table : ℕ) (columns : List Column) → columns_at (tables h) table ≡ Some columns
-    → columns_at (tables (h ++ more)) table ≡ Some columns
-columns-longer h more table columns is =
-    each_longer (λ (log : History). columns_at (tables log) table ≡ Some columns)
-    (λ log entry so_far. ap (λ (ts : List TableInfo). columns_at ts table) (tables-push log entry)
-    ∙ columns-created (tables log) entry.what table columns so_far)
-    h more is
-
--- what fits a table fits it later
-pub of_table-longer : (h more : History) (table : ℕ) (P : List Column → Type 0) → OfTable (tables h) table P → OfTable (tables (h ++ more)) table P
-of_table-longer h more table P of = record { columns = of.columns; are_of = columns-longer h more table of.columns of.are_of; is = of.is }
-
--- ---- that it is there, and how it is cut
-
-pub exists-longer : (h more : History) (table : ℕ) → Exists h table → Exists (h ++ more) table
-exists-longer h more table exists =
-    each_longer (λ (log : History). Exists log table) (λ log entry so_far. Exists-push log entry table so_far) h more exists
-
-record IsCut (table per : ℕ) (h : History) : Type 0 where
-  pub exists : Exists h table
-  pub is : per ≡ per_at h table
-
-pub per-longer : (h more : History) (table per : ℕ) → Exists h table → per ≡ per_at h table → per ≡ per_at (h ++ more) table
-per-longer h more table per exists is = cut.is
-  where
-    cut : IsCut table per (h ++ more)
-    cut = each_longer (IsCut table per)
-        (λ log entry so_far. record {
-          exists = Exists-push log entry table so_far.exists;
-          is = so_far.is ∙ sym (per_at-push log entry table so_far.exists);
-        })
-        h more (record { exists = exists; is = is })
-
-pub scn-longer : (h more : History) (n : ℕ) → n ≤ scn h → n ≤ scn (h ++ more)
-scn-longer h more n below =
-    each_longer (λ (log : History). n ≤ scn log)
-    (λ log entry so_far. let now = scn-push log entry in
-    grows (scn log) (scn (log ++ entry ∷ [])) (if moves_clock entry.what then 1 else 0) so_far now) h more below
-  where
-    grows : (before now step : ℕ) → n ≤ before → now ≡ before + step → n ≤ now
-    grows before now step a b = omega (arith, a, b)
 
 -- ---- the table of a number that names were resolved to
 
@@ -110,7 +37,7 @@ pub made_of : (h : History) (table : ℕ) (columns : List Column) → columns_at
 made_of h zero columns e = absurd cc
 made_of h (suc before) columns e = by (slice_get (tables h) before) refl e
   where
-    by : (o : Option TableInfo) → slice_get (tables h) before ≡ o → columns_of o ≡ Some columns → MadeOf h (suc before) columns
+    by : (o : Option TableInfo) → slice_get (tables h) before ≡ o → option_map (λ info. info.schema) o ≡ Some columns → MadeOf h (suc before) columns
     by None is e = absurd cc
     by (Some made) is e = record { made = made; is = is; schema = inj e }
       where
@@ -119,6 +46,40 @@ made_of h (suc before) columns e = by (slice_get (tables h) before) refl e
 
 pub exists-of : (h : History) (table : ℕ) (P : List Column → Type 0) → OfTable (tables h) table P → Exists h table
 exists-of h table P of = let m = made_of h table of.columns of.are_of in record { made = m.made; is = m.is }
+
+-- ---- later it is there, as it was
+
+pub columns-longer : (h more : History) (table : ℕ) (columns : List Column) → columns_at (tables h) table ≡ Some columns
+    → columns_at (tables (h ++ more)) table ≡ Some columns
+columns-longer h more table columns is =
+    let was = made_of h table columns is in
+    let now = table-longer h more table (record { made = was.made; is = was.is }) in
+    columns_at-among (tables (h ++ more)) table now.info now.is ∙ ap Some (now.schema ∙ was.schema)
+  where
+    columns_at-among : (ts : List TableInfo) (table : ℕ) (made : TableInfo) → table_among ts table ≡ Some made → columns_at ts table ≡ Some made.schema
+    columns_at-among ts zero made is = absurd cc
+    columns_at-among ts (suc before) made is = ap (option_map (λ info. info.schema)) is
+
+-- what fits a table fits it later
+pub of_table-longer : (h more : History) (table : ℕ) (P : List Column → Type 0) → OfTable (tables h) table P → OfTable (tables (h ++ more)) table P
+of_table-longer h more table P of = record { columns = of.columns; are_of = columns-longer h more table of.columns of.are_of; is = of.is }
+
+pub exists-longer : (h more : History) (table : ℕ) → Exists h table → Exists (h ++ more) table
+exists-longer h more table exists = let now = table-longer h more table exists in record { made = now.info; is = now.is }
+
+pub per-longer : (h more : History) (table per : ℕ) → Exists h table → per ≡ per_at h table → per ≡ per_at (h ++ more) table
+per-longer h more table per exists is =
+    let now = table-longer h more table exists in
+    is ∙ (rw (now.is, exists.is) (ap per_extent (sym now.shape)))
+
+pub scn-longer : (h more : History) (n : ℕ) → n ≤ scn h → n ≤ scn (h ++ more)
+scn-longer h more n below =
+    each_longer (λ (log : History). n ≤ scn log)
+    (λ log entry so_far. let now = scn-push log entry in
+    grows (scn log) (scn (log ++ entry ∷ [])) (if moves_clock entry.what then 1 else 0) so_far now) h more below
+  where
+    grows : (before now step : ℕ) → n ≤ before → now ≡ before + step → n ≤ now
+    grows before now step a b = omega (arith, a, b)
 
 -- ---- what may be asked of its rows
 

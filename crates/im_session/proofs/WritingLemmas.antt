@@ -1,5 +1,5 @@
 -- How a line that rewrites rows ends: with its write, refused or not, or with none.
-use Rattle.std.proofs.Common.{◌≡◌, ℕ, ◌≤◌, ◌==◌, Bool, true, false, if◌then◌else◌, List, [], ◌∷◌, ◌++◌, length, Option, Some, None, refl, sym, ap, ◌∙◌, subst, inl, inr, arith}
+use Rattle.std.proofs.Common.{◌⊎◌, ◌≡◌, ℕ, ◌≤◌, ◌==◌, Bool, true, false, if◌then◌else◌, List, [], ◌∷◌, ◌++◌, length, Option, Some, None, refl, sym, ap, ◌∙◌, subst, inl, inr, arith}
 use Rattle.std.specs.List.{list_any}
 use Rattle.im_core.specs.Answers.{IsRefusal, cursor_view}
 use Rattle.im_history.specs.declared.change.Change.{Change}
@@ -12,7 +12,6 @@ use Rattle.im_history.specs.declared.view.View.{View}
 use Rattle.im_history.specs.Cursors.{is_cursor, is_cursor_open, opened}
 use Rattle.im_history.specs.History.{History}
 use Rattle.im_history.specs.Refusals.{write_refusal}
-use Rattle.im_history.proofs.Laws.{opened-push}
 use Rattle.im_plan.specs.Goes.{After}
 use Rattle.im_plan.specs.Plan.{Plan}
 use Rattle.im_reach.specs.Sides.{Added, AreOthers, Found, Known, speaks}
@@ -24,7 +23,7 @@ use Rattle.im_replies.specs.Causes.{fault_of}
 use Rattle.im_session.specs.inner.Rests.{IsDecided, IsRest}
 use Rattle.im_session.specs.inner.Scans.{IsScan, IsShut, Went}
 use Rattle.im_session.specs.inner.Writes.{write_reply}
-use Rattle.im_session.proofs.OtherLemmas.{cursor-after, others-of}
+use Rattle.im_session.proofs.OtherLemmas.{opened-added, others-of}
 use Rattle.im_session.proofs.RestLemmas.{ends-here, rest-decides, rest-nothing, rest-went}
 use Rattle.im_session.proofs.ScanLemmas.{open-went, scan-ended, scan-lacks, scan-went, speaks-went, went-found, view-scan}
 use Rattle.im_statements.specs.Outcomes.{Outcome, said}
@@ -50,25 +49,15 @@ decided-shut who old new reply shut =
 pub open-wrote : (who : ℕ) (old new : Known) (changes : List Change) (P : History → Type 0) → speaks old.side who ≡ true
     → is_cursor_open old.log who 0 ≡ true → Added old new who (λ at. Write changes) P → is_cursor_open new.log who 0 ≡ true
 open-wrote who old new changes P mine is_open added =
-    ap (λ (s : Known). is_cursor_open s.log who 0) added.now
-    ∙ (ap (list_any (is_cursor 0))
-    (opened-push added.at (record { who = who; what = Write changes }) who ∙ if-same (who == who) (opened added.at who))
-    ∙ (cursor-after old.side who 0 old.log added.at mine added.after ∙ is_open))
-  where
-    if-same : {A : Type 0} (b : Bool) (x : A) → (if b then x else x) ≡ x
-    if-same true x = refl
-    if-same false x = refl
+    ap (list_any (is_cursor 0)) (opened-added who old new (Write changes) P mine added) ∙ is_open
 
 -- ---- the write
 
 -- the reply for a cause: that memory ran out, or its fault
-data IsTold (k place : ℕ) (marks : List Served) (cause : Why) : Type 0 where
-  of_memory : write_reply k place marks cause ≡ memory_reply k → IsTold k place marks cause
-  of_fault : write_reply k place marks cause ≡ served_reply place marks (Error (fault_of cause)) → IsTold k place marks cause
-
-told_of : (k place : ℕ) (marks : List Served) (cause : Why) → IsTold k place marks cause
-told_of k place marks why.NoMemory = of_memory refl
-told_of k place marks _ = of_fault refl
+write_reply-either : (k place : ℕ) (marks : List Served) (cause : Why)
+    → (write_reply k place marks cause ≡ memory_reply k) ⊎ (write_reply k place marks cause ≡ served_reply place marks (Error (fault_of cause)))
+write_reply-either k place marks why.NoMemory = inl refl
+write_reply-either k place marks _ = inr refl
 
 module _ (who k : ℕ) (old new late : Known) (view : View) (marks : List Served) (changes : List Change) (body : Body)
     (mine : speaks old.side who ≡ true) (scan : IsScan who 0 view old) (shut : IsShut who new late) where
@@ -104,7 +93,7 @@ module _ (who k : ℕ) (old new late : Known) (view : View) (marks : List Served
   pub write-told : (told : Refused)
       → Found old new (λ at. IsRefusal at (write_refusal old.limits at who (cursor_view at who 0).scn changes) told)
       → IsRest who k old (write_seen old.limits who view.scn marks changes body) (said (write_reply k told.place marks told.why)) late
-  write-told told found = by (told_of k told.place marks told.why)
+  write-told told found = by (write_reply-either k told.place marks told.why)
     where
       plan : Plan Outcome
       plan = write_seen old.limits who view.scn marks changes body
@@ -128,9 +117,11 @@ module _ (who k : ℕ) (old new late : Known) (view : View) (marks : List Served
           ∙ ap (λ (n : ℕ). end_scan (served_reply n marks (Error (fault_of told.why)))) (sym found.fact.place)))
           (scan-ended who k new late (served_reply told.place marks (Error (fault_of told.why))) shut))
 
-      by : IsTold k told.place marks told.why → IsRest who k old plan (said (write_reply k told.place marks told.why)) late
-      by (of_memory e) = subst (λ (reply : Reply). IsRest who k old plan (said reply) late) (sym e) lacking
-      by (of_fault e) = elim found.fact.why [
+      by : (write_reply k told.place marks told.why ≡ memory_reply k)
+          ⊎ (write_reply k told.place marks told.why ≡ served_reply told.place marks (Error (fault_of told.why)))
+          → IsRest who k old plan (said (write_reply k told.place marks told.why)) late
+      by (inl e) = subst (λ (reply : Reply). IsRest who k old plan (said reply) late) (sym e) lacking
+      by (inr e) = elim found.fact.why [
         | inl lacks ↦ subst (λ (reply : Reply). IsRest who k old plan (said reply) late) (sym (ap (write_reply k told.place marks) lacks)) lacking
         | inr cause ↦ subst (λ (reply : Reply). IsRest who k old plan (said reply) late) (sym e)
             (faulty

@@ -1,6 +1,6 @@
 use Rattle.std.proofs.Common.{◌≡◌, ◌∙◌, sym, arith}
 use Rattle.im_history.specs.Views.{look_at}
-use Rattle.im_session.proofs.NameLemmas.{other-resolves}
+use Rattle.im_session.proofs.NameLemmas.{defines-resolved}
 use Rattle.im_session.proofs.ReadsLemmas.{counted-within, longer-found, longer-same, none-counted}
 use Rattle.im_session.proofs.SessionLemmas.{kept-found, run-defined, run-lacking, run-looked, run-misnamed}
 use Rattle.im_session.proofs.ScanLemmas.{went-log}
@@ -33,8 +33,8 @@ play-requires-clause-shut g c =
 
 pub play-requires-clause-other : goal.play-requires-clause-other
 play-requires-clause-other g c =
-    other-resolves c.in-Ok.look.tables c.args.statement.now c.in-Ok-resolve.resolved
-    (sym c.is_definition.ensures ∙ c.if-is_definition.false) c.in-Ok-resolve.ensures.ok
+    defines-resolved c.in-Ok.look.tables c.args.statement.now c.in-Ok-resolve.resolved c.in-Ok-resolve.ensures.ok
+    ∙ (sym c.is_definition.ensures ∙ c.if-is_definition.false)
 
 pub returns-in-Ok-resolve-clause-run : goal.returns-in-Ok-resolve-clause-run
 returns-in-Ok-resolve-clause-run g c =

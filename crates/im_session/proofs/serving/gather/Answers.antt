@@ -3,9 +3,9 @@ use Rattle.im_replies.specs.declared.served.Served.{Served}
 use Rattle.im_plan.specs.Plan.{Plan}
 use Rattle.im_session.specs.inner.Scans.{Comes, Stops}
 use Rattle.im_session.proofs.CursorLemmas.{agrees-went}
-use Rattle.im_session.proofs.ReadsLemmas.{more-read, none-counted, read-counted}
-use Rattle.im_session.proofs.ScanLemmas.{comes-last, comes-next, longer-went, stops-went, went-on}
-use Rattle.im_session.proofs.ServingLemmas.{err-always, part-all, part-merges, part-next}
+use Rattle.im_session.proofs.ReadsLemmas.{none-counted, read-counted}
+use Rattle.im_session.proofs.ScanLemmas.{comes-last, comes-next, went-on}
+use Rattle.im_session.proofs.ServingLemmas.{counted-served, err-always, part-all, part-merges, part-next, read-served, stops-served}
 use Rattle.im_session.proofs.serving.gather.Goals as goal
 use Rattle.im_statements.specs.Outcomes.{Outcome}
 use Rattle.im_statements.specs.Scans.{serve, serve_from}
@@ -22,17 +22,9 @@ returns-in_err-served-clause-went g c =
 
 pub returns-in_err-served-clause-err : goal.returns-in_err-served-clause-err
 returns-in_err-served-clause-err g c =
-    let stops : (k : ℕ) (on : List Served → Plan Outcome)
-    → Stops c.args.context.now.who k (g.H.Reach.known c.args.reach.now)
-    (serve_from c.args.cursor.now.view c.args.cursor.now.bound.filter c.args.cursor.now.next on)
-    (g.H.Reach.known c.served_part.new.reach) =
-    λ k on.
-    stops-went c.args.context.now.who k (g.H.Reach.known c.args.reach.now) (g.H.Reach.known c.loop-extent.reach) (g.H.Reach.known c.served_part.new.reach)
-    (serve_from c.args.cursor.now.view c.args.cursor.now.bound.filter c.args.cursor.now.next on)
-    (serve c.args.cursor.now.view c.args.cursor.now.bound.filter (c.args.cursor.now.view.extents - c.loop-extent.extent) c.loop-extent.extent
-    c.loop-extent.gathered.marks.items on)
-    c.in_err-served.ensures.went (c.loop-extent.invariant.comes k on) in
-    err-always _ _ (λ error. stops)
+    stops-served c.args.context.now.who c.args.cursor.now c.loop-extent.extent
+    (g.H.Reach.known c.args.reach.now) (g.H.Reach.known c.loop-extent.reach) (g.H.Reach.known c.served_part.new.reach)
+    c.in_err-served.ensures.went _ c.loop-extent.gathered.marks.items c.loop-extent.invariant.comes
 
 pub take-requires : goal.take-requires
 take-requires g c = record {
@@ -50,17 +42,9 @@ returns-in_err-take-clause-went g c =
 
 pub returns-in_err-take-clause-err : goal.returns-in_err-take-clause-err
 returns-in_err-take-clause-err g c =
-    let stops : (k : ℕ) (on : List Served → Plan Outcome)
-    → Stops c.args.context.now.who k (g.H.Reach.known c.args.reach.now)
-    (serve_from c.args.cursor.now.view c.args.cursor.now.bound.filter c.args.cursor.now.next on)
-    (g.H.Reach.known c.served_part.new.reach) =
-    λ k on.
-    stops-went c.args.context.now.who k (g.H.Reach.known c.args.reach.now) (g.H.Reach.known c.loop-extent.reach) (g.H.Reach.known c.served_part.new.reach)
-    (serve_from c.args.cursor.now.view c.args.cursor.now.bound.filter c.args.cursor.now.next on)
-    (serve c.args.cursor.now.view c.args.cursor.now.bound.filter (c.args.cursor.now.view.extents - c.loop-extent.extent) c.loop-extent.extent
-    c.loop-extent.gathered.marks.items on)
-    c.in_ok-served.ensures.went (c.loop-extent.invariant.comes k on) in
-    err-always _ _ (λ error. stops)
+    stops-served c.args.context.now.who c.args.cursor.now c.loop-extent.extent
+    (g.H.Reach.known c.args.reach.now) (g.H.Reach.known c.loop-extent.reach) (g.H.Reach.known c.served_part.new.reach)
+    c.in_ok-served.ensures.went _ c.loop-extent.gathered.marks.items c.loop-extent.invariant.comes
 
 pub loop-extent-preserved : goal.loop-extent-preserved
 loop-extent-preserved g c = record {
@@ -84,12 +68,11 @@ loop-extent-preserved g c = record {
       (serve_from c.args.cursor.now.view c.args.cursor.now.bound.filter c.args.cursor.now.next on)
       c.args.cursor.now.view c.args.cursor.now.bound.filter c.loop-extent.extent
       c.loop-extent.gathered.marks.items on c.loop-extent-test.true c.in_ok-served.ensures.went (c.loop-extent.invariant.comes k on));
-  read = more-read c.args.context.now.who c.args.cursor.now.number c.args.cursor.now.view c.args.cursor.now.next
-      c.loop-extent.extent (c.loop-extent.extent + 1) c.args.steps.now c.loop-extent.steps
-      c.served_part.new.steps (g.H.Reach.known c.args.reach.now) (g.H.Reach.known c.loop-extent.reach) (g.H.Reach.known c.served_part.new.reach)
-      (longer-went (g.H.Reach.known c.args.reach.now) (g.H.Reach.known c.loop-extent.reach) c.loop-extent.invariant.went)
-      (longer-went (g.H.Reach.known c.loop-extent.reach) (g.H.Reach.known c.served_part.new.reach) c.in_ok-served.ensures.went)
-      c.loop-extent.invariant.read c.in_ok-served.ensures.ticks;
+  read =
+      read-served c.args.context.now.who c.args.cursor.now c.loop-extent.extent
+      (g.H.Reach.known c.args.reach.now) (g.H.Reach.known c.loop-extent.reach) (g.H.Reach.known c.served_part.new.reach)
+      c.in_ok-served.ensures.went c.args.steps.now c.loop-extent.steps c.served_part.new.steps
+      c.loop-extent.invariant.went c.loop-extent.invariant.read c.in_ok-served.ensures.ticks;
 }
 
 pub returns-clause-part : goal.returns-clause-part
@@ -109,29 +92,17 @@ returns-clause-marks g c = λ k on.
 
 pub returns-in_err-served-clause-ticks : goal.returns-in_err-served-clause-ticks
 returns-in_err-served-clause-ticks g c =
-    read-counted c.args.context.now.who c.args.cursor.now.number c.args.cursor.now.view c.args.cursor.now.next
-    (c.loop-extent.extent + 1) c.args.steps.now c.served_part.new.steps
-    (g.H.Reach.known c.args.reach.now) (g.H.Reach.known c.served_part.new.reach)
-    (let within = c.loop-extent-test.true in omega (arith, within))
-    (more-read c.args.context.now.who c.args.cursor.now.number c.args.cursor.now.view c.args.cursor.now.next
-    c.loop-extent.extent (c.loop-extent.extent + 1) c.args.steps.now c.loop-extent.steps
-    c.served_part.new.steps (g.H.Reach.known c.args.reach.now) (g.H.Reach.known c.loop-extent.reach) (g.H.Reach.known c.served_part.new.reach)
-    (longer-went (g.H.Reach.known c.args.reach.now) (g.H.Reach.known c.loop-extent.reach) c.loop-extent.invariant.went)
-    (longer-went (g.H.Reach.known c.loop-extent.reach) (g.H.Reach.known c.served_part.new.reach) c.in_err-served.ensures.went)
-    c.loop-extent.invariant.read c.in_err-served.ensures.ticks)
+    counted-served c.args.context.now.who c.args.cursor.now c.loop-extent.extent
+    (g.H.Reach.known c.args.reach.now) (g.H.Reach.known c.loop-extent.reach) (g.H.Reach.known c.served_part.new.reach)
+    c.in_err-served.ensures.went c.args.steps.now c.loop-extent.steps c.served_part.new.steps
+    c.loop-extent.invariant.went c.loop-extent.invariant.read c.in_err-served.ensures.ticks c.loop-extent-test.true
 
 pub returns-in_err-take-clause-ticks : goal.returns-in_err-take-clause-ticks
 returns-in_err-take-clause-ticks g c =
-    read-counted c.args.context.now.who c.args.cursor.now.number c.args.cursor.now.view c.args.cursor.now.next
-    (c.loop-extent.extent + 1) c.args.steps.now c.served_part.new.steps
-    (g.H.Reach.known c.args.reach.now) (g.H.Reach.known c.served_part.new.reach)
-    (let within = c.loop-extent-test.true in omega (arith, within))
-    (more-read c.args.context.now.who c.args.cursor.now.number c.args.cursor.now.view c.args.cursor.now.next
-    c.loop-extent.extent (c.loop-extent.extent + 1) c.args.steps.now c.loop-extent.steps
-    c.served_part.new.steps (g.H.Reach.known c.args.reach.now) (g.H.Reach.known c.loop-extent.reach) (g.H.Reach.known c.served_part.new.reach)
-    (longer-went (g.H.Reach.known c.args.reach.now) (g.H.Reach.known c.loop-extent.reach) c.loop-extent.invariant.went)
-    (longer-went (g.H.Reach.known c.loop-extent.reach) (g.H.Reach.known c.served_part.new.reach) c.in_ok-served.ensures.went)
-    c.loop-extent.invariant.read c.in_ok-served.ensures.ticks)
+    counted-served c.args.context.now.who c.args.cursor.now c.loop-extent.extent
+    (g.H.Reach.known c.args.reach.now) (g.H.Reach.known c.loop-extent.reach) (g.H.Reach.known c.served_part.new.reach)
+    c.in_ok-served.ensures.went c.args.steps.now c.loop-extent.steps c.served_part.new.steps
+    c.loop-extent.invariant.went c.loop-extent.invariant.read c.in_ok-served.ensures.ticks c.loop-extent-test.true
 
 pub returns-clause-ticks : goal.returns-clause-ticks
 returns-clause-ticks g c =

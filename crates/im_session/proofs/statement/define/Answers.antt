@@ -30,13 +30,17 @@ returns-then-is_none g c = λ state.
 pub define_later-requires-clause-shut : goal.define_later-requires-clause-shut
 define_later-requires-clause-shut g c =
     let went = went-found (g.H.Reach.known c.args.reach.now) (g.H.Reach.known c.look.new.self) _ c.in-Ok.ensures.ok in
-    shut-commit c.args.context.now.who (g.H.Reach.known c.look.new.self) (g.H.Reach.known c.commit.new.self) _ c.in-Ok-commit.ensures.ok
+    shut-commit c.args.context.now.who (g.H.Reach.known c.look.new.self) (g.H.Reach.known c.commit.new.self) _
     (speaks-went c.args.context.now.who (g.H.Reach.known c.args.reach.now) (g.H.Reach.known c.look.new.self) went c.requires.speaks)
+    c.in-Ok-commit.ensures.ok
     (open-went c.args.context.now.who 0 (g.H.Reach.known c.args.reach.now) (g.H.Reach.known c.look.new.self) c.requires.speaks went c.requires.shut)
 
 pub define_later-requires-clause-idle : goal.define_later-requires-clause-idle
 define_later-requires-clause-idle g c =
-    idle-commit c.args.context.now.who (g.H.Reach.known c.look.new.self) (g.H.Reach.known c.commit.new.self) _ c.in-Ok-commit.ensures.ok
+    let went = went-found (g.H.Reach.known c.args.reach.now) (g.H.Reach.known c.look.new.self) _ c.in-Ok.ensures.ok in
+    idle-commit c.args.context.now.who (g.H.Reach.known c.look.new.self) (g.H.Reach.known c.commit.new.self) _
+    (speaks-went c.args.context.now.who (g.H.Reach.known c.args.reach.now) (g.H.Reach.known c.look.new.self) went c.requires.speaks)
+    c.in-Ok-commit.ensures.ok
 
 pub returns-in-Ok-commit : goal.returns-in-Ok-commit
 returns-in-Ok-commit g c = λ state.

@@ -1,9 +1,10 @@
-use Rattle.im_session.proofs.NameLemmas.{definition-resolves, named-fault, named-found}
+use Rattle.std.proofs.Common.{◌∙◌}
+use Rattle.im_session.proofs.NameLemmas.{defines-resolved, named-fault, named-found}
 use Rattle.im_session.proofs.statement.define_named.Goals as goal
 
 pub define_resolved-requires-clause-definition : goal.define_resolved-requires-clause-definition
 define_resolved-requires-clause-definition g c =
-    definition-resolves c.args.look.now.tables c.args.statement.now c.in-Ok.resolved c.requires.definition c.in-Ok.ensures.ok
+    defines-resolved c.args.look.now.tables c.args.statement.now c.in-Ok.resolved c.in-Ok.ensures.ok ∙ c.requires.definition
 
 pub returns-in-Ok : goal.returns-in-Ok
 returns-in-Ok g c = λ state.
