@@ -24,7 +24,7 @@ use Rattle.im_history.specs.Transactions.{or_here, pending, pending_after}
 use Rattle.im_history.specs.Units.{Content, IsOwn, builds, drops, held, held_at, is_id, killed_by, task_content}
 use Rattle.im_history.specs.Views.{per_at}
 use Rattle.im_history.proofs.BuildLaws.{begun_at, held_at-build, held_at-cancel, held_at-plain, held_at-switch}
-use Rattle.im_history.proofs.GivenLaws.{given-grows}
+use Rattle.im_history.proofs.GivenLaws.{given-grows, given_by-grows}
 use Rattle.im_history.proofs.Laws.{IsLegal-pop, commits-push, given-push, pending-push}
 use Rattle.im_history.proofs.RowLaws.{each_history, rows-append}
 use Rattle.im_history.proofs.UnitLaws.{is_plain}
@@ -37,15 +37,6 @@ use Rattle.im_worker.proofs.HoldingLaws.{are_numbered, killed-task, killed-who, 
 use Rattle.im_worker.proofs.StandingLaws.{after-legal, apart-id, content_of}
 
 -- ---- row numbers that were not given have no row
-
-given_by-grows : (table n : ℕ) (changes : List Change) → n ≤ given_by table n changes
-given_by-grows table n [] = omega arith
-given_by-grows table n (change ∷ changes) = by (change.table == table) (given_by-grows table n changes) (given_by-grows table (max n (change.rid + 1)) changes)
-  where
-    by : (b : Bool) → n ≤ given_by table n changes → max n (change.rid + 1) ≤ given_by table (max n (change.rid + 1)) changes
-        → n ≤ given_by table (if b then max n (change.rid + 1) else n) changes
-    by true same more = omega (arith, more)
-    by false same more = same
 
 -- a change names a row number below what it gives
 abbrev IsCovered : List Change → Change → Type 0

@@ -79,10 +79,10 @@ is_over sessions (Idled at) = leaves at == sessions
 is_over sessions (Lacked at) = false
 
 -- the job ended where its turns were made and it was over in no round; or where it was over in the last one, for which a turn was left
-abbrev pub IsTold : ℕ → ℕ → List Round → Ended → Type 0
-IsTold turns sessions rounds (ended.Spent lacks idle) =
+abbrev pub IsEndOfRounds : ℕ → ℕ → List Round → Ended → Type 0
+IsEndOfRounds turns sessions rounds (ended.Spent lacks idle) =
     (list_any (is_over sessions) rounds ≡ false) × (turns ≤ (total_of rounds).turns) × (lacks ≡ (total_of rounds).lacks) × (idle ≡ (total_of rounds).idle)
-IsTold turns sessions rounds (ended.Over place) =
+IsEndOfRounds turns sessions rounds (ended.Over place) =
     (earlier : List Round) × (at : History) × (rounds ≡ earlier ++ Idled at ∷ []) × (list_any (is_over sessions) earlier ≡ false)
     × ((total_of earlier).turns < turns) × (leaves at ≡ sessions) × (place ≡ length at)
 
@@ -98,7 +98,7 @@ pub record HasWorked (who turns sessions : ℕ) (old : Known) (ended : Ended) (n
   pub worked : Worked (Others (speaks old.side)) old.limits who rounds old.log new.log
   pub misses : IsRise (total_of rounds).misses old.misses new.misses
   pub few : (total_of rounds).turns ≤ turns + 2
-  pub told : IsTold turns sessions rounds ended
+  pub told : IsEndOfRounds turns sessions rounds ended
 
 -- ---- the same, by the history alone
 
