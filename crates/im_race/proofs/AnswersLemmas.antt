@@ -11,7 +11,7 @@ use Rattle.im_race.specs.inner.Answering.{answers_by, first_of, left_by, or_noth
 use Rattle.im_race.specs.inner.Doing.{HasEnded}
 use Rattle.im_race.specs.Jobs.{Answer, HasPlayed}
 use Rattle.im_race.specs.Lines.{as_raced, has_reply, names, raced_of}
-use Rattle.im_race.specs.Race.{IsTold}
+use Rattle.im_race.specs.Race.{IsReplyForNobody}
 use Rattle.im_race.proofs.LinesLemmas.{own-lines}
 use Rattle.im_replies.specs.declared.reply.Reply.{Reply}
 use Rattle.im_script.specs.declared.line.Line.{Line}
@@ -110,10 +110,10 @@ session-played area who state old new behind replies one inside ended =
 
 -- the line has the one reply that it is told, where it names nobody
 abbrev IsAnswered : ℕ → Answer → Type 0
-IsAnswered area answer = answer.line.who ≡ None → IsTold answer.reply (demand_of area answer.line)
+IsAnswered area answer = answer.line.who ≡ None → IsReplyForNobody answer.reply (demand_of area answer.line)
 
 told-kind : (area number : ℕ) (of : LineKind) → has_reply of ≡ true → SpeaksAs None of
-    → IsTold (or_nothing (settled_reply of)) (asked area number of)
+    → IsReplyForNobody (or_nothing (settled_reply of)) (asked area number of)
 told-kind area number kind.Skip has speaks = absurd (false≢true has)
 told-kind area number kind.Race has speaks = absurd (false≢true has)
 told-kind area number (kind.Long bytes) has speaks = refl
@@ -123,14 +123,14 @@ told-kind area number (kind.Background statement) has speaks = let named : ◌�
 told-kind area number kind.NoMemory has speaks = refl
 
 told-nobody : (area : ℕ) (replies : List (List Reply)) (line : Line) (speaker : Option ℕ) → speaker ≡ None → has_reply line.kind ≡ true
-    → SpeaksAs speaker line.kind → IsTold (reply_by replies speaker line) (demand_of area line)
+    → SpeaksAs speaker line.kind → IsReplyForNobody (reply_by replies speaker line) (demand_of area line)
 told-nobody area replies line None is has speaks = told-kind area line.number line.kind has speaks
 told-nobody area replies line (Some who) is has speaks = absurd cc
 
 -- what is told for a line as it is raced, where the background speaks in it or not
 told-raced : (background : Bool) (area : ℕ) (replies : List (List Reply)) (line : Line) → has_reply line.kind ≡ true → SpeaksAs line.who line.kind
     → (cond background (record line { who = None; kind = kind.Bad line.first }) line).who ≡ None
-    → IsTold (reply_by replies (cond background (record line { who = None; kind = kind.Bad line.first }) line).who
+    → IsReplyForNobody (reply_by replies (cond background (record line { who = None; kind = kind.Bad line.first }) line).who
     (cond background (record line { who = None; kind = kind.Bad line.first }) line))
     (demand_of area (cond background (record line { who = None; kind = kind.Bad line.first }) line))
 told-raced true area replies line has speaks nobody = refl
@@ -147,7 +147,7 @@ told-cons false area replies line lines has named behind = behind replies
 
 -- a line that names nobody has the one reply that it is told
 pub answers-told : (area : ℕ) (replies : List (List Reply)) (behind : List Line) → All NamesOneOf16 behind
-    → All (λ (answer : Answer). answer.line.who ≡ None → IsTold answer.reply (demand_of area answer.line)) (answers_by replies (raced_of behind))
+    → All (λ (answer : Answer). answer.line.who ≡ None → IsReplyForNobody answer.reply (demand_of area answer.line)) (answers_by replies (raced_of behind))
 answers-told area replies [] named = All-nil (IsAnswered area)
 answers-told area replies (line ∷ behind) named =
     told-cons (has_reply line.kind) area replies line (filter (λ (l : Line). has_reply l.kind) behind) refl

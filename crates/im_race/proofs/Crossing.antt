@@ -36,7 +36,7 @@ use Rattle.im_session.specs.contracts.session.Session.TheInside as kept
 use Rattle.im_race.specs.contracts.course.Course as course
 use Rattle.im_race.specs.contracts.job.Job as job
 use Rattle.im_race.specs.contracts.job.Player as player
-use Rattle.im_race.proofs.course.Setting.TheSendSync as setting_crosses
+use Rattle.im_race.proofs.course.RaceOptions.TheSendSync as options_cross
 
 -- ---- numbers
 
@@ -106,7 +106,7 @@ line_sync = declared_sync line.the_type (u64_sync, (u64_sync, (who_sync, (kind_s
 
 pub course_sync : (a : NamedLft) → IsSync (course.the_row a)
 course_sync a =
-    declared_sync (course.the_type a) (setting_crosses.the_sync, (search (sendable, crosses, line_sync) depth 60 fits 10000, (u32_sync, tt)))
+    declared_sync (course.the_type a) (options_cross.the_sync, (search (sendable, crosses, line_sync) depth 60 fits 10000, (u32_sync, tt)))
 
 pub store_sync : IsSync (store.the_row unit.the_row like.ghosts)
 store_sync = store_crosses.the_sync unit.the_row like.ghosts unit_crosses.the_send unit_crosses.the_sync

@@ -8,7 +8,7 @@ use Rattle.im_replies.specs.declared.reply.Reply.{Reply}
 use Rattle.im_script.specs.declared.line.Line.{Line}
 use Rattle.im_session.specs.Ends.{end_plan}
 use Rattle.im_statements.specs.Outcomes.{Effect, Replied, State, kept_after}
-use Rattle.im_worker.specs.Work.{IsTold, Round, Worked}
+use Rattle.im_worker.specs.Work.{IsEndOfRounds, Round, Worked}
 use Rattle.im_worker.specs.declared.work.Ended.{Ended}
 
 -- entries of others than this number
@@ -42,7 +42,7 @@ HasPlayed area who state old (answer ∷ answers) new =
 pub record Worker (limits : Limits) (turns sessions who : ℕ) (old : History) (ended : Ended) (new : History) : Type 0 where
   pub rounds : List Round
   pub worked : Worked (OthersThan who) limits who rounds old new
-  pub told : IsTold turns sessions rounds ended
+  pub told : IsEndOfRounds turns sessions rounds ended
 
 -- what a session did holds of any longer history that others went on to
 abbrev pub IsJudgedByTheWhole : Type 0

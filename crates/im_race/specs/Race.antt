@@ -30,11 +30,11 @@ abbrev pub takes_part : List Line → ℕ → ℕ → Bool
 takes_part lines workers who = has_job lines who || (nat_le FIRST_WORKER who && nat_lt who (FIRST_WORKER + workers))
 
 -- a line that belongs to no session has the one reply that it is told
-abbrev pub IsTold : Reply → Demand → Type 0
-IsTold reply Nothing = ⊥
-IsTold reply (Told number told) = reply ≡ told
-IsTold reply (Asks request) = ⊥
-IsTold reply (Orders command) = ⊥
+abbrev pub IsReplyForNobody : Reply → Demand → Type 0
+IsReplyForNobody reply Nothing = ⊥
+IsReplyForNobody reply (Told number told) = reply ≡ told
+IsReplyForNobody reply (Asks request) = ⊥
+IsReplyForNobody reply (Orders command) = ⊥
 
 -- the workers from this number on did their jobs and ended so, from the history `old` to the history `new`
 abbrev pub AreWorkers : Limits → ℕ → ℕ → ℕ → List Ended → History → History → Type 0
@@ -56,7 +56,7 @@ pub record IsRace (area workers turns : ℕ) (lines : List Line) (report : Repor
   pub answers : List Answer
   pub shown : report.answers ≡ map (λ (answer : Answer). (answer.line.number, answer.reply)) answers
   pub answered : map (λ (answer : Answer). answer.line) answers ≡ raced lines
-  pub told : All (λ (answer : Answer). answer.line.who ≡ None → IsTold answer.reply (demand_of area answer.line)) answers
+  pub told : All (λ (answer : Answer). answer.line.who ≡ None → IsReplyForNobody answer.reply (demand_of area answer.line)) answers
   -- each session played its lines and left, whatever others did meanwhile
   pub jobs : (who : ℕ) → has_job (raced lines) who ≡ true
       → HasPlayed area who (state_in machine who) (base_of machine)

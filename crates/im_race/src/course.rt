@@ -20,7 +20,7 @@ use std::thread::Threads;
 
 /// How a race is held.
 #[derive(Clone, Copy)]
-pub struct Setting {
+pub struct RaceOptions {
     /// How many bytes the column units may take together.
     pub area: u64,
     /// How many workers there are, from 0 to 8.
@@ -32,7 +32,7 @@ pub struct Setting {
 /// What is known of a race by all who take part.
 #[derive(Clone, Copy)]
 pub struct Course<'a> {
-    pub setting: Setting,
+    pub options: RaceOptions,
     /// The lines behind the prelude.
     pub lines: &'a [Line],
     /// How many sessions have a job.
@@ -49,13 +49,13 @@ fn play_counting<R: Wait, G: Gate, L: Ledger>(
     job: Job,
     blank: Blank,
 ) -> Done
-    requires ready { IsReady course.now.setting.area store.now.id job }
+    requires ready { IsReady course.now.options.area store.now.id job }
     requires known { All (λ line. IsKnown line.kind) course.now.lines.now }
     requires names { All NamesOneOf16 course.now.lines.now }
     requires name { blank.name ≡ L.name }
     requires parts { blank.parts ≡ L.parts }
     requires some { 0 < blank.parts }
-    ensures { IsDone course.now.setting.area course.now.setting.turns course.now.sessions course.now.lines.now job result }
+    ensures { IsDone course.now.options.area course.now.options.turns course.now.sessions course.now.lines.now job result }
 {
     let Job { who, pass, player } = job;
     let mut steps = Steps::<L>::new(blank);
@@ -79,7 +79,7 @@ fn play_counting<R: Wait, G: Gate, L: Ledger>(
             &mut side,
             gate,
             who,
-            course.setting.turns,
+            course.options.turns,
             course.sessions,
             &mut steps,
         )),
@@ -100,10 +100,10 @@ fn play<R: Wait, G: Gate>(
     course: &Course<'_>,
     job: Job,
 ) -> Done
-    requires ready { IsReady course.now.setting.area store.now.id job }
+    requires ready { IsReady course.now.options.area store.now.id job }
     requires known { All (λ line. IsKnown line.kind) course.now.lines.now }
     requires names { All NamesOneOf16 course.now.lines.now }
-    ensures { IsDone course.now.setting.area course.now.setting.turns course.now.sessions course.now.lines.now job result }
+    ensures { IsDone course.now.options.area course.now.options.turns course.now.sessions course.now.lines.now job result }
 {
     play_counting::<R, G, Brand>(alloc, rt, store, gate, course, job, Blank::new(1))
 }
@@ -118,20 +118,20 @@ pub fn play_all<R: Threads + Wait + Sync, G: Gate + Sync>(
     course: &Course<'_>,
     jobs: Vec<Job>,
 ) -> Result<Vec<Done>, NoMemory>
-    requires ready { All (IsReady course.now.setting.area store.now.id) jobs.items }
+    requires ready { All (IsReady course.now.options.area store.now.id) jobs.items }
     requires known { All (λ line. IsKnown line.kind) course.now.lines.now }
     requires names { All NamesOneOf16 course.now.lines.now }
-    ensures { IfOk result (λ done. AreDone course.now.setting.area course.now.setting.turns course.now.sessions course.now.lines.now
+    ensures { IfOk result (λ done. AreDone course.now.options.area course.now.options.turns course.now.sessions course.now.lines.now
         jobs.items done.items) }
 {
     let Ok(done) = thread::map_vec(
         rt,
         jobs,
         &|job: Job| -> Done
-            requires ready { IsReady course.now.setting.area store.now.id job }
+            requires ready { IsReady course.now.options.area store.now.id job }
             requires known { All (λ line. IsKnown line.kind) course.now.lines.now }
             requires names { All NamesOneOf16 course.now.lines.now }
-            ensures { IsDone course.entry.now.setting.area course.entry.now.setting.turns course.entry.now.sessions
+            ensures { IsDone course.entry.now.options.area course.entry.now.options.turns course.entry.now.sessions
                 course.entry.now.lines.now job result }
         { play(alloc, rt, store, gate, course, job) },
     ) else {

@@ -22,7 +22,7 @@ mod replies;
 mod report;
 mod sorting;
 
-pub use course::Setting;
+pub use course::RaceOptions;
 pub use laws::a_job_is_judged_by_the_whole_history;
 pub use racing::race;
 pub use report::Report;

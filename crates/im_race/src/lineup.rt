@@ -4,7 +4,7 @@ ghost use Rattle.im_play.specs.Between.{AreSessions, AreThere};
 ghost use Rattle.im_play.specs.Requests.{script_limits};
 ghost use Rattle.im_race.specs.inner.SettingUp.{IsLineup};
 
-use crate::course::Setting;
+use crate::course::RaceOptions;
 use crate::job::Job;
 use crate::jobs::{add_workers, session_jobs};
 use im_reach::{Reach, Sole};
@@ -30,17 +30,17 @@ pub struct Lineup {
 /// Sets a race up, over a store that the prelude left.
 pub fn set_up(
     alloc: Global,
-    setting: Setting,
+    options: RaceOptions,
     store: Sole<ColumnUnit>,
     sessions: Vec<Session>,
     lines: &[Line],
 ) -> Result<Lineup, NoMemory>
-    requires limits { (⟦<Sole<ColumnUnit> as Reach<ColumnUnit>>⟧.known store).limits ≡ script_limits setting.area }
-    requires workers { setting.workers ≤ WORKERS }
+    requires limits { (⟦<Sole<ColumnUnit> as Reach<ColumnUnit>>⟧.known store).limits ≡ script_limits options.area }
+    requires workers { options.workers ≤ WORKERS }
     requires count { length sessions.items ≡ SESSIONS + 1 }
     requires agree { AreSessions 0 sessions.items (⟦<Sole<ColumnUnit> as Reach<ColumnUnit>>⟧.known store) }
     requires there { AreThere (⟦<Sole<ColumnUnit> as Reach<ColumnUnit>>⟧.known store).log }
-    ensures { IfOk result (λ lineup. IsLineup setting.area setting.workers sessions.items
+    ensures { IfOk result (λ lineup. IsLineup options.area options.workers sessions.items
         (⟦<Sole<ColumnUnit> as Reach<ColumnUnit>>⟧.known store).log lines.now lineup) }
 {
     let core = store.into_core();
@@ -50,7 +50,7 @@ pub fn set_up(
     };
     let mut jobs = session_jobs(alloc, &store, &mut first, sessions, lines)?;
     let sessions = jobs.len() as u32;
-    add_workers(&store, &mut first, &mut jobs, setting.workers)?;
+    add_workers(&store, &mut first, &mut jobs, options.workers)?;
     Ok(Lineup {
         store,
         first,

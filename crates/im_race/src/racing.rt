@@ -8,7 +8,7 @@ ghost use Rattle.im_script.specs.Lines.{NamesOneOf16};
 ghost use Rattle.im_store.specs.Sides.{who_of};
 ghost use Rattle.im_turn.specs.Passes.{KnowsOwn};
 
-use crate::course::{Course, Setting, play_all};
+use crate::course::{Course, RaceOptions, play_all};
 use crate::lines::split_race;
 use crate::lineup::{Lineup, set_up};
 use crate::report::Report;
@@ -55,20 +55,20 @@ fn play_beside<R: Threads + Wait + Sync, G: Gate + Sync>(
     alloc: Global,
     rt: &R,
     gate: &G,
-    setting: Setting,
+    options: RaceOptions,
     store: Sole<ColumnUnit>,
     sessions: Vec<Session>,
     prelude: Vec<(u64, Reply)>,
     lines: &[Line],
 ) -> Result<Report, NoMemory>
-    requires limits { (⟦<Sole<ColumnUnit> as Reach<ColumnUnit>>⟧.known store).limits ≡ script_limits setting.area }
-    requires workers { setting.workers ≤ WORKERS }
+    requires limits { (⟦<Sole<ColumnUnit> as Reach<ColumnUnit>>⟧.known store).limits ≡ script_limits options.area }
+    requires workers { options.workers ≤ WORKERS }
     requires count { length sessions.items ≡ SESSIONS + 1 }
     requires agree { AreSessions 0 sessions.items (⟦<Sole<ColumnUnit> as Reach<ColumnUnit>>⟧.known store) }
     requires there { AreThere (⟦<Sole<ColumnUnit> as Reach<ColumnUnit>>⟧.known store).log }
     requires known { All (λ line. IsKnown line.kind) lines.now }
     requires names { All NamesOneOf16 lines.now }
-    ensures beside { IfOk result (λ report. IsBeside setting.area setting.workers setting.turns sessions.items
+    ensures beside { IfOk result (λ report. IsBeside options.area options.workers options.turns sessions.items
         (⟦<Sole<ColumnUnit> as Reach<ColumnUnit>>⟧.known store).log lines.now report) }
     ensures prelude { IfOk result (λ report. report.prelude ≡ prelude.items) }
 {
@@ -77,9 +77,9 @@ fn play_beside<R: Threads + Wait + Sync, G: Gate + Sync>(
         first,
         jobs,
         sessions,
-    } = set_up(alloc, setting, store, sessions, lines)?;
+    } = set_up(alloc, options, store, sessions, lines)?;
     let course = Course {
-        setting,
+        options,
         lines,
         sessions,
     };
@@ -103,16 +103,16 @@ pub fn race<R: Threads + Wait + Sync, G: Gate + Sync, L: Ledger>(
     alloc: Global,
     rt: &R,
     gate: &G,
-    setting: Setting,
+    options: RaceOptions,
     script: &[u8],
     steps: &mut Steps<L>,
 ) -> Result<Report, NoMemory>
-    requires workers { setting.workers ≤ WORKERS }
-    ensures { IfOk result (λ report. IsRaceOf setting.area setting.workers setting.turns script.now report) }
+    requires workers { options.workers ≤ WORKERS }
+    ensures { IfOk result (λ report. IsRaceOf options.area options.workers options.turns script.now report) }
 {
     let lines = lines(alloc, script)?;
     let (prelude, behind) = split_race(lines.as_slice());
-    let mut store = empty_store(alloc, setting.area)?;
+    let mut store = empty_store(alloc, options.area)?;
     let mut players = Players::new(alloc)?;
     let replies = play_lines(alloc, rt, &mut store, gate, &mut players, prelude, steps)?;
     players.drop_held(rt, &mut store);
@@ -120,7 +120,7 @@ pub fn race<R: Threads + Wait + Sync, G: Gate + Sync, L: Ledger>(
         alloc,
         rt,
         gate,
-        setting,
+        options,
         store,
         players.sessions,
         replies,

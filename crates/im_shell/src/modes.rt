@@ -11,7 +11,7 @@ use crate::report::write_report;
 use crate::shown::Shown;
 use crate::writing::Stop;
 use im_edge::{Gate, ReadError, Sink, Source, read_all};
-use im_race::{Setting, race};
+use im_race::{RaceOptions, race};
 use im_script::generate;
 use im_values::limits::{MOST_SCRIPT_BYTES, WORKERS};
 use im_values::{NoMemory, Steps};
@@ -70,12 +70,12 @@ fn race_script<R: Threads + Wait + Sync, G: Gate + Sync, K: Sink, L: Ledger>(
     ensures cause { IsErrOf result Stop.WriteFault → Rose (K.faults sink.old) (K.faults sink.new) }
     ensures later { K.faults sink.old ≤ K.faults sink.new }
 {
-    let setting = Setting {
+    let options = RaceOptions {
         area: asked.area,
         workers: asked.workers,
         turns: asked.turns,
     };
-    let report = race(alloc, rt, gate, setting, script, steps)?;
+    let report = race(alloc, rt, gate, options, script, steps)?;
     write_report(alloc, &report, sink, steps)
 }
 

@@ -7,7 +7,7 @@ use Rattle.im_plan.specs.Goes.{After}
 use Rattle.im_play.specs.Requests.{demand_of, script_limits}
 use Rattle.im_race.specs.Jobs.{Answer, HasPlayed}
 use Rattle.im_race.specs.Lines.{has_job, names, raced_of, sessions_in}
-use Rattle.im_race.specs.Race.{AreWorkers, FIRST_WORKER, IsTold, takes_part}
+use Rattle.im_race.specs.Race.{AreWorkers, FIRST_WORKER, IsReplyForNobody, takes_part}
 use Rattle.im_race.specs.Report.{Report}
 use Rattle.im_script.specs.declared.line.Line.{Line}
 use Rattle.im_session.specs.Sessions.{Kept, state_of}
@@ -32,7 +32,7 @@ pub record IsBeside (area workers turns : ℕ) (kept : List Kept) (base : Histor
   pub answers : List Answer
   pub shown : report.answers ≡ map (λ (answer : Answer). (answer.line.number, answer.reply)) answers
   pub answered : map (λ (answer : Answer). answer.line) answers ≡ raced_of behind
-  pub told : All (λ (answer : Answer). answer.line.who ≡ None → IsTold answer.reply (demand_of area answer.line)) answers
+  pub told : All (λ (answer : Answer). answer.line.who ≡ None → IsReplyForNobody answer.reply (demand_of area answer.line)) answers
   pub jobs : (who : ℕ) → has_job (raced_of behind) who ≡ true
       → HasPlayed area who (slice_index_or (map (λ (s : Kept). state_of s.cursors) kept) who fresh) base
       (filter (λ (answer : Answer). names who answer.line.who) answers) report.history

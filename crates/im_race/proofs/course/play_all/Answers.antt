@@ -17,6 +17,6 @@ map_vec-requires-sync-F g c κs within =
 
 pub returns : goal.returns
 returns g c =
-    all-done c.args.course.now.setting.area c.args.course.now.setting.turns c.args.course.now.sessions c.args.course.now.lines.now c.args.jobs.items
+    all-done c.args.course.now.options.area c.args.course.now.options.turns c.args.course.now.sessions c.args.course.now.lines.now c.args.jobs.items
     c.in-Ok.done.items (search (rules, c.in-Ok.ensures.len)) (λ at other less. let gives = (c.in-Ok.ensures.each at other less).1 in
     record { job = gives.job; job_is = gives.job_is gives.job; is = search (rules, gives.call) })

@@ -15,7 +15,7 @@ pub sort_outcomes-requires : goal.sort_outcomes-requires
 sort_outcomes-requires g c =
     let lineup = c.in_ok-store.ensures in
     record {
-      of_sessions = of-sessions c.args.setting.area c.args.setting.turns _ c.args.lines.now _
+      of_sessions = of-sessions c.args.options.area c.args.options.turns _ c.args.lines.now _
           c.in_ok-store.field-0.jobs.items c.in_ok-done.done.items lineup.ready
           c.in_ok-done.ensures;
     }
@@ -34,27 +34,27 @@ close-requires-clause-none_joined g c = let lineup = c.in_ok-store.ensures in li
 pub close-requires-clause-passes_store : goal.close-requires-clause-passes_store
 close-requires-clause-passes_store g c =
     let lineup = c.in_ok-store.ensures in
-    (passes-free c.args.setting.area c.args.setting.turns _ c.args.lines.now _ c.in_ok-store.field-0.jobs.items c.in_ok-done.done.items
+    (passes-free c.args.options.area c.args.options.turns _ c.args.lines.now _ c.in_ok-store.field-0.jobs.items c.in_ok-done.done.items
     c.in_ok-outcomes.outcomes.passes.items lineup.ready c.in_ok-done.ensures c.in_ok-outcomes.ensures.passes).0
 
 pub close-requires-clause-passes_idle : goal.close-requires-clause-passes_idle
 close-requires-clause-passes_idle g c =
     let lineup = c.in_ok-store.ensures in
-    (passes-free c.args.setting.area c.args.setting.turns _ c.args.lines.now _ c.in_ok-store.field-0.jobs.items c.in_ok-done.done.items
+    (passes-free c.args.options.area c.args.options.turns _ c.args.lines.now _ c.in_ok-store.field-0.jobs.items c.in_ok-done.done.items
     c.in_ok-outcomes.outcomes.passes.items lineup.ready c.in_ok-done.ensures c.in_ok-outcomes.ensures.passes).1
 
 pub close-requires-clause-numbers : goal.close-requires-clause-numbers
 close-requires-clause-numbers g c =
     let lineup = c.in_ok-store.ensures in
     ap (map (λ (p : PassState Entry). p.who)) c.in_ok-outcomes.ensures.passes
-    ∙ (numbers-back c.args.setting.area c.args.setting.turns _ c.args.lines.now _ c.in_ok-store.field-0.jobs.items c.in_ok-done.done.items lineup.ready
+    ∙ (numbers-back c.args.options.area c.args.options.turns _ c.args.lines.now _ c.in_ok-store.field-0.jobs.items c.in_ok-done.done.items lineup.ready
     c.in_ok-done.ensures
     ∙ sym (ap (λ (p : PassState Entry). p.gave) lineup.pass))
 
 pub returns-clause-beside : goal.returns-clause-beside
 returns-clause-beside g c =
     let lineup = c.in_ok-store.ensures in
-    beside-all c.args.setting.area c.args.setting.turns c.args.setting.workers
+    beside-all c.args.options.area c.args.options.turns c.args.options.workers
     c.in_ok-store.field-0.sessions c.args.sessions.items c.args.lines.now _ lineup.made
     c.in_ok-store.field-0.first c.in_ok-store.field-0.jobs.items c.in_ok-done.done.items c.in_ok-outcomes.outcomes.passes.items c.as_mut_slice.result.now _
     c.requires.names lineup.is_first lineup.jobs lineup.count c.in_ok-done.ensures c.in_ok-outcomes.ensures.whole lineup.pass c.in_ok-outcomes.ensures.passes

@@ -16,7 +16,7 @@ play_lines-requires-clause-known g c =
 
 pub play_lines-requires-clause-between : goal.play_lines-requires-clause-between
 play_lines-requires-clause-between g c =
-    between-start c.args.setting.area _ c.in_ok-players.players.sessions.items c.in_ok-players.players.background c.in_ok-store.ensures
+    between-start c.args.options.area _ c.in_ok-players.players.sessions.items c.in_ok-players.players.background c.in_ok-store.ensures
     c.in_ok-players.ensures.sessions c.in_ok-players.ensures.background
 
 pub play_beside-requires-clause-known : goal.play_beside-requires-clause-known
@@ -33,11 +33,11 @@ play_beside-requires-clause-names g c κs within =
 pub returns : goal.returns
 returns g c =
     both-ok c.play_beside.result c.play_beside.ensures.beside c.play_beside.ensures.prelude (λ report beside prelude.
-    raced-script c.args.setting.area c.args.setting.workers c.args.setting.turns _ c.args.script.now c.in_ok-lines.lines.items c.split_race.result.0.now
+    raced-script c.args.options.area c.args.options.workers c.args.options.turns _ c.args.script.now c.in_ok-lines.lines.items c.split_race.result.0.now
     c.split_race.result.1.now _ _
     (record { side = sole; limits = c.drop_held.new.reach.core.limits; log = c.drop_held.new.reach.core.log; misses = c.drop_held.new.reach.misses })
     c.drop_held.new.self.sessions.items c.drop_held.new.self.background report c.in_ok-replies.replies.items _ _
     (ap (λ (k : Known). k.limits.area) c.in_ok-store.ensures) c.in_ok-lines.ensures.are (c.split_race.ensures.prelude ∙ ap prelude_of c.as_slice.ensures.value)
     (c.split_race.ensures.behind ∙ ap behind_of c.as_slice.ensures.value)
-    (machine-start c.args.setting.area _ c.in_ok-players.players.sessions.items c.in_ok-players.players.background c.in_ok-store.ensures
+    (machine-start c.args.options.area _ c.in_ok-players.players.sessions.items c.in_ok-players.players.background c.in_ok-store.ensures
     c.in_ok-players.ensures.sessions c.in_ok-players.ensures.background) c.in_ok-replies.ensures.comes c.drop_held.ensures.dropped beside prelude)
