@@ -90,21 +90,14 @@ fn codes_of_every_width_are_unpacked_from_every_place(rt: HostRuntime) -> Result
 #[test]
 fn the_first_code_stands_in_the_lowest_bits(rt: HostRuntime) -> Result<(), Fail> {
     let bits = packed(rt.alloc(), &[1, 2, 3, 0], 2)?;
-    assert_eq!(rt; bits.words().len(), 1);
-    assert_eq!(rt; bits.words().first(), Some(&57));
-    assert!(rt; !bits.is_empty());
+    assert!(rt; bits.words().len() == 1 && bits.words().first() == Some(&57));
     Ok(())
 }
 
 #[test]
 fn words_hold_whole_codes_alone(rt: HostRuntime) {
-    assert_eq!(rt; words_for(0, 7), 0);
-    assert_eq!(rt; words_for(9, 7), 1);
-    assert_eq!(rt; words_for(10, 7), 2);
-    assert_eq!(rt; words_for(1000, 0), 0);
-    assert_eq!(rt; words_for(64, 1), 1);
-    assert_eq!(rt; words_for(65, 1), 2);
-    assert_eq!(rt; words_for(3, 31), 2);
-    assert_eq!(rt; words_for(3, 32), 2);
-    assert_eq!(rt; words_for(4_294_967_295, 32), 2_147_483_648);
+    assert!(rt; words_for(0, 7) == 0 && words_for(9, 7) == 1 && words_for(10, 7) == 2);
+    assert!(rt; words_for(1000, 0) == 0 && words_for(64, 1) == 1 && words_for(65, 1) == 2);
+    assert!(rt; words_for(3, 31) == 2 && words_for(3, 32) == 2);
+    assert!(rt; words_for(4_294_967_295, 32) == 2_147_483_648);
 }

@@ -10,7 +10,7 @@ use std::alloc::Global;
 use std::test::Fail;
 
 /// A form, with the width of its codes or with how many runs there are.
-#[derive(Clone, Copy, Debug, PartialEq, Eq)]
+#[derive(Clone, Copy, PartialEq, Eq)]
 enum Shape {
     Plain,
     Coded(u32),
@@ -99,22 +99,31 @@ fn agrees(column: &Column, values: &[Value]) -> bool {
         && column.sum() == sum(values)
 }
 
+/// Whether the column of these values has this form and these bytes, and the values themselves.
+fn is_kept(alloc: Global, values: &[Value], shape: Shape, bytes: u64) -> Result<bool, NoMemory>
+    requires { All IsShort values.now }
+{
+    if values.len() >= 1_000_000 {
+        return Ok(false);
+    }
+    let column = built(alloc, values)?;
+    Ok(shape_of(&column) == shape && column.bytes() == bytes && agrees(&column, values))
+}
+
 #[test]
 fn a_column_is_kept_in_the_form_of_the_least_bytes(rt: HostRuntime) -> Result<(), Fail> {
-    let alloc = rt.alloc();
-    for (i, (cells, wanted, bytes)) in CASES.iter().enumerate() {
-        let values = values_of(alloc, cells)?;
-        assert!(rt; values.len() < 1_000_000);
-        let column = built(alloc, values.as_slice())?;
-        let found = (shape_of(&column), column.bytes());
-        assert_eq!(rt; found, (*wanted, *bytes), "case {i}");
-        assert!(rt; agrees(&column, values.as_slice()), "case {i}");
+    for (i, (cells, shape, bytes)) in CASES.iter().enumerate() {
+        let values = values_of(rt.alloc(), cells)?;
+        assert!(rt;
+            is_kept(rt.alloc(), values.as_slice(), *shape, *bytes)?,
+            "case {i}"
+        );
     }
     Ok(())
 }
 
 /// Distinct values: numbers so far apart, or texts of four bytes with numbers between them.
-#[derive(Clone, Copy, Debug)]
+#[derive(Clone, Copy)]
 enum Series {
     Numbers(i64),
     Mixed,
@@ -145,17 +154,27 @@ fn scattered(alloc: Global, series: Series, count: u32) -> Result<Vec<Value>, No
     Ok(values)
 }
 
+/// Whether the column of so many values of a series has codes of this width, and the values themselves.
+fn has_width(alloc: Global, series: Series, count: u32, width: u32) -> Result<bool, NoMemory>
+    requires { count < 2 ^ 20 }
+{
+    let values = scattered(alloc, series, count)?;
+    if values.len() >= 1_000_000 {
+        return Ok(false);
+    }
+    let column = built(alloc, values.as_slice())?;
+    Ok(shape_of(&column) == Coded(width) && agrees(&column, values.as_slice()))
+}
+
 #[test]
 fn a_column_has_codes_of_the_least_width(rt: HostRuntime) -> Result<(), Fail> {
-    let alloc = rt.alloc();
     for width in 0..15 {
         for count in [(1u32 << width) / 2, (1u32 << width) - 1] {
             for series in [Series::Numbers(-1), Series::Numbers(1 << 40), Series::Mixed] {
-                let values = scattered(alloc, series, count)?;
-                assert!(rt; values.len() < 1_000_000);
-                let column = built(alloc, values.as_slice())?;
-                assert_eq!(rt; shape_of(&column), Coded(width), "{count} of {series:?}");
-                assert!(rt; agrees(&column, values.as_slice()), "{count} of {series:?}");
+                assert!(rt;
+                    has_width(rt.alloc(), series, count, width)?,
+                    "{count} values"
+                );
             }
         }
     }
@@ -178,38 +197,42 @@ fn lends<'a>(column: &'a Column, values: &[Value], null: &'a Value, first: u64) 
     true
 }
 
-/// Whether a column lends the values of a list from each place on, the one past the last among them.
-fn lends_each(column: &Column, values: &[Value]) -> bool {
+/// Whether the column of these values lends them from each place on, the one past the last among them.
+fn lends_each(alloc: Global, values: &[Value]) -> Result<bool, NoMemory>
+    requires { All IsShort values.now }
+{
+    if values.len() >= 1_000_000 {
+        return Ok(false);
+    }
+    let column = built(alloc, values)?;
     let null = Value::Null;
     for first in 0..column.len() + 1 {
-        if !lends(column, values, &null, first) {
-            return false;
+        if !lends(&column, values, &null, first) {
+            return Ok(false);
         }
     }
-    true
+    Ok(true)
 }
 
 #[test]
 fn a_column_lends_its_values_from_each_place_on(rt: HostRuntime) -> Result<(), Fail> {
-    let alloc = rt.alloc();
     for (i, (cells, _, _)) in CASES.iter().enumerate() {
-        let values = values_of(alloc, cells)?;
-        assert!(rt; values.len() < 1_000_000);
-        let column = built(alloc, values.as_slice())?;
-        assert!(rt; lends_each(&column, values.as_slice()), "case {i}");
+        let values = values_of(rt.alloc(), cells)?;
+        assert!(rt; lends_each(rt.alloc(), values.as_slice())?, "case {i}");
     }
-    for (count, width) in [(6, 3), (1000, 10), (8200, 14)] {
-        let values = scattered(alloc, Series::Numbers(-1), count)?;
-        assert!(rt; values.len() < 1_000_000);
-        let column = built(alloc, values.as_slice())?;
-        assert_eq!(rt; shape_of(&column), Coded(width));
-        assert!(rt; lends_each(&column, values.as_slice()), "{width} bits");
+    // Of codes of 3, 10 and 14 bits.
+    for count in [6, 1000, 8200] {
+        let values = scattered(rt.alloc(), Series::Numbers(-1), count)?;
+        assert!(rt;
+            lends_each(rt.alloc(), values.as_slice())?,
+            "{count} values"
+        );
     }
     Ok(())
 }
 
 /// In which order the numbers of a list come: 1 and 2 in turn, or so many that rise from 1 and then NULLs.
-#[derive(Clone, Copy, Debug)]
+#[derive(Clone, Copy)]
 enum Order {
     InTurn,
     RisingThenNull(u32),
@@ -245,14 +268,12 @@ const ORDERED: [(Order, u32, Shape, u64); 4] = [
 
 #[test]
 fn plain_values_come_before_as_many_bytes_of_runs(rt: HostRuntime) -> Result<(), Fail> {
-    let alloc = rt.alloc();
-    for (order, count, wanted, bytes) in ORDERED {
-        let values = ordered(alloc, order, count)?;
-        assert!(rt; values.len() < 1_000_000);
-        let column = built(alloc, values.as_slice())?;
-        let found = (shape_of(&column), column.bytes());
-        assert_eq!(rt; found, (wanted, bytes), "{count} of {order:?}");
-        assert!(rt; agrees(&column, values.as_slice()), "{count} of {order:?}");
+    for (order, count, shape, bytes) in ORDERED {
+        let values = ordered(rt.alloc(), order, count)?;
+        assert!(rt;
+            is_kept(rt.alloc(), values.as_slice(), shape, bytes)?,
+            "{count} values"
+        );
     }
     Ok(())
 }

@@ -4,7 +4,7 @@ ghost use Rattle.im_column.specs.Forms.{IsShort};
 use im_values::{Name, NoMemory, Value};
 use std::alloc::Global;
 
-#[derive(Clone, Copy, Debug, PartialEq, Eq)]
+#[derive(Clone, Copy)]
 pub enum Cell {
     Null,
     Int(i64),

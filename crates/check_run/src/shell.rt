@@ -134,32 +134,35 @@ fn followed_by(alloc: Global, text: &str, piece: &str, count: usize) -> Result<S
     Ok(text)
 }
 
+/// A text and so many copies of a piece behind it, which make a script at a limit or past it, and what it comes to.
+///
+/// A line may have 1,048,576 bytes. A transaction may have 65,536 changes, and a refused statement keeps none.
+const LIMITS: [(&str, &str, usize, &str); 4] = [
+    ("--", "-", 1_048_575, "1,error,02,line-too-long,1048577\n"),
+    ("--", "-", 1_048_574, ""),
+    (
+        CHANGES_BEFORE_THE_LIMIT,
+        ", (0)",
+        65_534,
+        "1,created,1,1\n2,inserted,2,0\n3,error,17,too-many-changes,65535,65534\n",
+    ),
+    (
+        CHANGES_BEFORE_THE_LIMIT,
+        ", (0)",
+        65_533,
+        "1,created,1,1\n2,inserted,2,0\n3,inserted,65534,2\n",
+    ),
+];
+
 #[test]
 fn what_passes_a_limit_is_told_with_its_values(rt: HostRuntime) -> Result<(), Fail> {
-    let alloc = rt.alloc();
-    let cases = [
-        // A line may have 1,048,576 bytes.
-        (
-            followed_by(alloc, "--", "-", 1_048_575)?,
-            "1,error,02,line-too-long,1048577\n",
-        ),
-        (followed_by(alloc, "--", "-", 1_048_574)?, ""),
-        // A transaction may have 65,536 changes, and a refused statement keeps none.
-        (
-            followed_by(alloc, CHANGES_BEFORE_THE_LIMIT, ", (0)", 65_534)?,
-            "1,created,1,1\n2,inserted,2,0\n3,error,17,too-many-changes,65535,65534\n",
-        ),
-        (
-            followed_by(alloc, CHANGES_BEFORE_THE_LIMIT, ", (0)", 65_533)?,
-            "1,created,1,1\n2,inserted,2,0\n3,inserted,65534,2\n",
-        ),
-    ];
-    for (script, text) in &cases {
+    for (text, piece, count, replies) in LIMITS {
+        let script = followed_by(rt.alloc(), text, piece, count)?;
         let case = Case {
             read_piece: 4096,
-            ..plain(script.as_str(), text)
+            ..plain(script.as_str(), replies)
         };
-        check(&rt, alloc, &["ime", "run"], &case)?;
+        check(&rt, rt.alloc(), &["ime", "run"], &case)?;
     }
     Ok(())
 }
@@ -236,7 +239,7 @@ const ENDS: [(Status, u8, Option<&str>); 6] = [
 #[test]
 fn each_end_has_an_exit_status_and_a_line(rt: HostRuntime) -> Result<(), Fail> {
     for (status, code, line) in ENDS {
-        assert_eq!(rt; (status.code(), status.line()), (code, line));
+        assert!(rt; status.code() == code && status.line() == line);
     }
     Ok(())
 }
