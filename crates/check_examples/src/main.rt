@@ -82,7 +82,7 @@ fn text_of<R: Threads + Wait + Sync, L: Ledger>(
     let mut source = MemSource::new(script, PIECE, Vec::new(alloc));
     let mut sink = MemSink::new(alloc, PIECE, Vec::new(alloc));
     sink.push_room(ROOM)?;
-    let mut steps = Steps::<L>::new(blank);
+    let mut steps = Steps::<L>::new(rt, blank);
     let status = run(
         rt,
         alloc,

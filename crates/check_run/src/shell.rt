@@ -87,7 +87,7 @@ fn outcome<R: Threads + Wait + Sync, G: Gate + Sync, L: Ledger>(
     let mut sink = MemSink::new(alloc, case.write_piece, one_call(alloc, case.write_fails)?);
     sink.push_room(1 << 19)?;
     let words = words(alloc, command)?;
-    let mut steps = Steps::<L>::new(blank);
+    let mut steps = Steps::<L>::new(rt, blank);
     let status = run(
         rt,
         alloc,

@@ -40,7 +40,7 @@ pub struct Course<'a> {
 }
 
 /// Does a job, counting its steps.
-fn play_counting<R: Wait, G: Gate, L: Ledger>(
+fn play_counting<R: Threads + Wait, G: Gate, L: Ledger>(
     alloc: Global,
     rt: &R,
     store: &Store<ColumnUnit>,
@@ -58,7 +58,7 @@ fn play_counting<R: Wait, G: Gate, L: Ledger>(
     ensures { IsDone course.now.options.area course.now.options.turns course.now.sessions course.now.lines.now job result }
 {
     let Job { who, pass, player } = job;
-    let mut steps = Steps::<L>::new(blank);
+    let mut steps = Steps::<L>::new(rt, blank);
     let mut side = store.shared(pass);
     let outcome = match player {
         Player::Session(session) => {
@@ -92,7 +92,7 @@ fn play_counting<R: Wait, G: Gate, L: Ledger>(
 }
 
 /// Does a job.
-fn play<R: Wait, G: Gate>(
+fn play<R: Threads + Wait, G: Gate>(
     alloc: Global,
     rt: &R,
     store: &Store<ColumnUnit>,

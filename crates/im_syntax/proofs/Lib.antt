@@ -4,3 +4,4 @@ pub mod SpellLists
 pub mod Crossing
 mod CrossingConditions
 mod ChoicesLemmas
+mod KeywordLaws

@@ -1,6 +1,7 @@
-ghost use Rattle.std.specs.Prelude.{◌≡◌, ◌<◌, map, slice_index};
+ghost use Rattle.std.specs.Prelude.{◌≡◌, ◌<◌, ℕ, List, Some, map, slice_index};
 ghost use Rattle.std.specs.Str.{bytes_eq};
 ghost use Rattle.im_syntax.specs.Keywords as keywords;
+ghost use Rattle.im_syntax.specs.declared.keyword.Keyword.{Keyword};
 ghost use Rattle.im_syntax.specs.inner.Slots as slots;
 
 /// A word that the language keeps for itself: it names no table and no column.
@@ -140,19 +141,21 @@ pub const KEYWORDS: [(&[u8], Keyword); 64] = [
     (b"WHERE", Keyword::Where),
 ];
 
-/// Where in [`KEYWORDS`] the keyword of each slot stands: 64 where no keyword has the slot.
+/// Where in [`KEYWORDS`] the keyword of each slot stands: 255 where no keyword has the slot.
 static PLACES: [u8; 256] = [
-    64, 64, 64, 64, 64, 64, 64, 48, 64, 64, 18, 64, 64, 64, 64, 64, 64, 64, 64, 64, 64, 64, 64, 64,
-    64, 64, 64, 56, 14, 64, 64, 64, 64, 64, 52, 64, 64, 64, 24, 64, 64, 46, 64, 35, 64, 64, 64, 64,
-    64, 64, 13, 64, 64, 64, 53, 64, 64, 51, 64, 28, 63, 64, 43, 64, 64, 21, 64, 64, 37, 64, 64, 47,
-    64, 64, 64, 64, 64, 64, 64, 40, 64, 64, 64, 64, 19, 64, 33, 64, 64, 64, 64, 58, 64, 64, 64, 0,
-    64, 55, 64, 64, 30, 64, 64, 64, 8, 1, 64, 64, 64, 64, 64, 64, 6, 64, 64, 64, 50, 7, 64, 27, 64,
-    64, 10, 22, 64, 64, 20, 23, 64, 64, 64, 64, 64, 64, 64, 64, 38, 62, 64, 64, 64, 2, 64, 64, 54,
-    64, 64, 64, 64, 60, 64, 64, 64, 17, 64, 64, 26, 64, 44, 64, 31, 45, 64, 64, 39, 64, 11, 9, 64,
-    64, 64, 12, 59, 64, 64, 64, 64, 64, 64, 64, 34, 64, 64, 64, 64, 64, 64, 64, 29, 64, 64, 64, 64,
-    64, 64, 41, 64, 64, 3, 64, 4, 64, 64, 64, 64, 64, 64, 64, 64, 64, 64, 64, 64, 64, 64, 64, 64,
-    64, 5, 64, 64, 32, 64, 64, 64, 64, 64, 64, 64, 64, 64, 64, 64, 64, 64, 64, 64, 64, 64, 57, 36,
-    64, 64, 16, 15, 64, 64, 64, 64, 42, 61, 64, 64, 25, 49, 64,
+    255, 255, 255, 255, 255, 255, 27, 255, 255, 255, 37, 255, 255, 255, 255, 19, 255, 255, 10, 255,
+    255, 255, 255, 255, 255, 24, 255, 255, 14, 54, 255, 255, 255, 255, 255, 255, 255, 255, 62, 34,
+    255, 255, 255, 57, 16, 39, 255, 52, 8, 255, 255, 255, 255, 255, 255, 255, 255, 255, 255, 255,
+    255, 18, 255, 255, 255, 255, 255, 255, 255, 255, 255, 255, 30, 255, 255, 255, 255, 255, 255,
+    255, 255, 255, 255, 255, 255, 28, 255, 255, 255, 255, 255, 255, 255, 255, 255, 255, 255, 12,
+    255, 29, 255, 255, 255, 56, 255, 5, 22, 42, 255, 255, 255, 7, 255, 255, 255, 255, 23, 255, 55,
+    255, 255, 26, 255, 255, 255, 255, 36, 255, 255, 255, 33, 255, 255, 255, 255, 255, 35, 255, 255,
+    255, 53, 50, 40, 51, 255, 255, 255, 255, 255, 32, 255, 255, 21, 255, 255, 255, 255, 25, 61,
+    255, 255, 20, 255, 255, 255, 255, 15, 255, 255, 255, 255, 255, 2, 255, 11, 9, 255, 255, 46,
+    255, 49, 59, 255, 255, 255, 255, 255, 255, 255, 255, 1, 255, 255, 255, 255, 58, 255, 255, 255,
+    60, 38, 31, 48, 255, 63, 255, 255, 255, 255, 255, 255, 255, 255, 255, 255, 255, 255, 255, 255,
+    255, 0, 255, 255, 3, 255, 4, 17, 255, 255, 255, 255, 255, 255, 255, 47, 255, 41, 255, 255, 255,
+    255, 255, 255, 44, 255, 255, 45, 255, 255, 13, 6, 255, 255, 43, 255, 255,
 ];
 
 /// The byte at a place, or 0 past the end.
@@ -162,14 +165,15 @@ fn byte_at(bytes: &[u8], i: usize) -> u8
     if i < bytes.len() { bytes[i] } else { 0 }
 }
 
-/// The slot of a word, by its second byte, its last one and its length. No two keywords have the same.
+/// The slot of a word, by its first byte, its second, its last one and its length. No two keywords have the same.
 fn slot_of(word: &[u8]) -> usize
     ensures within { result < 256 }
     ensures exact { result ≡ slots.slot_of word.now }
 {
+    let first = usize::from(byte_at(word, 0));
     let second = usize::from(byte_at(word, 1));
     let last = usize::from(byte_at(word, word.len().saturating_sub(1)));
-    (second * 11 + last * 19 + word.len()) % 256
+    (first * 35 + second * 8 + last * 58 + word.len()) % 256
 }
 
 /// Whether a word has these letters. The letters are few, so a plain loop is the fastest.
@@ -207,3 +211,10 @@ impl Keyword {
         keyword_at(&KEYWORDS, usize::from(place), word)
     }
 }
+
+/// The keywords by their letters: the table that the code looks them up in is said here once in the language's own words, and
+/// nothing is done.
+pub fn keywords_are()
+    ensures found { (keyword : Keyword) → keywords.keyword_of (keywords.letters keyword) ≡ Some keyword }
+    ensures only { (word : List ℕ) (keyword : Keyword) → keywords.keyword_of word ≡ Some keyword → word ≡ keywords.letters keyword }
+{}

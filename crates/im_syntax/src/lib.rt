@@ -34,7 +34,7 @@ pub use condition::{
     Cond, CondOf, Conj, ConjOf, Filter, FormOf, Term, TermForm, TermOf, Test, TestForm, Tests,
 };
 pub use im_values::Priority as Level;
-pub use keyword::Keyword;
+pub use keyword::{Keyword, keywords_are};
 pub use literal::Lit;
 pub use query::{ItemPart, KeyPart, ListPart, Query, Way};
 pub use spell_statement::spell;

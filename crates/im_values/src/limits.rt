@@ -1,5 +1,7 @@
 //! The limits of the engine: each stands here once, and code, definitions and texts cite it from here.
 
+ghost use Rattle.std.specs.Prelude.{◌≡◌};
+
 /// The most tables.
 pub const MOST_TABLES: usize = 64;
 
@@ -47,3 +49,23 @@ pub const MOST_LINE_BYTES: usize = 1_048_576;
 
 /// The most bytes of a script.
 pub const MOST_SCRIPT_BYTES: usize = 16_777_216;
+
+/// The limits by their numbers: what code and definitions cite by name is said here once, and nothing is done.
+pub fn limits_are()
+    ensures most_tables { MOST_TABLES ≡ 64 }
+    ensures most_columns { MOST_COLUMNS ≡ 16 }
+    ensures most_in_shape { MOST_IN_SHAPE ≡ 64 }
+    ensures sessions { SESSIONS ≡ 16 }
+    ensures workers { WORKERS ≡ 8 }
+    ensures numbers { NUMBERS ≡ 25 }
+    ensures most_cursors { MOST_CURSORS ≡ 8 }
+    ensures most_changes { MOST_CHANGES ≡ 65536 }
+    ensures most_weight { MOST_WEIGHT ≡ 536870912 }
+    ensures change_weight { CHANGE_WEIGHT ≡ 64 }
+    ensures value_weight { VALUE_WEIGHT ≡ 32 }
+    ensures most_rows { MOST_ROWS ≡ 8388608 }
+    ensures most_levels { MOST_LEVELS ≡ 64 }
+    ensures most_word_bytes { MOST_WORD_BYTES ≡ 128 }
+    ensures most_line_bytes { MOST_LINE_BYTES ≡ 1048576 }
+    ensures most_script_bytes { MOST_SCRIPT_BYTES ≡ 16777216 }
+{}

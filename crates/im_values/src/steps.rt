@@ -2,6 +2,7 @@ ghost use Rattle.std.specs.Prelude.{◌≡◌, ◌+◌, ◌<◌};
 
 use std::marker::Model;
 use std::sync::ledger::{Blank, Book, Ledger, Share};
+use std::thread::Threads;
 
 /// How many steps were taken. It takes no bytes when the program runs: contracts alone see the count.
 ///
@@ -25,7 +26,10 @@ impl<L: Ledger> Model for Steps<L> {
 
 impl<L: Ledger> Steps<L> {
     /// A count that stands at zero, over a ledger of its own.
-    pub fn new(blank: Blank) -> Steps<L>
+    ///
+    /// Only who may start threads can make one: the program, and a race, whose jobs count each for itself. What reads rows has no
+    /// such leave, so it can count on no other count than the one that it was handed.
+    pub fn new<R: Threads>(_rt: &R, blank: Blank) -> Steps<L>
         requires name { blank.name ≡ L.name }
         requires parts { blank.parts ≡ L.parts }
         requires some { 0 < blank.parts }

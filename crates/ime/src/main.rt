@@ -39,7 +39,7 @@ fn play<R: Input + Print + Threads + Wait + Sync, L: Ledger>(
 {
     let mut source = StdSource::new(rt.reader());
     let mut sink = StdSink::new(io::writer(rt));
-    let mut steps = Steps::<L>::new(blank);
+    let mut steps = Steps::<L>::new(rt, blank);
     run(
         rt,
         alloc,

@@ -3,9 +3,9 @@ use Rattle.std.specs.Prelude.{ℕ, ◌+◌, ◌-◌, ◌*◌, ◌%◌, List, len
 use Rattle.std.specs.Str.{bytes_eq}
 use Rattle.im_syntax.specs.declared.keyword.Keyword.{Keyword}
 
--- the slot of a word, by its second byte, its last one and its length
+-- the slot of a word, by its first byte, its second, its last one and its length
 abbrev pub slot_of : List ℕ → ℕ
-slot_of word = (slice_index word 1 * 11 + slice_index word (length word - 1) * 19 + length word) % 256
+slot_of word = (slice_index word 0 * 35 + slice_index word 1 * 8 + slice_index word (length word - 1) * 58 + length word) % 256
 
 -- the keyword of an entry that may be there, where the word has its letters
 abbrev pub if_spelled : Option (List ℕ × Keyword) → List ℕ → Option Keyword
