@@ -8,7 +8,8 @@ use Rattle.im_syntax.specs.declared.token.Token.{Token}
 use Rattle.im_lex.specs.declared.front.Front.{Front}
 use Rattle.im_lex.specs.declared.front.Front.TheVariants.{Stop, Blank, Bad, Lexed}
 use Rattle.im_lex.specs.Bytes.{front}
-use Rattle.im_lex.specs.Lexing.{Lexes, ends, skips, takes, IsBadAt, is_bad, behind_blank, behind_token, IsLexed, IsFaultAt, IsBadByte, AreLexed, tokens_of, places_of}
+use Rattle.im_lex.specs.Lexing.{Lexes, ends, skips, takes, IsBadAt, is_bad, behind_blank, behind_token, BeginsWith, is_over, meets_bad, passes_blank, passes_token}
+use Rattle.im_lex.specs.Lexing.{IsPlaceOf, IsLexed, IsFaultAt, IsBadByte, AreLexed, tokens_of, places_of}
 use Rattle.im_lex.specs.declared.lexing.LexFault.{LexFault}
 use Rattle.im_lex.specs.declared.lexing.LexFault.TheVariants as fault
 use Rattle.im_lex.specs.inner.Rounds.{AreFollowed, AreFirst}
@@ -98,6 +99,56 @@ unfolding front
 token_bad at [] t more n e l = absurd cc
 token_bad at (b ∷ bs) t more n e l = behind_token at b bs t more n e l
 
+begin_blank : (at : ℕ) (bs : List ℕ) (ts : Tokens) → front bs ≡ Blank → BeginsWith (at + 1) (drop 1 bs) ts → BeginsWith at bs ts
+unfolding front
+begin_blank at [] ts e l = absurd cc
+begin_blank at (b ∷ bs) ts e l = passes_blank at b bs ts e l
+
+begin_token : (at : ℕ) (bs : List ℕ) (t : Token) (more : ℕ) (ts : Tokens) → front bs ≡ Lexed t more → BeginsWith (at + 1 + more) (drop (suc more) bs) ts
+    → BeginsWith at bs ((t, at) ∷ ts)
+unfolding front
+begin_token at [] t more ts e l = absurd cc
+begin_token at (b ∷ bs) t more ts e l = passes_token at b bs t more ts e l
+
+-- ---- all bytes begin with some tokens, a line that has its tokens with these
+
+record Begun (at : ℕ) (bs : List ℕ) : Type 0 where
+  tokens : Tokens
+  begins : BeginsWith at bs tokens
+
+begun_by : (at : ℕ) (bs : List ℕ) (f : Front) → front bs ≡ f → ((next : ℕ) (rest : List ℕ) → length rest < length bs → Begun next rest) → Begun at bs
+begun_by at bs Stop e rest = record { tokens = []; begins = is_over at bs e }
+begun_by at bs Bad e rest = record { tokens = []; begins = meets_bad at bs e }
+begun_by at bs Blank e rest =
+    let some = blank_all_fits bs e in
+    let left = length-drop 1 bs in
+    let r = rest (at + 1) (drop 1 bs) (omega arith) in
+    record { tokens = r.tokens; begins = begin_blank at bs r.tokens e r.begins }
+begun_by at bs (Lexed t more) e rest =
+    let some = token_all_fits bs t more e in
+    let left = length-drop (suc more) bs in
+    let r = rest (at + 1 + more) (drop (suc more) bs) (omega arith) in
+    record { tokens = (t, at) ∷ r.tokens; begins = begin_token at bs t more r.tokens e r.begins }
+
+begun_in : (k at : ℕ) (bs : List ℕ) → length bs < k → Begun at bs
+begun_in zero at bs lt = absurd (omega arith)
+begun_in (suc k) at bs lt = begun_by at bs (front bs) refl (λ next rest less. begun_in k next rest (omega arith))
+
+begun : (at : ℕ) (bs : List ℕ) → Begun at bs
+begun at bs = begun_in (suc (length bs)) at bs (omega arith)
+
+lexes_begins : (at : ℕ) (bs : List ℕ) (ts : Tokens) → Lexes at bs ts → BeginsWith at bs ts
+lexes_begins at bs ts (ends at2 bs2 e) = is_over at2 bs2 e
+lexes_begins at bs ts (skips at2 b cs us e rest) = passes_blank at2 b cs us e (lexes_begins (at2 + 1) cs us rest)
+lexes_begins at bs ts (takes at2 b cs t more us e rest) =
+    passes_token at2 b cs t more us e (lexes_begins (at2 + 1 + more) (drop more cs) us rest)
+
+-- a token past the last one has no place
+none_past : (ts : Tokens) (n : ℕ) → length ts ≤ n → slice_get (places_of ts) n ≡ None
+none_past [] n le = refl
+none_past (t ∷ ts) zero le = absurd (omega arith)
+none_past (t ∷ ts) (suc n) le = none_past ts n (omega arith)
+
 -- ---- the same the other way: what a line's tokens are behind one round
 
 none_left : (at : ℕ) (bs : List ℕ) (ts : Tokens) → front bs ≡ Stop → Lexes at bs ts → ts ≡ []
@@ -131,12 +182,13 @@ pub record GoOn (at : ℕ) (line : List ℕ) (pairs ts : Tokens) : Type 0 where
   pub lexes : Lexes at (drop at line) rest
   pub are : ts ≡ pairs ++ rest
 
--- what was read so far: behind it the tokens of the rest go on, both ways, and its first bad byte is the line's
+-- what was read so far: behind it the tokens of the rest go on, both ways, also where a byte is bad, and its first bad byte is the line's
 pub record SoFar (at : ℕ) (line : List ℕ) (tokens : List Token) : Type 0 where
   pub pairs : Tokens
   pub tokens_are : tokens ≡ tokens_of pairs
   pub goes_on : (ts : Tokens) → Lexes at (drop at line) ts → Lexes 0 line (pairs ++ ts)
   pub back : (ts : Tokens) → Lexes 0 line ts → GoOn at line pairs ts
+  pub begins : (ts : Tokens) → BeginsWith at (drop at line) ts → BeginsWith 0 line (pairs ++ ts)
   pub bad : (n : ℕ) → IsBadAt at (drop at line) n → IsBadAt 0 line n
   pub within : at ≤ length line
 
@@ -154,6 +206,7 @@ so_far_none line = record {
   tokens_are = refl;
   goes_on = λ ts l. l;
   back = λ ts l. record { rest = ts; lexes = l; are = refl };
+  begins = λ ts b. b;
   bad = λ n b. b;
   within = omega arith;
 }
@@ -208,6 +261,8 @@ module _ (at : ℕ) (line : List ℕ) (tokens : List Token) (so_far : SoFar at l
           lexes = subst (λ (x : List ℕ). Lexes (at + 1) x b.rest) (drop-drop 1 at line) (behind_skip at (drop at line) b.rest e b.lexes);
           are = b.are;
         };
+    begins = λ ts b.
+        so_far.begins ts (begin_blank at (drop at line) ts e (subst (λ (x : List ℕ). BeginsWith (at + 1) x ts) (sym (drop-drop 1 at line)) b));
     bad = λ n b. so_far.bad n (skip_bad at (drop at line) n e (subst (λ (x : List ℕ). IsBadAt (at + 1) x n) (sym (drop-drop 1 at line)) b));
     within = blank_room at line so_far.within e;
   }
@@ -227,9 +282,38 @@ module _ (at : ℕ) (line : List ℕ) (tokens : List Token) (so_far : SoFar at l
           lexes = subst (λ (x : List ℕ). Lexes (at + 1 + more) x taken.rest) (sym (further at more line)) taken.lexes;
           are = b.are ∙ ap (λ (x : Tokens). so_far.pairs ++ x) taken.are ∙ sym (append_assoc so_far.pairs ((t, at) ∷ []) taken.rest);
         };
+    begins = λ ts b.
+        subst (λ (x : Tokens). BeginsWith 0 line x) (sym (append_assoc so_far.pairs ((t, at) ∷ []) ts))
+        (so_far.begins ((t, at) ∷ ts)
+        (begin_token at (drop at line) t more ts e (subst (λ (x : List ℕ). BeginsWith (at + 1 + more) x ts) (further at more line) b)));
     bad = λ n b. so_far.bad n (token_bad at (drop at line) t more n e (subst (λ (x : List ℕ). IsBadAt (at + 1 + more) x n) (further at more line) b));
     within = token_room at line t more so_far.within e;
   }
+
+  -- so many tokens were read as there are places
+  count_is : length tokens ≡ length so_far.pairs
+  count_is = ap length so_far.tokens_are ∙ length-map so_far.pairs (λ (p : Token × ℕ). p.0)
+
+  pub met_before : (most : ℕ) → front (drop at line) ≡ Bad → length tokens ≤ most → IsPlaceOf most line None
+  met_before most e few =
+      let count = count_is in
+      let pairs : Tokens = so_far.pairs ++ [] in
+      record {
+        pairs = pairs;
+        begins = so_far.begins [] (meets_bad at (drop at line) e);
+        is = sym (none_past pairs most (let same = ap length (append-nil so_far.pairs) in omega arith));
+      }
+
+  stands_at : (most : ℕ) (t : Token) (more : ℕ) → front (drop at line) ≡ Lexed t more → length tokens ≡ most → IsPlaceOf most line (Some at)
+  stands_at most t more e count =
+      let rest = begun (at + 1 + more) (drop (suc more) (drop at line)) in
+      let pairs : Tokens = so_far.pairs ++ (t, at) ∷ rest.tokens in
+      let first : most ≡ length so_far.pairs = sym count ∙ count_is in
+      record {
+        pairs = pairs;
+        begins = so_far.begins ((t, at) ∷ rest.tokens) (begin_token at (drop at line) t more rest.tokens e rest.begins);
+        is = sym (ap (λ (k : ℕ). slice_get (places_of pairs) k) first ∙ next_place so_far.pairs (t, at) rest.tokens);
+      }
 
   pub followed : (most : ℕ) (t : Token) (more : ℕ) → front (drop at line) ≡ Lexed t more → length tokens ≡ most → most ≤ at → AreFollowed most at line
   followed most t more e count few = record {
@@ -237,10 +321,11 @@ module _ (at : ℕ) (line : List ℕ) (tokens : List Token) (so_far : SoFar at l
         let b = so_far.back ts l in
         let taken = behind_one at (drop at line) t more b.rest e b.lexes in
         let whole = b.are ∙ ap (λ (x : Tokens). so_far.pairs ++ x) taken.are in
-        let first : most ≡ length so_far.pairs = sym count ∙ ap length so_far.tokens_are ∙ length-map so_far.pairs (λ (p : Token × ℕ). p.0) in
+        let first : most ≡ length so_far.pairs = sym count ∙ count_is in
         ap (λ (x : Tokens). slice_get (places_of x) most) whole
         ∙ ap (λ (k : ℕ). slice_get (places_of (so_far.pairs ++ (t, at) ∷ taken.rest)) k) first
         ∙ next_place so_far.pairs (t, at) taken.rest;
+    stands = stands_at most t more e count;
     within = so_far.within;
     fewer = let room = token_room at line t more so_far.within e in omega arith;
   }
@@ -252,12 +337,6 @@ pub all_found : (bs : List ℕ) (tokens : List Token) (next : Option ℕ) → Ar
 all_found bs tokens None are = are.0
 all_found bs tokens (Some at) are = let fewer = are.fewer in absurd (omega arith)
 
--- a token past the last one has no place
-none_past : (ts : Tokens) (n : ℕ) → length ts ≤ n → slice_get (places_of ts) n ≡ None
-none_past [] n le = refl
-none_past (t ∷ ts) zero le = absurd (omega arith)
-none_past (t ∷ ts) (suc n) le = none_past ts n (omega arith)
-
 pub next_is : (n : ℕ) (bs : List ℕ) (tokens : List Token) (next : Option ℕ) → AreFirst n bs tokens next → (ts : Tokens) → Lexes 0 bs ts
     → next ≡ slice_get (places_of ts) n
 next_is n bs tokens None are ts l =
@@ -266,6 +345,14 @@ next_is n bs tokens None are ts l =
     let few = are.1 in
     sym (none_past ts n (omega arith))
 next_is n bs tokens (Some at) are ts l = sym (are.place ts l)
+
+pub next_stands : (n : ℕ) (bs : List ℕ) (tokens : List Token) (next : Option ℕ) → AreFirst n bs tokens next → IsPlaceOf n bs next
+next_stands n bs tokens None are =
+    let pairs = are.0.pairs in
+    let count = ap length are.0.tokens_are ∙ length-map pairs (λ (p : Token × ℕ). p.0) in
+    let few = are.1 in
+    record { pairs = pairs; begins = lexes_begins 0 bs pairs are.0.lexes; is = sym (none_past pairs n (omega arith)) }
+next_stands n bs tokens (Some at) are = are.stands
 
 pub next_within : (n : ℕ) (bs : List ℕ) (tokens : List Token) (next : Option ℕ) → AreFirst n bs tokens next → IfSome next (λ at. at ≤ length bs)
 next_within n bs tokens None are = tt

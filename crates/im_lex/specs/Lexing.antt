@@ -1,5 +1,5 @@
 -- The tokens of a line, and its first bad byte.
-use Rattle.std.specs.Prelude.{◌≡◌, ℕ, ◌+◌, List, [], ◌∷◌, drop, map, Result, Ok, Err}
+use Rattle.std.specs.Prelude.{◌≡◌, ℕ, ◌+◌, List, [], ◌∷◌, drop, map, slice_get, Option, Result, Ok, Err}
 use Rattle.std.specs.Global.{Vec}
 use Rattle.im_syntax.specs.declared.token.Token.{Token}
 use Rattle.im_lex.specs.declared.front.Front.TheVariants.{Stop, Blank, Bad, Lexed}
@@ -21,6 +21,14 @@ pub data IsBadAt : ℕ → List ℕ → ℕ → Type 0 where
   behind_token : (at b : ℕ) (bs : List ℕ) (t : Token) (more n : ℕ) → front (b ∷ bs) ≡ Lexed t more
       → IsBadAt (at + 1 + more) (drop more bs) n → IsBadAt at (b ∷ bs) n
 
+-- The bytes begin with these tokens, each with its place: those before the first bad byte, or all where no byte is bad.
+pub data BeginsWith : ℕ → List ℕ → List (Token × ℕ) → Type 0 where
+  is_over : (at : ℕ) (bs : List ℕ) → front bs ≡ Stop → BeginsWith at bs []
+  meets_bad : (at : ℕ) (bs : List ℕ) → front bs ≡ Bad → BeginsWith at bs []
+  passes_blank : (at b : ℕ) (bs : List ℕ) (ts : List (Token × ℕ)) → front (b ∷ bs) ≡ Blank → BeginsWith (at + 1) bs ts → BeginsWith at (b ∷ bs) ts
+  passes_token : (at b : ℕ) (bs : List ℕ) (t : Token) (more : ℕ) (ts : List (Token × ℕ)) → front (b ∷ bs) ≡ Lexed t more
+      → BeginsWith (at + 1 + more) (drop more bs) ts → BeginsWith at (b ∷ bs) ((t, at) ∷ ts)
+
 -- ---- tokens apart from their places
 
 abbrev pub tokens_of : List (Token × ℕ) → List Token
@@ -34,6 +42,12 @@ pub record AreLexed (bytes : List ℕ) (tokens : List Token) : Type 0 where
   pub pairs : List (Token × ℕ)
   pub lexes : Lexes 0 bytes pairs
   pub tokens_are : tokens ≡ tokens_of pairs
+
+-- the place of the n-th token, from 0: there is one where that token stands before the first bad byte
+pub record IsPlaceOf (n : ℕ) (bytes : List ℕ) (place : Option ℕ) : Type 0 where
+  pub pairs : List (Token × ℕ)
+  pub begins : BeginsWith 0 bytes pairs
+  pub is : place ≡ slice_get (places_of pairs) n
 
 -- ---- what the code promises
 

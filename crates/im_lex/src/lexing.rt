@@ -59,6 +59,7 @@ struct First {
 fn read_tokens(alloc: Global, line: &[u8], most: u64) -> Result<First, LexFault>
     ensures found { IfOk result (λ first. rounds.AreFirst most line.now first.tokens.items first.next) }
     ensures bad { IfErr result (lexing.IsBadByte line.now) }
+    ensures before { IfErr result (rounds.IsMetBefore most line.now) }
 {
     let mut tokens = Vec::with_capacity(alloc, line.len() / 3)?;
     let mut at = 0;
@@ -99,12 +100,14 @@ pub fn lex(alloc: Global, line: &[u8]) -> Result<Vec<Token>, LexFault>
     }
 }
 
-/// How many bytes of a line stand before its n-th token, from 0, where it has so many.
+/// How many bytes of a line stand before its n-th token, from 0, where so many stand before its first bad byte.
 ///
 /// It reads the line anew, so that [`lex`] need not keep what is asked of bad lines alone.
 #[cold]
 pub fn place_of(alloc: Global, line: &[u8], n: u64) -> Result<Option<u64>, NoMemory>
-    // It is the place of that token.
+    // It is the place of that token among those before the first bad byte.
+    ensures stands { IfOk result (lexing.IsPlaceOf n line.now) }
+    // Where no byte is bad, they are the line's tokens.
     ensures is { (ts : List (AnyToken × ℕ)) → lexing.Lexes 0 line.now ts → IfOk result (λ place. place ≡ slice_get (lexing.places_of ts) n) }
     // It lies in the line.
     ensures within { IfOk result (λ place. IfSome place (λ at. at ≤ length line.now)) }

@@ -1,5 +1,6 @@
 ghost use Rattle.std.specs.Prelude.{◌≡◌, ◌≤◌, ◌+◌, ◌*◌, ◌^◌, ◌++◌, ◌%◌, IfOk, OnOk, length, min};
 ghost use Rattle.im_values.specs.declared.limits.TheConstants.{MOST_SCRIPT_BYTES};
+ghost use Rattle.im_script.specs.declared.generated.TheConstants as sizes;
 ghost use Rattle.im_script.specs.Generated as spec;
 ghost use Rattle.im_script.specs.inner.Putting as inner;
 
@@ -31,6 +32,12 @@ const CLOSING: &str = "bg> RUN\n\
 bg> TRICKLE 1000000\n\
 bg> RUN\n\
 1> SELECT REGION, SUM(AMOUNT) FROM ORDERS GROUP BY REGION ORDER BY SUM(AMOUNT) DESC\n";
+
+/// A law, for contracts alone: an INSERT of a generated script has at most 100 orders, and a COMMIT comes behind each 50,000.
+pub fn generated_sizes_are()
+    ensures insert { sizes.PER_INSERT ≡ 100 }
+    ensures commit { sizes.PER_COMMIT ≡ 50000 }
+{}
 
 /// The region of an order.
 fn region(order: u64) -> &'static str

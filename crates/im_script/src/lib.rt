@@ -20,7 +20,7 @@ mod reading;
 mod script;
 
 pub use cut::first_line;
-pub use generated::generate;
+pub use generated::{generate, generated_sizes_are};
 pub use line::{Line, LineKind};
 pub use reading::line_of;
 pub use script::{lines, one_kind};

@@ -1,7 +1,7 @@
 use Rattle.std.proofs.Common.{◌≡◌, ◌≢◌, ◌∷◌, [], ◌∙◌, length, sym, ap, arith}
 use Rattle.std.proofs.lemmas.List.{length-append}
 use Rattle.im_lex.specs.Bytes.{front}
-use Rattle.im_lex.proofs.Rounds.{token_room, so_far_none, found_at_stop, found_at_end, bad_here, so_far-blank, so_far-token, followed, below_most}
+use Rattle.im_lex.proofs.Rounds.{token_room, so_far_none, found_at_stop, found_at_end, bad_here, met_before, so_far-blank, so_far-token, followed, below_most}
 use Rattle.im_lex.proofs.lexing.read_tokens.Goals as goal
 use Rattle.im_lex.proofs.lexing.read_tokens.Goals.{in-Blank, in-Lexed+else-len-most+in_ok-push-in-Lexed}
 
@@ -15,6 +15,10 @@ returns-in-Stop-clause-found c =
 pub returns-in-Bad-clause-bad : goal.returns-in-Bad-clause-bad
 returns-in-Bad-clause-bad c =
     bad_here _ _ _ c.loop.invariant.0 (ap front (sym c.behind.ensures) ∙ sym c.in_ok-front.ensures ∙ c.in-Bad.is)
+
+pub returns-in-Bad-clause-before : goal.returns-in-Bad-clause-before
+returns-in-Bad-clause-before c =
+    met_before _ _ _ c.loop.invariant.0 c.args.most (ap front (sym c.behind.ensures) ∙ sym c.in_ok-front.ensures ∙ c.in-Bad.is) c.loop.invariant.3
 
 pub returns-clause-found : goal.returns-clause-found
 returns-clause-found c = (found_at_end _ _ _ c.loop.invariant.0 (omega (arith, c.loop.invariant.1, c.loop-test.false)), c.loop.invariant.3)
