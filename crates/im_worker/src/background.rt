@@ -95,6 +95,9 @@ impl Background {
     /// Where a round makes no unit current, since no build comes next or memory is out, the worker sleeps for about a millisecond
     /// before it goes on, so that its turns last while others are at work: an idle job takes some `turns` milliseconds. The gate is
     /// called before and after each switch, outside the store's turn.
+    ///
+    /// A worker that called a turn at which no build came next one without memory would keep all clauses: the store's misses count
+    /// both.
     pub fn work<R: Wait, H: Reach<ColumnUnit>, G: Gate, L: Ledger>(
         &mut self,
         rt: &R,
