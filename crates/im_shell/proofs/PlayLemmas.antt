@@ -55,7 +55,7 @@ module _ (area : ℕ) (machine : Machine) where
   -- what these come to is played with nothing to choose, at these steps
   record AreTold (demands : List Demand) (steps : ℕ) : Type 0 where
     pub lawful : are_lawful [] machine demands ≡ true
-    pub counted : AreCounted area [] machine demands steps steps
+    pub counted : AreCounted [] machine demands steps steps
 
   one_told : (f : Form) (line : List ℕ) (n : ℕ) (demands : List Demand) (steps : ℕ) → AreTold demands steps
       → AreTold (asked area n (kind_by f line) ∷ demands) steps
@@ -90,7 +90,7 @@ put-one number (Some reply) more = refl
 -- one more line was read and played
 pub IsSoFar-next : (area : ℕ) (script : List ℕ) (answers : List (ℕ × Reply)) (number : ℕ) (h new : Machine) (rest behind bytes : List ℕ) (line : Line)
     (reply : Option Reply) (first before after : ℕ) → IsSoFar area script answers number h rest first before
-    → lines_of rest ≡ bytes ∷ lines_of behind → IsLine number bytes line → IsAnswered area before after (demand_of area line) h reply new
+    → lines_of rest ≡ bytes ∷ lines_of behind → IsLine number bytes line → IsAnswered before after (demand_of area line) h reply new
     → IsSoFar area script (answers ++ one number reply) (number + 1) new behind first after
 IsSoFar-next area script answers number h new rest behind bytes line reply first before after so_far lines_are read answered = record {
   done = so_far.done ++ bytes ∷ [];
@@ -99,7 +99,7 @@ IsSoFar-next area script answers number h new rest behind bytes line reply first
       ∙ (ap (λ (l : List (List ℕ)). so_far.done ++ l) lines_are ∙ sym (append_assoc so_far.done (bytes ∷ []) (lines_of behind)));
   on = λ others lines are more end last comes.
       let all = so_far.on (bytes ∷ others) (line ∷ lines) (read, are) (put number reply more) end last
-      (line_first area (demands_of area lines) more end before after last h new (demand_of area line) number reply
+      (line_first (demands_of area lines) more end before after last h new (demand_of area line) number reply
       (subst (λ (n : ℕ). HasNumber n (demand_of area line)) read.number (asked-number area line.number line.kind)) answered comes) in
       subst (λ (l : List (List ℕ)). ComesOf area l ((answers ++ one number reply) ++ more) end first last)
       (sym (append_assoc so_far.done (bytes ∷ []) others))

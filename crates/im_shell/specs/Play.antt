@@ -24,7 +24,7 @@ use Rattle.im_words.specs.Good.{IsGood}
 pub record ComesOf (area : ℕ) (lines : List (List ℕ)) (answers : List (ℕ × Reply)) (end : Machine) (before after : ℕ) : Type 0 where
   pub read : List Line
   pub are : AreLines 1 lines read
-  pub comes : Comes area idle (demands_of area read) answers end before after
+  pub comes : Comes idle (demands_of area read) answers end before after
 
 -- the text is that of the replies to a script that are shown, and the steps grew so
 pub record IsPlayed (shown : Shown) (area : ℕ) (script text : List ℕ) (before after : ℕ) : Type 0 where

@@ -72,7 +72,7 @@ impl Background {
         requires agrees { Agrees self.old (H.known reach.old) }
         ensures played { IsPlayed statement.now self.old (H.known reach.old) result self.new (H.known reach.new) }
         ensures agrees { Agrees self.new (H.known reach.new) }
-        ensures ticks { IsCounted self.old.who steps.old steps.new (H.known reach.old) (H.known reach.new) }
+        ensures ticks { IsCounted self.old.who steps.old steps.new (H.known reach.old).log (H.known reach.new).log }
     {
         let (alloc, who) = (self.alloc, self.who);
         play(
@@ -119,7 +119,7 @@ impl Background {
             IsIdleAt self.old.who place (H.known reach.old).log (H.known reach.new).log)) }
         ensures same { self.new ≡ self.old }
         ensures agrees { Agrees self.new (H.known reach.new) }
-        ensures ticks { IsCounted self.old.who steps.old steps.new (H.known reach.old) (H.known reach.new) }
+        ensures ticks { IsCounted self.old.who steps.old steps.new (H.known reach.old).log (H.known reach.new).log }
     {
         let (alloc, who) = (self.alloc, self.who);
         job(
@@ -155,7 +155,7 @@ fn play<R: Wait, H: Reach<ColumnUnit>, G: Gate, L: Ledger>(
     requires statement { IsStmt statement.now }
     requires stands { Stands who held.old.items [] (H.known reach.old).log }
     ensures command { IsCommand who statement.now held.old.items (H.known reach.old) result held.new.items (H.known reach.new) }
-    ensures ticks { IsCounted who steps.old steps.new (H.known reach.old) (H.known reach.new) }
+    ensures ticks { IsCounted who steps.old steps.new (H.known reach.old).log (H.known reach.new).log }
 {
     match statement {
         Stmt::Run => run(alloc, rt, reach, gate, who, held, steps),

@@ -19,7 +19,7 @@ pub record IsSoFar (area : ℕ) (script : List ℕ) (answers : List (ℕ × Repl
   pub done : List (List ℕ)
   pub split : lines_of script ≡ done ++ lines_of rest
   pub on : (bytes : List (List ℕ)) (lines : List Line) → AreLines number bytes lines
-      → (more : List (ℕ × Reply)) (end : Machine) (after : ℕ) → Comes area machine (demands_of area lines) more end now after
+      → (more : List (ℕ × Reply)) (end : Machine) (after : ℕ) → Comes machine (demands_of area lines) more end now after
       → ComesOf area (done ++ bytes) (answers ++ more) end before after
 
 -- what comes behind the text that waits: the reply to a line, where there is one that is shown
