@@ -4,12 +4,11 @@ use Rattle.im_history.specs.declared.task.Task.{Task}
 use Rattle.im_plan.specs.Alone.{IsMachine, Played}
 use Rattle.im_plan.proofs.AloneLaws.{line_alone}
 use Rattle.im_play.specs.Between.{IsAnswer, IsAnswered, IsCommandAnswer, IsStill}
-use Rattle.im_play.specs.Machine.{AreCounted, Comes, Machine, Way, alone_at, are_lawful, is_answered, machine_after, machine_behind, machine_behind_all, play_command, play_request, put, replies, state_in, with_answer, with_reply}
+use Rattle.im_play.specs.Machine.{AreCounted, Comes, IsRequestCounted, Machine, Way, are_lawful, is_answered, machine_after, machine_behind, machine_behind_all, play_command, play_request, put, replies, state_in, with_answer, with_reply}
 use Rattle.im_play.specs.Requests.{BACKGROUND, Command, Request, Demand, Nothing, Told, Asks, Orders, asked}
 use Rattle.im_replies.specs.declared.reply.Reply.{Reply}
 use Rattle.im_script.specs.declared.line.LineKind.{LineKind}
 use Rattle.im_script.specs.declared.line.LineKind.TheVariants as kind
-use Rattle.im_session.specs.Reads.{IsCounted}
 use Rattle.im_statements.specs.Background as background
 use Rattle.im_statements.specs.Outcomes.{Outcome, Replied, State}
 use Rattle.im_worker.specs.Reads as builds
@@ -34,22 +33,22 @@ both : (a b : Bool) → a ≡ true → b ≡ true → (a && b) ≡ true
 both true b e f = f
 both false b e f = e
 
-module _ (area : ℕ) (demands : List Demand) (answers : List (ℕ × Reply)) (end : Machine) (before now after : ℕ) (old new : Machine) where
+module _ (demands : List Demand) (answers : List (ℕ × Reply)) (end : Machine) (before now after : ℕ) (old new : Machine) where
   -- what comes of a line that asks for nothing, and then of others
-  none_first : IsStill before now old new → Comes area new demands answers end now after → Comes area old (Nothing ∷ demands) answers end before after
+  none_first : IsStill before now old new → Comes new demands answers end now after → Comes old (Nothing ∷ demands) answers end before after
   none_first still played = record {
     ways = played.ways;
     lawful = subst (λ (m : Machine). are_lawful played.ways m demands ≡ true) still.machine played.lawful;
     answers_are = subst (λ (m : Machine). answers ≡ replies played.ways m demands) still.machine played.answers_are;
     end_is = subst (λ (m : Machine). end ≡ machine_behind_all played.ways m demands) still.machine played.end_is;
     counted =
-        subst (λ (m : Machine). AreCounted area played.ways m demands before after) still.machine
-        (subst (λ (n : ℕ). AreCounted area played.ways new demands n after) still.steps played.counted);
+        subst (λ (m : Machine). AreCounted played.ways m demands before after) still.machine
+        (subst (λ (n : ℕ). AreCounted played.ways new demands n after) still.steps played.counted);
   }
 
   -- of one whose reply is told
-  told_first : (n number : ℕ) (told reply : Reply) → n ≡ number → reply ≡ told → IsStill before now old new → Comes area new demands answers end now after
-      → Comes area old (Told n told ∷ demands) ((number, reply) ∷ answers) end before after
+  told_first : (n number : ℕ) (told reply : Reply) → n ≡ number → reply ≡ told → IsStill before now old new → Comes new demands answers end now after
+      → Comes old (Told n told ∷ demands) ((number, reply) ∷ answers) end before after
   told_first n number told reply same reply_is still played =
       let rest = none_first still played in
       record {
@@ -61,8 +60,8 @@ module _ (area : ℕ) (demands : List Demand) (answers : List (ℕ × Reply)) (e
         counted = rest.counted;
       }
 
-  module _ (request : Request) (number : ℕ) (reply : Reply) (same : request.number ≡ number) (answer : IsAnswer area before now request old reply new)
-      (played : Comes area new demands answers end now after) where
+  module _ (request : Request) (number : ℕ) (reply : Reply) (same : request.number ≡ number) (answer : IsAnswer before now request old reply new)
+      (played : Comes new demands answers end now after) where
     machine : IsMachine request.who request.amends old.history (request.plan (state_in old request.who)) (Replied reply answer.effect) new.history
     machine =
         line_alone request.who request.amends old.history (request.plan (state_in old request.who)) (Replied reply answer.effect) new.history answer.line
@@ -83,7 +82,7 @@ module _ (area : ℕ) (demands : List Demand) (answers : List (ℕ × Reply)) (e
     of_request P holds = subst P (sym machine.same) holds
 
     -- of a statement of a session
-    request_first : Comes area old (Asks request ∷ demands) ((number, reply) ∷ answers) end before after
+    request_first : Comes old (Asks request ∷ demands) ((number, reply) ∷ answers) end before after
     request_first = record {
       ways = way ∷ played.ways;
       lawful =
@@ -99,13 +98,13 @@ module _ (area : ℕ) (demands : List Demand) (answers : List (ℕ × Reply)) (e
           (subst (λ (m : Machine). end ≡ machine_behind_all played.ways m demands) (sym request-behind) played.end_is);
       counted =
           of_request
-          (λ p. (between : ℕ) × IsCounted request.who before between (alone_at area old.history) (alone_at area p.history)
-          × AreCounted area played.ways (machine_after old request p) demands between after)
-          (now, answer.counted, subst (λ (m : Machine). AreCounted area played.ways m demands now after) (sym request-behind) played.counted);
+          (λ p. (between : ℕ) × IsRequestCounted request (state_in old request.who) p.result before between old.history p.history
+          × AreCounted played.ways (machine_after old request p) demands between after)
+          (now, answer.counted, subst (λ (m : Machine). AreCounted played.ways m demands now after) (sym request-behind) played.counted);
     }
 
   module _ (command : Command) (number : ℕ) (reply : Reply) (same : command.number ≡ number)
-      (answer : IsCommandAnswer area before now command old reply new) (played : Comes area new demands answers end now after) where
+      (answer : IsCommandAnswer before now command old reply new) (played : Comes new demands answers end now after) where
     machine_of_command : IsMachine BACKGROUND (command.amends old.builds) old.history (command.plan answer.rounds old.builds)
         (background.Answered reply new.builds) new.history
     machine_of_command =
@@ -126,7 +125,7 @@ module _ (area : ℕ) (demands : List Demand) (answers : List (ℕ × Reply)) (e
     of_command P holds = subst P (sym machine_of_command.same) holds
 
     -- of a statement of the background
-    command_first : Comes area old (Orders command ∷ demands) ((number, reply) ∷ answers) end before after
+    command_first : Comes old (Orders command ∷ demands) ((number, reply) ∷ answers) end before after
     command_first = record {
       ways = way_of_command ∷ played.ways;
       lawful =
@@ -142,14 +141,14 @@ module _ (area : ℕ) (demands : List Demand) (answers : List (ℕ × Reply)) (e
           (subst (λ (m : Machine). end ≡ machine_behind_all played.ways m demands) (sym command-behind) played.end_is);
       counted =
           of_command
-          (λ p. (between : ℕ) × builds.IsCounted BACKGROUND before between (alone_at area old.history) (alone_at area p.history)
-          × AreCounted area played.ways (machine_behind old p) demands between after)
-          (now, answer.counted, subst (λ (m : Machine). AreCounted area played.ways m demands now after) (sym command-behind) played.counted);
+          (λ p. (between : ℕ) × builds.IsCounted BACKGROUND before between old.history p.history
+          × AreCounted played.ways (machine_behind old p) demands between after)
+          (now, answer.counted, subst (λ (m : Machine). AreCounted played.ways m demands now after) (sym command-behind) played.counted);
     }
 
   -- of any line
-  pub line_first : (demand : Demand) (number : ℕ) (reply : Option Reply) → HasNumber number demand → IsAnswered area before now demand old reply new
-      → Comes area new demands answers end now after → Comes area old (demand ∷ demands) (put number reply answers) end before after
+  pub line_first : (demand : Demand) (number : ℕ) (reply : Option Reply) → HasNumber number demand → IsAnswered before now demand old reply new
+      → Comes new demands answers end now after → Comes old (demand ∷ demands) (put number reply answers) end before after
   line_first Nothing number None same answered played = none_first answered played
   line_first Nothing number (Some reply) same answered played = absurd answered
   line_first (Told n told) number None same answered played = absurd answered

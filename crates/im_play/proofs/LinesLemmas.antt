@@ -15,8 +15,8 @@ use Rattle.im_worker.specs.Background as background
 -- of these lines all but the rest are played, with these replies so far: whatever the rest comes to from here, all come to the replies
 -- so far and then the rest's
 pub record AreSoFar (area : ℕ) (lines rest : List Line) (start now : Machine) (answers : List (ℕ × Reply)) (first steps : ℕ) : Type 0 where
-  pub on : (more : List (ℕ × Reply)) (end : Machine) (last : ℕ) → Comes area now (demands_of area rest) more end steps last
-      → Comes area start (demands_of area lines) (answers ++ more) end first last
+  pub on : (more : List (ℕ × Reply)) (end : Machine) (last : ℕ) → Comes now (demands_of area rest) more end steps last
+      → Comes start (demands_of area lines) (answers ++ more) end first last
 
 -- the reply of a line, where it has one, after those of others
 put-last : (number : ℕ) (answers more : List (ℕ × Reply)) (reply : Option Reply)
@@ -43,9 +43,9 @@ AreSoFar-next : (area : ℕ) (lines behind : List Line) (start old new : Machine
     → AreSoFar area lines behind start new (answers ++ put line.number reply []) first after
 AreSoFar-next area lines behind start old new answers first before after line reply so_far answered = record {
   on = λ more end last comes.
-      subst (λ (all : List (ℕ × Reply)). Comes area start (demands_of area lines) all end first last) (sym (put-last line.number answers more reply))
+      subst (λ (all : List (ℕ × Reply)). Comes start (demands_of area lines) all end first last) (sym (put-last line.number answers more reply))
       (so_far.on (put line.number reply more) end last
-      (line_first area (demands_of area behind) more end before after last old new (demand_of area line) line.number reply
+      (line_first (demands_of area behind) more end before after last old new (demand_of area line) line.number reply
       (asked-number area line.number line.kind) answered.answered comes));
 }
 
@@ -67,7 +67,7 @@ IsGoing-start lines old sessions kept answers steps none between = record {
   so_far = record {
     on = λ more end last comes.
         subst (λ (so_far : List (ℕ × Reply)).
-        Comes old.limits.area (machine_of old sessions kept) (demands_of old.limits.area lines) (so_far ++ more) end steps last)
+        Comes (machine_of old sessions kept) (demands_of old.limits.area lines) (so_far ++ more) end steps last)
         (sym none) comes;
   };
 }
@@ -97,12 +97,12 @@ IsGoing-next lines at old start now new sessions after kept behind answers put_b
 
 pub IsGoing-end : (lines : List Line) (at : ℕ) (old : Known) (start : Machine) (now : Known) (sessions : List Kept) (kept : background.Kept)
     (answers : List (ℕ × Reply)) (first steps : ℕ) → length lines ≤ at → IsGoing lines at old start now sessions kept answers first steps
-    → Comes old.limits.area start (demands_of old.limits.area lines) answers (machine_of now sessions kept) first steps
+    → Comes start (demands_of old.limits.area lines) answers (machine_of now sessions kept) first steps
 IsGoing-end lines at old start now sessions kept answers first steps past going =
-    subst (λ (all : List (ℕ × Reply)). Comes old.limits.area start (demands_of old.limits.area lines) all (machine_of now sessions kept) first steps)
+    subst (λ (all : List (ℕ × Reply)). Comes start (demands_of old.limits.area lines) all (machine_of now sessions kept) first steps)
     (append-nil answers)
     (going.so_far.on [] (machine_of now sessions kept) steps
     (subst (λ (rest : List Line).
-    Comes old.limits.area (machine_of now sessions kept) (demands_of old.limits.area rest) [] (machine_of now sessions kept) steps steps)
+    Comes (machine_of now sessions kept) (demands_of old.limits.area rest) [] (machine_of now sessions kept) steps steps)
     (sym (drop_all at lines past))
     (record { ways = []; lawful = refl; answers_are = refl; end_is = refl; counted = omega arith })))

@@ -12,10 +12,10 @@ use Rattle.im_history.specs.Legal.{IsLawful}
 use Rattle.im_plan.specs.Goes.{Line as Whole, Nobody}
 use Rattle.im_reach.specs.Sides.{Known, sole, speaks}
 use Rattle.im_replies.specs.declared.reply.Reply.{Reply}
-use Rattle.im_session.specs.Reads.{IsCounted}
+use Rattle.im_session.specs.Reads.{IsCounted, reading_of}
 use Rattle.im_session.specs.Sessions.{Agrees, IsPlayed, Kept, state_of}
 use Rattle.im_session.proofs.ForCallers.{IsOwn, agrees-other, agrees-own, line-alone, line-own, played-alone, played-own}
-use Rattle.im_play.specs.Machine.{Machine, alone_at, state_in}
+use Rattle.im_play.specs.Machine.{Machine, state_in}
 use Rattle.im_play.specs.Requests.{BACKGROUND, asked, script_limits}
 use Rattle.im_script.specs.declared.line.Line.{Line}
 use Rattle.im_script.specs.declared.line.LineKind.{LineKind}
@@ -164,20 +164,6 @@ module _ (s : Stmt) (before after : Kept) (old new : Known) (reply : Reply) (alo
     sessions-set (suc first) sessions at are.2 is agrees (number ∙ omega arith),
   )
 
--- a scan is counted by the histories alone
-counted-alone : (area who at before after : ℕ) (old new : Known) → who ≡ at → IsCounted who before after old new
-    → IsCounted at before after (alone_at area old.log) (alone_at area new.log)
-counted-alone area who at before after old new same counted =
-    subst (λ (n : ℕ). IsCounted n before after (alone_at area old.log) (alone_at area new.log)) same
-    (record {
-      cursor = counted.cursor;
-      view = counted.view;
-      from = counted.from;
-      upto = counted.upto;
-      within = counted.within;
-      read = counted.read;
-    })
-
 module _ (sessions : List Kept) (at : ℕ) (before : Kept) (kept : background.Kept) (old : Known) (between : IsBetween old sessions kept)
     (is : slice_get sessions at ≡ Some before) (first : 1 ≤ at) where
   one : IsSession 0 sessions at before old
@@ -193,7 +179,8 @@ module _ (sessions : List Kept) (at : ℕ) (before : Kept) (kept : background.Ke
   session-number within = let e = number-is in omega (arith, e, within)
 
   module _ (s : Stmt) (after : Kept) (new : Known) (reply : Reply) (steps later : ℕ) (played : IsPlayed s before old reply after new)
-      (agrees : Agrees after new) (counted : IsCounted before.who steps later old new) where
+      (agrees : Agrees after new)
+      (counted : IsCounted (reading_of s) (state_of before.cursors) before.who reply steps later old.log new.log) where
     pub between-after : IsBetween new (slice_set sessions at after) kept
     between-after = record {
       side = ap (λ (k : Known). k.side) played.known ∙ between.side;
@@ -216,7 +203,7 @@ module _ (sessions : List Kept) (at : ℕ) (before : Kept) (kept : background.Ke
     pub limits-after : new.limits ≡ old.limits
     limits-after = ap (λ (k : Known). k.limits) played.known
 
-    pub answer-after : (number : ℕ) → IsAnswer old.limits.area steps later (request_of old.limits.area number at s)
+    pub answer-after : (number : ℕ) → IsAnswer steps later (request_of old.limits.area number at s)
         (machine_of old sessions kept) reply (machine_of new (slice_set sessions at after) kept)
     answer-after number = record {
       effect = played.effect;
@@ -230,7 +217,9 @@ module _ (sessions : List Kept) (at : ℕ) (before : Kept) (kept : background.Ke
           state-set sessions at after
           ∙ ap (slice_set machine.states at) (played.keeps ∙ ap (kept_after played.effect) (sym keeps));
       builds_are = refl;
-      counted = counted-alone old.limits.area before.who at steps later old new number-is counted;
+      counted =
+          subst (λ (n : ℕ). IsCounted (reading_of s) (state_in machine at) n reply steps later old.log new.log) number-is
+          (subst (λ (state : State). IsCounted (reading_of s) state before.who reply steps later old.log new.log) (sym keeps) counted);
     }
       where
         machine : Machine
@@ -247,23 +236,16 @@ module _ (sessions : List Kept) (at : ℕ) (before : Kept) (kept : background.Ke
 
 -- a line of a session
 pub answers-session : (area before after : ℕ) (line : Line) (who : ℕ) (s : Stmt) (old new : Machine) (reply : Reply) → line.kind ≡ kind.Session who s
-    → ((number : ℕ) → IsAnswer area before after (request_of area number who s) old reply new) → Answers area before after line old (Some reply) new
+    → ((number : ℕ) → IsAnswer before after (request_of area number who s) old reply new) → Answers area before after line old (Some reply) new
 answers-session area before after line who s old new reply is answer = record {
-  answered = subst (λ (k : LineKind). IsAnswered area before after (asked area line.number k) old (Some reply) new) (sym is) (answer line.number);
+  answered = subst (λ (k : LineKind). IsAnswered before after (asked area line.number k) old (Some reply) new) (sym is) (answer line.number);
 }
 
 -- ---- the background plays a statement
 
--- the reading of builds is counted by the histories alone
-command-counted : (area who before after : ℕ) (old new : Known) → who ≡ BACKGROUND → builds.IsCounted who before after old new
-    → builds.IsCounted BACKGROUND before after (alone_at area old.log) (alone_at area new.log)
-command-counted area who before after old new same counted =
-    subst (λ (n : ℕ). builds.IsCounted n before after (alone_at area old.log) (alone_at area new.log)) same
-    (record { starts = counted.starts; begun = counted.begun; few = counted.few })
-
 module _ (sessions : List Kept) (kept after : background.Kept) (old new : Known) (between : IsBetween old sessions kept) (s : Stmt) (reply : Reply)
     (steps later : ℕ) (played : background.IsPlayed s kept old reply after new) (agrees : background.Agrees after new)
-    (counted : builds.IsCounted kept.who steps later old new) where
+    (counted : builds.IsCounted kept.who steps later old.log new.log) where
   who-is : kept.who ≡ BACKGROUND
   who-is = between.holding.who
 
@@ -294,7 +276,7 @@ module _ (sessions : List Kept) (kept after : background.Kept) (old new : Known)
   pub limits-command : new.limits ≡ old.limits
   limits-command = ap (λ (k : Known). k.limits) played.known
 
-  pub answer-command : (number : ℕ) → IsCommandAnswer old.limits.area steps later (command_of old.limits.area number s)
+  pub answer-command : (number : ℕ) → IsCommandAnswer steps later (command_of old.limits.area number s)
       (machine_of old sessions kept) reply (machine_of new sessions after)
   answer-command number = record {
     rounds = played.rounds;
@@ -305,7 +287,7 @@ module _ (sessions : List Kept) (kept after : background.Kept) (old new : Known)
         (subst (λ (l : Limits). Whole Nobody kept.who (command_amends kept.who tasks) old.log (command_plan l kept.who played.rounds tasks s) outcome new.log)
         between.limits command-alone);
     states_are = refl;
-    counted = command-counted old.limits.area kept.who steps later old new who-is counted;
+    counted = subst (λ (n : ℕ). builds.IsCounted n steps later old.log new.log) who-is counted;
   }
     where
       tasks : List Task
@@ -320,7 +302,7 @@ looked old now sessions kept same between = subst (λ (k : Known). IsBetween k s
 
 -- a line of the background
 pub answers-command : (area before after : ℕ) (line : Line) (s : Stmt) (old new : Machine) (reply : Reply) → line.kind ≡ kind.Background s
-    → ((number : ℕ) → IsCommandAnswer area before after (command_of area number s) old reply new) → Answers area before after line old (Some reply) new
+    → ((number : ℕ) → IsCommandAnswer before after (command_of area number s) old reply new) → Answers area before after line old (Some reply) new
 answers-command area before after line s old new reply is answer = record {
-  answered = subst (λ (k : LineKind). IsAnswered area before after (asked area line.number k) old (Some reply) new) (sym is) (answer line.number);
+  answered = subst (λ (k : LineKind). IsAnswered before after (asked area line.number k) old (Some reply) new) (sym is) (answer line.number);
 }

@@ -3,10 +3,9 @@ use Rattle.std.specs.Prelude.{◌≡◌, ℕ, zero, suc, ◌+◌, ◌≤◌, Boo
 use Rattle.im_history.specs.declared.task.Task.{Task}
 use Rattle.im_history.specs.History.{History}
 use Rattle.im_plan.specs.Alone.{Played, play, play_or_cut, may_lack}
-use Rattle.im_play.specs.Requests.{BACKGROUND, Command, Request, Demand, Nothing, Told, Asks, Orders, script_limits}
-use Rattle.im_reach.specs.Sides.{Known, sole}
+use Rattle.im_play.specs.Requests.{BACKGROUND, Command, Request, Demand, Nothing, Told, Asks, Orders}
 use Rattle.im_replies.specs.declared.reply.Reply.{Reply}
-use Rattle.im_session.specs.Reads.{IsCounted}
+use Rattle.im_session.specs.Reads.{IsCounted, reading_of}
 use Rattle.im_statements.specs.Agreement.{kept_by}
 use Rattle.im_statements.specs.Background as background
 use Rattle.im_statements.specs.Background.{Answered, OutOfRounds, drop_all}
@@ -138,36 +137,38 @@ are_lawful ways machine (Orders command ∷ demands) =
 
 -- ---- the rows that are read
 
--- what the only side of a store knows at a history
-abbrev pub alone_at : ℕ → History → Known
-alone_at area history = record { side = sole; limits = script_limits area; log = history; misses = 0 }
+-- the steps of a statement of a session that keeps this and that came to this outcome. Each comes to its end
+abbrev pub IsRequestCounted : Request → State → Outcome → ℕ → ℕ → History → History → Type 0
+IsRequestCounted request state (Replied reply effect) before after old new =
+    IsCounted (reading_of request.statement) state request.who reply before after old new
+IsRequestCounted request state Unfinished before after old new = ⊥
 
--- the steps grew so while these lines were played: with each statement of a session by the stale rows of the units and the rows of
--- the extents without one that its scan was served, and with each build by the rows of its extent
-abbrev pub AreCounted : ℕ → List Way → Machine → List Demand → ℕ → ℕ → Type 0
-AreCounted area ways machine [] before after = after ≤ before
-AreCounted area ways machine (Nothing ∷ demands) before after = AreCounted area ways machine demands before after
-AreCounted area ways machine (Told number reply ∷ demands) before after = AreCounted area ways machine demands before after
-AreCounted area ways machine (Asks request ∷ demands) before after =
+-- the steps grew so while these lines were played: with each statement of a session by the rows that its marks tell of, which are the
+-- stale rows of the units and the rows of the extents without one that it was served, and with each build by the rows of its extent
+abbrev pub AreCounted : List Way → Machine → List Demand → ℕ → ℕ → Type 0
+AreCounted ways machine [] before after = after ≤ before
+AreCounted ways machine (Nothing ∷ demands) before after = AreCounted ways machine demands before after
+AreCounted ways machine (Told number reply ∷ demands) before after = AreCounted ways machine demands before after
+AreCounted ways machine (Asks request ∷ demands) before after =
     let played = play_request (first_of ways) machine request in
-    (between : ℕ) × IsCounted request.who before between (alone_at area machine.history) (alone_at area played.history)
-    × AreCounted area (rest_of ways) (machine_after machine request played) demands between after
-AreCounted area ways machine (Orders command ∷ demands) before after =
+    (between : ℕ) × IsRequestCounted request (state_in machine request.who) played.result before between machine.history played.history
+    × AreCounted (rest_of ways) (machine_after machine request played) demands between after
+AreCounted ways machine (Orders command ∷ demands) before after =
     let played = play_command (first_of ways) machine command in
-    (between : ℕ) × builds.IsCounted BACKGROUND before between (alone_at area machine.history) (alone_at area played.history)
-    × AreCounted area (rest_of ways) (machine_behind machine played) demands between after
+    (between : ℕ) × builds.IsCounted BACKGROUND before between machine.history played.history
+    × AreCounted (rest_of ways) (machine_behind machine played) demands between after
 
 -- ---- what lines come to
 
 -- what lines ask for comes to these replies and this machine, and the steps grew by the rows that were read at most. `ways` says of
 -- each request and command whether it ran out of memory and after how many of its entries: these are the lines that are answered so,
 -- beside those whose reading ran out of it, and no others
-pub record Comes (area : ℕ) (machine : Machine) (demands : List Demand) (answers : List (ℕ × Reply)) (end : Machine) (before after : ℕ) : Type 0 where
+pub record Comes (machine : Machine) (demands : List Demand) (answers : List (ℕ × Reply)) (end : Machine) (before after : ℕ) : Type 0 where
   pub ways : List Way
   pub lawful : are_lawful ways machine demands ≡ true
   pub answers_are : answers ≡ replies ways machine demands
   pub end_is : end ≡ machine_behind_all ways machine demands
-  pub counted : AreCounted area ways machine demands before after
+  pub counted : AreCounted ways machine demands before after
 
 -- the reply of a line, where it has one, before those of others
 abbrev pub put : ℕ → Option Reply → List (ℕ × Reply) → List (ℕ × Reply)

@@ -13,17 +13,19 @@ use Rattle.im_statements.specs.Background.{command_amends, command_plan}
 use Rattle.im_statements.specs.Outcomes.{Outcome, State}
 use Rattle.im_statements.specs.Statements.{statement_plan}
 use Rattle.im_statements.specs.Turns.{amends, fault_reply, memory_reply}
+use Rattle.im_syntax.specs.declared.statement.Stmt.{Stmt}
 use Rattle.im_values.specs.declared.limits.TheConstants.{MOST_CHANGES, MOST_WEIGHT}
 
 -- the limits of the store that a script is played over, whose column units may take so many bytes together
 abbrev pub script_limits : ℕ → Limits
 script_limits area = record { area = area; store = MOST_WEIGHT; changes = MOST_CHANGES }
 
--- what a statement asks for: the number of its line, the session that plays it, its plan, which knows what that session keeps, and
--- how it is amended where it runs out of memory after so many entries
+-- what a statement asks for: the number of its line, the session that plays it, itself, its plan, which knows what that session keeps,
+-- and how it is amended where it runs out of memory after so many entries
 pub record Request : Type 0 where
   pub number : ℕ
   pub who : ℕ
+  pub statement : Stmt
   pub plan : State → Plan Outcome
   pub amends : ℕ → Plan Outcome
 
@@ -63,8 +65,13 @@ asked area number line.Skip = Nothing
 asked area number line.Race = Nothing
 asked area number (line.Long length) = Told number (fault_reply (fault.LineTooLong length))
 asked area number (line.Bad byte) = Told number (fault_reply (fault.Syntax byte))
-asked area number (line.Session who statement) = Asks
-    (record { number = number; who = who; plan = λ state. statement_plan (script_limits area) who state statement; amends = amends who })
+asked area number (line.Session who statement) = Asks (record {
+  number = number;
+  who = who;
+  statement = statement;
+  plan = λ state. statement_plan (script_limits area) who state statement;
+  amends = amends who;
+})
 asked area number (line.Background statement) = Orders (record {
   number = number;
   plan = λ rounds builds. command_plan (script_limits area) BACKGROUND rounds builds statement;

@@ -97,7 +97,7 @@ fn play_statement<R: Wait, H: Reach<ColumnUnit>, G: Gate, L: Ledger>(
     requires between { IsBetween (H.known reach.old) players.old.sessions.items players.old.background }
     ensures between { IsBetween (H.known reach.new) players.new.sessions.items players.new.background }
     ensures limits { (H.known reach.new).limits ≡ (H.known reach.old).limits }
-    ensures answer { (number : ℕ) → IsAnswer (H.known reach.old).limits.area steps.old steps.new
+    ensures answer { (number : ℕ) → IsAnswer steps.old steps.new
         (request_of (H.known reach.old).limits.area number who statement.now)
         (machine_of (H.known reach.old) players.old.sessions.items players.old.background) result
         (machine_of (H.known reach.new) players.new.sessions.items players.new.background) }
@@ -127,7 +127,7 @@ fn play_command<R: Wait, H: Reach<ColumnUnit>, G: Gate, L: Ledger>(
     requires between { IsBetween (H.known reach.old) players.old.sessions.items players.old.background }
     ensures between { IsBetween (H.known reach.new) players.new.sessions.items players.new.background }
     ensures limits { (H.known reach.new).limits ≡ (H.known reach.old).limits }
-    ensures answer { (number : ℕ) → IsCommandAnswer (H.known reach.old).limits.area steps.old steps.new
+    ensures answer { (number : ℕ) → IsCommandAnswer steps.old steps.new
         (command_of (H.known reach.old).limits.area number statement.now)
         (machine_of (H.known reach.old) players.old.sessions.items players.old.background) result
         (machine_of (H.known reach.new) players.new.sessions.items players.new.background) }
@@ -185,8 +185,7 @@ pub fn play_lines<R: Wait, H: Reach<ColumnUnit>, G: Gate, L: Ledger>(
     requires between { IsBetween (H.known reach.old) players.old.sessions.items players.old.background }
     ensures between { IsBetween (H.known reach.new) players.new.sessions.items players.new.background }
     ensures limits { (H.known reach.new).limits ≡ (H.known reach.old).limits }
-    ensures comes { IfOk result (λ replies. Comes (H.known reach.old).limits.area
-        (machine_of (H.known reach.old) players.old.sessions.items players.old.background)
+    ensures comes { IfOk result (λ replies. Comes (machine_of (H.known reach.old) players.old.sessions.items players.old.background)
         (demands_of (H.known reach.old).limits.area lines.now) replies.items
         (machine_of (H.known reach.new) players.new.sessions.items players.new.background) steps.old steps.new) }
 {

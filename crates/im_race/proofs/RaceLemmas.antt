@@ -77,7 +77,7 @@ module _ (area workers turns : ℕ) (lines : List Line) (machine : Machine) (now
       (subst (λ (h : History). HasPlayed area who (slice_index_or (map (λ (s : Kept). state_of s.cursors) sessions) who fresh) h
       (filter (λ (answer : Answer). names who answer.line.who) beside.answers) report.history) base (beside.jobs who job))
 
-  pub raced-lines : (before after : ℕ) → Comes area idle (demands_of area (prelude_of lines)) report.prelude machine before after
+  pub raced-lines : (before after : ℕ) → Comes idle (demands_of area (prelude_of lines)) report.prelude machine before after
       → IsRace area workers turns lines report
   raced-lines before after comes = record {
     machine = machine;
@@ -102,7 +102,7 @@ module _ (area workers turns : ℕ) (lines : List Line) (machine : Machine) (now
 pub raced-script : (area workers turns given : ℕ) (script : List ℕ) (lines prelude behind : List Line) (start machine : Machine) (now : Known)
     (sessions : List Kept) (kept : background.Kept) (report : Report) (replies : List (ℕ × Reply)) (before after : ℕ) → given ≡ area
     → AreLines 1 (lines_of script) lines → prelude ≡ prelude_of lines → behind ≡ behind_of lines → start ≡ idle
-    → Comes given start (demands_of given prelude) replies machine before after → machine_of now sessions kept ≡ without_builds machine
+    → Comes start (demands_of given prelude) replies machine before after → machine_of now sessions kept ≡ without_builds machine
     → IsBeside area workers turns sessions now.log behind report → report.prelude ≡ replies → IsRaceOf area workers turns script report
 raced-script area workers turns given script lines prelude behind start machine now sessions kept report replies before after given_is are prelude_is behind_is
     start_is comes dropped beside replies_are = record {
@@ -111,10 +111,10 @@ raced-script area workers turns given script lines prelude behind start machine 
       race =
           raced-lines area workers turns lines machine now sessions kept report dropped
           (subst (λ (l : List Line). IsBeside area workers turns sessions now.log l report) behind_is beside) before after
-          (subst (λ (l : List (ℕ × Reply)). Comes area idle (demands_of area (prelude_of lines)) l machine before after) (sym replies_are)
-          (subst (λ (m : Machine). Comes area m (demands_of area (prelude_of lines)) replies machine before after) start_is
-          (subst (λ (l : List Line). Comes area start (demands_of area l) replies machine before after) prelude_is
-          (subst (λ (n : ℕ). Comes n start (demands_of n prelude) replies machine before after) given_is comes))));
+          (subst (λ (l : List (ℕ × Reply)). Comes idle (demands_of area (prelude_of lines)) l machine before after) (sym replies_are)
+          (subst (λ (m : Machine). Comes m (demands_of area (prelude_of lines)) replies machine before after) start_is
+          (subst (λ (l : List Line). Comes start (demands_of area l) replies machine before after) prelude_is
+          (subst (λ (n : ℕ). Comes start (demands_of n prelude) replies machine before after) given_is comes))));
     }
 
 -- two facts of an answer give a third

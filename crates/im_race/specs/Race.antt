@@ -48,7 +48,7 @@ pub record IsRace (area workers turns : ℕ) (lines : List Line) (report : Repor
   pub machine : Machine
   pub before : ℕ
   pub after : ℕ
-  pub prelude : Comes area idle (demands_of area (prelude_of lines)) report.prelude machine before after
+  pub prelude : Comes idle (demands_of area (prelude_of lines)) report.prelude machine before after
   -- the history goes on from it by entries of those who take part, and is legal
   pub grew : After (All (λ (entry : Entry). takes_part (raced lines) workers entry.who ≡ true)) (base_of machine) report.history
   pub lawful : IsLawful (script_limits area) report.history

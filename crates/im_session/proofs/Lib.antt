@@ -1,4 +1,5 @@
 mod AssignLemmas
+mod CountLemmas
 mod CursorLemmas
 mod DefinitionLemmas
 mod EndLemmas

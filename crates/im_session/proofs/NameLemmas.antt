@@ -1,5 +1,5 @@
 -- From a statement to what its names come to, and the commit before a definition.
-use Rattle.std.proofs.Common.{◌≡◌, ℕ, ◌==◌, ◌⊎◌, inl, inr, Bool, true, false, if◌then◌else◌, List, [], ◌∷◌, ◌++◌, Option, Some, None, is_some, Result, Ok, Err, refl, sym, ap, ◌∙◌, subst, arith}
+use Rattle.std.proofs.Common.{◌≡◌, ℕ, ◌⊎◌, inl, inr, Bool, true, false, List, Some, is_some, Result, Ok, Err, refl, sym, ap, ◌∙◌, subst}
 use Rattle.std.specs.List.{list_any}
 use Rattle.std.specs.Result.{IfOk}
 use Rattle.im_history.specs.declared.entry.What.TheVariants as what
@@ -21,8 +21,9 @@ use Rattle.im_reach.specs.Sides.{Added, Found, Known, speaks}
 use Rattle.im_replies.specs.declared.body.Body.TheVariants.{Error}
 use Rattle.im_replies.specs.declared.reply.Reply.{Reply}
 use Rattle.im_replies.specs.Causes.{name_fault}
-use Rattle.im_session.specs.inner.Names.{defines}
+use Rattle.im_session.specs.inner.Names.{defines, reading_in}
 use Rattle.im_session.specs.inner.Rests.{IsRest}
+use Rattle.im_session.specs.Reads.{Nothing, Own, Reading, reading_of}
 use Rattle.im_session.proofs.OtherLemmas.{begun-added, opened-added}
 use Rattle.im_session.proofs.RestLemmas.{rest-adds, rest-end, rest-lacks_here, rest-look}
 use Rattle.im_statements.proofs.AnswerLaws.{formed-each, of_table-each, unless-each}
@@ -56,6 +57,30 @@ defines-answer ts _ = refl
 -- what a statement resolves to defines a table where the statement does
 pub defines-resolved : (ts : List TableInfo) (s : Stmt) (r : Resolved) → answer ts s ≡ Ok r → defines r ≡ is_definition s
 defines-resolved ts s r is = subst (λ (found : Result Resolved NameFault). IfOk found (Defines (is_definition s))) is (defines-answer ts s)
+
+-- ---- what is read
+
+-- it reads for this
+abbrev ReadsFor : Reading → Resolved → Type 0
+ReadsFor reading r = reading_in r ≡ reading
+
+reading-answer : (ts : List TableInfo) (s : Stmt) → IfOk (answer ts s) (ReadsFor (reading_of s))
+reading-answer ts (stmt.Select q) = formed-each (ReadsFor Own) resolved.Select (λ bound. refl) (query_answer ts q)
+reading-answer ts (stmt.Explain q) = formed-each (ReadsFor Own) resolved.Explain (λ bound. refl) (query_answer ts q)
+reading-answer ts (stmt.OpenFor cursor q) = formed-each (ReadsFor Nothing) (resolved.OpenFor cursor) (λ bound. refl) (query_answer ts q)
+reading-answer ts (stmt.Create name columns block extent memory) = unless-each (ReadsFor Nothing) _ _ refl
+reading-answer ts (stmt.AlterMemory name memory) = of_table-each (ReadsFor Nothing) (table_called ts name) name _ (λ table. refl)
+reading-answer ts (stmt.AlterNoMemory name) = of_table-each (ReadsFor Nothing) (table_called ts name) name _ (λ table. refl)
+reading-answer ts (stmt.Insert name names tuples) =
+    of_table-each (ReadsFor Nothing) (table_called ts name) name _ (λ table. unless-each (ReadsFor Nothing) _ _ refl)
+reading-answer ts (stmt.Update name sets cond) = of_table-each (ReadsFor Own) (table_called ts name) name _ (λ table. unless-each (ReadsFor Own) _ _ refl)
+reading-answer ts (stmt.Delete name cond) = of_table-each (ReadsFor Own) (table_called ts name) name _ (λ table. unless-each (ReadsFor Own) _ _ refl)
+reading-answer ts (stmt.Evict name extent) = of_table-each (ReadsFor Nothing) (table_called ts name) name _ (λ table. refl)
+reading-answer ts _ = refl
+
+-- what a statement resolves to reads for what the statement does
+pub reading-resolved : (ts : List TableInfo) (s : Stmt) (r : Resolved) → answer ts s ≡ Ok r → reading_in r ≡ reading_of s
+reading-resolved ts s r is = subst (λ (found : Result Resolved NameFault). IfOk found (ReadsFor (reading_of s))) is (reading-answer ts s)
 
 -- ---- names
 

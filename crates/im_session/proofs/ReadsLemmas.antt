@@ -1,17 +1,25 @@
 -- The rows that scans read from the blocks, counted.
-use Rattle.std.proofs.Common.{Bool, ◌≡◌, ℕ, suc, ◌+◌, ◌≤◌, true, List, [], ◌∷◌, ◌++◌, length, sym, ap, ◌∙◌, subst, arith, append-nil, append_assoc, length-append}
-use Rattle.std.specs.List.{AllByRecursion}
-use Rattle.im_core.specs.Answers.{cursor_view, no_view}
+use Rattle.std.proofs.Common.{◌≡◌, ℕ, suc, ◌+◌, ◌*◌, ◌≤◌, true, List, [], ◌∷◌, ◌++◌, length, Option, Some, None, refl, sym, ap, ◌∙◌, arith, append-nil, append_assoc, length-append}
+use Rattle.std.specs.List.{AllByRecursion, range_with_len}
+use Rattle.std.specs.Option.{option_map}
+use Rattle.std.proofs.lemmas.List.{length-map}
+use Rattle.std.proofs.lemmas.List.FromFn.{length-range_with_len}
+use Rattle.std.proofs.lemmas.List.Sums.{sum-map, sum_by_push}
+use Rattle.im_core.specs.Answers.{cursor_view}
 use Rattle.im_history.specs.declared.entry.What.{What}
 use Rattle.im_history.specs.declared.view.View.{View}
 use Rattle.im_history.specs.History.{History}
-use Rattle.im_history.specs.Serving.{fetched_in}
+use Rattle.im_history.specs.Serving.{fetched_by, fetched_in, rows_in, serving, serving_content}
+use Rattle.im_history.specs.Units.{content_at}
 use Rattle.im_reach.specs.Sides.{Added, Found, Known, speaks}
-use Rattle.im_session.specs.declared.cursor.Cursor.{Cursor}
+use Rattle.im_replies.specs.declared.reply.Reply.{Reply}
+use Rattle.im_replies.specs.declared.served.Served.{Served}
+use Rattle.im_replies.specs.Mixes.{reads}
+use Rattle.im_scan.specs.Faces.{how_of}
 use Rattle.im_session.specs.inner.Scans.{IsScan, Longer, Went}
-use Rattle.im_session.specs.Reads.{AreRead, IsCounted, IsMoment, rows_read}
-use Rattle.im_session.specs.Sessions.{Kept}
+use Rattle.im_session.specs.Reads.{AreRead, IsCounted, IsMoment, IsSpan, Lacked, Left, Marked, Next, Nothing, Own, Reading, Span, Unread, reads_of, rows_read}
 use Rattle.im_session.proofs.ScanLemmas.{longer-went, scan-went, view-scan, went-found}
+use Rattle.im_statements.specs.Outcomes.{State}
 
 -- ---- longer histories
 
@@ -143,51 +151,59 @@ extent-read who cursor view extent before after old new P mine scan found few = 
     here : IsScan who cursor view new
     here = scan-went who cursor view old new mine went scan
 
--- ---- the steps of a statement
+-- ---- what marks tell of
 
--- it read nothing
-pub none-counted : (who before after : ℕ) (old new : Known) → after ≤ before → IsCounted who before after old new
-none-counted who before after old new few = record {
-  cursor = 0;
-  view = no_view;
-  from = 0;
-  upto = 0;
-  within = omega arith;
-  read = none-read who 0 no_view 0 before after old new few;
-}
+-- an extent that is served so
+pub reads-read : (h : History) (view : View) (extent : ℕ)
+    → reads view extent (how_of (serving_content h view extent) (fetched_in h view extent)) ≡ length (fetched_in h view extent)
+reads-read h view extent = by (serving h view extent)
+  where
+    by : (unit : Option ℕ)
+        → reads view extent (how_of (option_map (content_at h view.table extent) unit) (fetched_by h view extent unit)) ≡ length (fetched_by h view extent unit)
+    by None = sym (length-map (range_with_len (extent * view.per) (rows_in view extent)) _ ∙ length-range_with_len (extent * view.per) (rows_in view extent))
+    by (Some unit_scn) = refl
 
--- it read these extents
-pub read-counted : (who cursor : ℕ) (view : View) (from upto before after : ℕ) (old new : Known) → upto ≤ view.extents
-    → AreRead who cursor view from upto before after old.log new.log → IsCounted who before after old new
-read-counted who cursor view from upto before after old new within read = record {
-  cursor = cursor;
-  view = view;
-  from = from;
-  upto = upto;
-  within = within;
-  read = read;
-}
+-- one mark more
+reads_of-push : (view : View) (marks : List Served) (mark : Served)
+    → reads_of view (marks ++ mark ∷ []) ≡ reads_of view marks + reads view mark.extent mark.how
+reads_of-push view marks mark =
+    sum-map by (marks ++ mark ∷ [])
+    ∙ (sum_by_push by marks mark ∙ ap (λ (n : ℕ). n + reads view mark.extent mark.how) (sym (sum-map by marks)))
+  where
+    by : Served → ℕ
+    by told = reads view told.extent told.how
+
+pub rows-next : (view : View) (extent a b c : ℕ) (marks behind : List Served) (mark : Served) → mark.extent ≡ extent
+    → behind ≡ marks ++ mark ∷ [] → b ≤ a + reads_of view marks → c ≤ b + reads view extent mark.how → c ≤ a + reads_of view behind
+rows-next view extent a b c marks behind mark same is so_far more =
+    let told = reads_of-push view marks mark in
+    let here : reads view mark.extent mark.how ≡ reads view extent mark.how = ap (λ (n : ℕ). reads view n mark.how) same in
+    rw is (omega (arith, told, here, so_far, more))
+
+-- ---- the steps of a line
+
+span-within : (reading : Reading) (state : State) (who : ℕ) (first old new last : Known) → Longer first old → Longer new last → (span : Span)
+    → IsSpan reading state who old.log new.log span → IsSpan reading state who first.log last.log span
+span-within Nothing state who first old new last earlier later span is = is
+span-within Own state who first old new last earlier later span is = (
+  is.0,
+  moment-later who 0 span.view first new last later is.0 (moment-earlier who 0 span.view first old new earlier is.0 is.1),
+  is.2,
+)
+span-within (Next cursor) state who first old new last earlier later span is = is
+span-within (Left cursor) state who first old new last earlier later span is = is
 
 -- more came before it and behind it
-pub counted-within : (who before after : ℕ) (first old new last : Known) → Longer first old → Longer new last → IsCounted who before after old new
-    → IsCounted who before after first last
-counted-within who before after first old new last earlier later counted = record {
-  cursor = counted.cursor;
-  view = counted.view;
-  from = counted.from;
-  upto = counted.upto;
-  within = counted.within;
-  read = record {
-    moments = counted.read.moments;
-    each = moments-within who counted.cursor counted.view first old new last earlier later counted.read.moments counted.read.each;
-    count = counted.read.count;
-    few = counted.read.few;
-  };
-}
-
--- the session has this number
-pub session-counted : (session : Kept) (who : ℕ) (cursors : List Cursor) (in_transaction : Bool)
-    → session ≡ record { who = who; cursors = cursors; in_transaction = in_transaction } → (before after : ℕ) (old new : Known)
-    → IsCounted who before after old new → IsCounted session.who before after old new
-session-counted session who cursors in_transaction is before after old new =
-    subst (λ (n : ℕ). IsCounted n before after old new) (sym (ap (λ (k : Kept). k.who) is))
+pub counted-within : (reading : Reading) (state : State) (who : ℕ) (reply : Reply) (before after : ℕ) (first old new last : Known) → Longer first old
+    → Longer new last → IsCounted reading state who reply before after old.log new.log → IsCounted reading state who reply before after first.log last.log
+counted-within reading state who reply before after first old new last earlier later (Unread few) = Unread few
+counted-within reading state who reply before after first old new last earlier later (Marked span is few) =
+    Marked span (span-within reading state who first old new last earlier later span is) few
+counted-within reading state who reply before after first old new last earlier later (Lacked span is lacks upto within read) =
+    Lacked span (span-within reading state who first old new last earlier later span is) lacks upto within
+    (record {
+      moments = read.moments;
+      each = moments-within who span.cursor span.view first old new last earlier later read.moments read.each;
+      count = read.count;
+      few = read.few;
+    })

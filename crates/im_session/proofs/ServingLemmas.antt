@@ -18,7 +18,7 @@ use Rattle.im_plan.specs.Plan.{Plan}
 use Rattle.im_reach.specs.Sides.{Known, speaks}
 use Rattle.im_replies.specs.declared.served.How.TheVariants.{Unit as ByUnit}
 use Rattle.im_replies.specs.declared.served.Served.{Served}
-use Rattle.im_replies.specs.Mixes.{mix, mix_by}
+use Rattle.im_replies.specs.Mixes.{mix, mix_by, reads}
 use Rattle.im_scan.specs.Faces.{how_of}
 use Rattle.im_scan.specs.Parts.{MayAsk}
 use Rattle.im_scan.specs.Pinned.{IsPinned, seen_all, seen_in, seen_to}
@@ -27,10 +27,10 @@ use Rattle.im_session.specs.declared.cursor.Cursor.{Cursor}
 use Rattle.im_session.specs.declared.serving.Wanted.{Wanted}
 use Rattle.im_session.specs.declared.serving.Wanted.TheVariants.{Parts as AllParts, Marks}
 use Rattle.im_session.specs.inner.Scans.{Comes, IsRead, IsScan, Stops, Went}
-use Rattle.im_session.specs.inner.Serving.{wanted_of}
+use Rattle.im_session.specs.inner.Serving.{HasRead, wanted_of}
 use Rattle.im_session.specs.Cursors.{MayAskIn}
-use Rattle.im_session.specs.Reads.{AreRead, IsCounted}
-use Rattle.im_session.proofs.ReadsLemmas.{more-read, read-counted}
+use Rattle.im_session.specs.Reads.{AreRead}
+use Rattle.im_session.proofs.ReadsLemmas.{more-read, reads-read}
 use Rattle.im_session.proofs.ScanLemmas.{asks-went, longer-went, scan-went, stops-went, view-scan}
 use Rattle.im_session.proofs.TableLemmas.{asks-of}
 use Rattle.im_statements.specs.Outcomes.{Outcome}
@@ -94,6 +94,11 @@ how-read h view extent filter = by (serving h view extent)
     by : (unit : Option ℕ) → how_of (option_map (content_at h view.table extent) unit) (fetched_by h view extent unit) ≡ mix_by h view extent unit
     by None = refl
     by (Some unit_scn) = ap (ByUnit unit_scn) (length-map (stale h view.table extent unit_scn view.scn) _)
+
+-- and so many rows were read from the blocks for it
+pub rows-read : (h : History) (view : View) (extent place : ℕ) (unit : Option Content) (fetched : List (ℕ × Option Row))
+    → IsRead h view extent place unit fetched → reads view extent (how_of unit fetched) ≡ length fetched
+rows-read h view extent place unit fetched read = rw (read.unit_is, read.fetched_is) (reads-read h view extent)
 
 -- ---- parts
 
@@ -165,6 +170,5 @@ module _ (who : ℕ) (cursor : Cursor) (extent : ℕ) (first old new : Known) (s
         more-read who cursor.number cursor.view cursor.next extent (extent + 1) a b c first old new
         (longer-went first old went) (longer-went old new served) so_far more
 
-    pub counted-served : extent < cursor.view.extents → IsCounted who a c first new
-    counted-served within =
-        read-counted who cursor.number cursor.view cursor.next (extent + 1) a c first new (omega (arith, within)) read-served
+    pub has-served : extent < cursor.view.extents → HasRead who cursor a c first.log new.log
+    has-served within = record { upto = extent + 1; within = omega (arith, within); read = read-served }

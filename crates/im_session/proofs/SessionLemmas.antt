@@ -22,11 +22,14 @@ use Rattle.im_session.specs.declared.cursor.Cursor.{Cursor}
 use Rattle.im_session.specs.declared.playing.Use.{Use}
 use Rattle.im_session.specs.declared.playing.Use.TheVariants.{Step, Fetch, Close}
 use Rattle.im_session.specs.Cursors.{IsSound, query_of}
+use Rattle.im_session.specs.Reads.{IsCounted, Reading}
 use Rattle.im_session.specs.Sessions.{Agrees, AreApart, IsPlayed, Kept, state_of}
 use Rattle.im_session.specs.inner.Cursors.{IsKept, fetch_outcome, opening_outcome, query_after, step_outcome}
+use Rattle.im_session.specs.inner.Names.{reading_in}
 use Rattle.im_session.specs.inner.Rests.{IsRest}
 use Rattle.im_session.specs.inner.Running.{AreKept, IsRun, is_number, plan_over}
 use Rattle.im_session.specs.inner.Scans.{Longer}
+use Rattle.im_session.specs.inner.Serving.{IsCountedFor}
 use Rattle.im_session.proofs.CursorLemmas.{sound-longer}
 use Rattle.im_session.proofs.KeptLemmas.{IsFound, all-at, all-filter, all-last, all-map, all-set, apart-filter, apart-set, find-open, found-any, fresh-apart, kept-at, set-stays, set-steps, state-filter, state-last}
 use Rattle.im_session.proofs.NameLemmas.{named-fault, named-found}
@@ -197,6 +200,28 @@ is-open true e = absurd cc
 pub is-closed : (closed : Bool) → not closed ≡ false → closed ≡ true
 is-closed true e = refl
 is-closed false e = absurd cc
+
+-- a line over a cursor that was found reads so
+pub counted-kept : (reading : ℕ → Reading) (who : ℕ) (cursors : List Cursor) (number at : ℕ) (kept : Cursor) (reply : Reply) (before after : ℕ)
+    (old new : History) → IsFound number cursors at → kept ≡ slice_index_or cursors at kept → IsCountedFor reading kept who reply before after old new
+    → IsCounted (reading number) (state_of cursors) who reply before after old new
+counted-kept reading who cursors number at kept reply before after old new found value counted =
+    subst (λ (n : ℕ). IsCounted (reading n) (state_of cursors) who reply before after old new) same
+    (counted (state_of cursors)
+    (subst (λ (n : ℕ). query_at (state_of cursors) n ≡ Some (query_of kept)) (sym same)
+    (subst (λ (k : Cursor). query_at (state_of cursors) number ≡ Some (query_of k)) (sym is) found.query)))
+  where
+    is : kept ≡ found.kept
+    is = kept-at cursors at found.kept kept found.is value
+
+    same : kept.number ≡ number
+    same = ap (λ (k : Cursor). k.number) is ∙ found.same
+
+-- a statement whose names were found reads so
+pub counted-resolved : (r found : Resolved) → r ≡ found → (state : State) (who : ℕ) (reply : Reply) (before after : ℕ) (old new : History)
+    → IsCounted (reading_in found) state who reply before after old new → IsCounted (reading_in r) state who reply before after old new
+counted-resolved r found is state who reply before after old new =
+    subst (λ (x : Resolved). IsCounted (reading_in x) state who reply before after old new) (sym is)
 
 module _ (who : ℕ) (cursors : List Cursor) (old : Known) (here : AreKept who cursors old) where
   -- a cursor that is kept is open
@@ -391,6 +416,12 @@ agrees-played s before after now old new reply mine is agrees same told run = re
 -- the same of a session that is seen by its parts
 module _ (session : Kept) (who : ℕ) (cursors : List Cursor) (before : Bool)
     (is : session ≡ record { who = who; cursors = cursors; in_transaction = before }) (old : Known) where
+  -- its steps are those of what it keeps
+  pub session-counted : (reading : Reading) (reply : Reply) (steps later : ℕ) (first last : History)
+      → IsCounted reading (state_of cursors) who reply steps later first last → IsCounted reading (state_of session.cursors) session.who reply steps later first last
+  session-counted reading reply steps later first last =
+      subst (λ (k : Kept). IsCounted reading (state_of k.cursors) k.who reply steps later first last) (sym is)
+
   pub session-kept : Agrees session old → AreKept who cursors old
   session-kept agrees =
       let here : Agrees (record { who = who; cursors = cursors; in_transaction = before }) old = subst (λ (k : Kept). Agrees k old) is agrees in

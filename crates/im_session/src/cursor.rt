@@ -8,10 +8,11 @@ ghost use Rattle.im_history.specs.Views.{look_at};
 ghost use Rattle.im_names.specs.Fitting.{OfTable, QueryServes};
 ghost use Rattle.im_reach.specs.Sides.{speaks};
 ghost use Rattle.im_session.specs.Cursors.{query_of};
-ghost use Rattle.im_session.specs.Reads.{IsCounted};
+ghost use Rattle.im_session.specs.Reads.{Left, Next};
 ghost use Rattle.im_session.specs.inner.Cursors as inner;
 ghost use Rattle.im_session.specs.inner.Rests.{IsRest};
 ghost use Rattle.im_session.specs.inner.Running.{is_number};
+ghost use Rattle.im_session.specs.inner.Serving.{IsCountedFor};
 ghost use Rattle.im_statements.specs.Cursors as plan;
 ghost use Rattle.im_statements.specs.Outcomes.{Closes, Replied};
 
@@ -169,7 +170,7 @@ pub fn fetch<R: Wait, H: Reach<ColumnUnit>, G: Gate, L: Ledger>(
     ensures rest { IsRest context.now.who 0 (H.known reach.old) (plan.fetch_query (H.known reach.old).log (query_of kept.now))
         (inner.fetch_outcome kept.now.number result.reply result.closed) (H.known reach.new) }
     ensures agrees { result.closed ≡ false → inner.IsKept context.now.who kept.now (H.known reach.new) }
-    ensures ticks { IsCounted context.now.who steps.old steps.new (H.known reach.old) (H.known reach.new) }
+    ensures ticks { IsCountedFor Left kept.now context.now.who result.reply steps.old steps.new (H.known reach.old).log (H.known reach.new).log }
 {
     match answer_scan(context, reach, kept, steps) {
         Ok(answered) => {
@@ -211,7 +212,7 @@ pub fn step<R: Wait, H: Reach<ColumnUnit>, G: Gate, L: Ledger>(
         (inner.step_outcome kept.old.number result.reply result.served) (H.known reach.new) }
     ensures kept { query_of kept.new ≡ inner.query_after result.served (query_of kept.old) }
     ensures agrees { inner.IsKept context.now.who kept.new (H.known reach.new) }
-    ensures ticks { IsCounted context.now.who steps.old steps.new (H.known reach.old) (H.known reach.new) }
+    ensures ticks { IsCountedFor Next kept.old context.now.who result.reply steps.old steps.new (H.known reach.old).log (H.known reach.new).log }
 {
     if kept.next >= kept.view.extents {
         return StepOutcome {

@@ -7,10 +7,10 @@ ghost use Rattle.im_names.specs.Fitting.{OfTable, QueryServes, Serves};
 ghost use Rattle.im_reach.specs.Sides.{speaks};
 ghost use Rattle.im_replies.specs.declared.body.Body.TheVariants.{Error};
 ghost use Rattle.im_replies.specs.declared.fault.Fault.TheVariants as fault;
-ghost use Rattle.im_session.specs.Reads.{IsCounted};
+ghost use Rattle.im_session.specs.Reads.{IsCounted, reading_of};
 ghost use Rattle.im_session.specs.Sessions.{state_of};
-ghost use Rattle.im_session.specs.inner.Names.{defines};
-ghost use Rattle.im_session.specs.inner.Running.{AreKept, IsRun, is_number, plan_over};
+ghost use Rattle.im_session.specs.inner.Names.{defines, reading_in};
+ghost use Rattle.im_session.specs.inner.Running.{AreKept, IsRun, is_number, plan_over, reading_by};
 ghost use Rattle.im_statements.specs.Cursors as cursors;
 ghost use Rattle.im_statements.specs.Statements as plan;
 ghost use Rattle.im_statements.specs.Turns.{settled_reply};
@@ -53,7 +53,8 @@ pub fn run<R: Wait, H: Reach<ColumnUnit>, G: Gate, L: Ledger>(
     ensures run { IsRun context.now.who
         (plan.statement_plan (H.known reach.old).limits context.now.who (state_of kept.old.items) statement.now) kept.old.items
         (H.known reach.old) result kept.new.items (H.known reach.new) }
-    ensures ticks { IsCounted context.now.who steps.old steps.new (H.known reach.old) (H.known reach.new) }
+    ensures ticks { IsCounted (reading_of statement.now) (state_of kept.old.items) context.now.who result steps.old steps.new (H.known reach.old).log
+        (H.known reach.new).log }
 {
     if is_definition(statement) {
         return define(context, reach, statement);
@@ -86,7 +87,8 @@ fn play<R: Wait, H: Reach<ColumnUnit>, G: Gate, L: Ledger>(
     ensures run { IsRun context.now.who
         (plan.resolved_plan (H.known reach.old).limits context.now.who (state_of kept.old.items) (H.known reach.old).log resolved)
         kept.old.items (H.known reach.old) result kept.new.items (H.known reach.new) }
-    ensures ticks { IsCounted context.now.who steps.old steps.new (H.known reach.old) (H.known reach.new) }
+    ensures ticks { IsCounted (reading_in resolved) (state_of kept.old.items) context.now.who result steps.old steps.new (H.known reach.old).log
+        (H.known reach.new).log }
 {
     match resolved {
         Resolved::Select(bound) => scan(context, reach, bound, Purpose::Answer, steps),
@@ -176,7 +178,8 @@ fn on_cursor<R: Wait, H: Reach<ColumnUnit>, G: Gate, L: Ledger>(
     requires agrees { AreKept context.now.who kept.old.items (H.known reach.old) }
     ensures run { IsRun context.now.who (plan_over usage (state_of kept.old.items) (H.known reach.old).log number) kept.old.items
         (H.known reach.old) result kept.new.items (H.known reach.new) }
-    ensures ticks { IsCounted context.now.who steps.old steps.new (H.known reach.old) (H.known reach.new) }
+    ensures ticks { IsCounted (reading_by usage number) (state_of kept.old.items) context.now.who result steps.old steps.new (H.known reach.old).log
+        (H.known reach.new).log }
 {
     let Some(at) = place_of(kept.as_slice(), number) else {
         return unknown(context.alloc, look, number);

@@ -1,4 +1,4 @@
-ghost use Rattle.std.specs.Prelude.{◌≡◌, ◌<◌, ◌≤◌, length, true, false};
+ghost use Rattle.std.specs.Prelude.{◌≡◌, ◌<◌, ◌≤◌, ◌⊎◌, length, true, false};
 ghost use Rattle.im_history.specs.Cursors.{is_cursor_open};
 ghost use Rattle.im_history.specs.Legal.{MayWrite};
 ghost use Rattle.im_history.specs.Tables.{tables};
@@ -9,9 +9,9 @@ ghost use Rattle.im_session.specs.declared.scan.Purpose.TheVariants as purpose;
 ghost use Rattle.im_session.specs.inner.Purposes.{IsUsed, MayUse};
 ghost use Rattle.im_session.specs.inner.Rests.{IsRest};
 ghost use Rattle.im_session.specs.inner.Scans.{IsScan, IsShut, Longer};
-ghost use Rattle.im_session.specs.Reads.{IsCounted};
+ghost use Rattle.im_session.specs.Reads.{IsCounted, IsOutOfMemory, Own};
 ghost use Rattle.im_session.specs.inner.Writes as inner;
-ghost use Rattle.im_statements.specs.Outcomes.{said};
+ghost use Rattle.im_statements.specs.Outcomes.{State, said};
 ghost use Rattle.im_statements.specs.Writes as plan;
 
 use crate::changes::changes_to;
@@ -52,7 +52,7 @@ pub fn rewrite<R: Wait, H: Reach<ColumnUnit>, G: Gate, L: Ledger>(
     ensures rest { IsRest context.now.who 0 (H.known reach.old)
         (plan.unless_read_only context.now.who (H.known reach.old).log
         (plan.rewrite (H.known reach.old).limits context.now.who table filter rewriting)) (said result) (H.known reach.new) }
-    ensures ticks { IsCounted context.now.who steps.old steps.new (H.known reach.old) (H.known reach.new) }
+    ensures ticks { (state : State) → IsCounted Own state context.now.who result steps.old steps.new (H.known reach.old).log (H.known reach.new).log }
 {
     match look.mode {
         Mode::ReadOnly => Reply::settled(context.alloc, look.place, Body::Error(Fault::ReadOnly)),
@@ -77,7 +77,7 @@ fn rewrite_rows<R: Wait, H: Reach<ColumnUnit>, G: Gate, L: Ledger>(
     requires serves { OfTable (tables (H.known reach.old).log) table (inner.RewriteServes filter rewriting) }
     ensures rest { IsRest context.now.who 0 (H.known reach.old)
         (plan.rewrite (H.known reach.old).limits context.now.who table filter rewriting) (said result) (H.known reach.new) }
-    ensures ticks { IsCounted context.now.who steps.old steps.new (H.known reach.old) (H.known reach.new) }
+    ensures ticks { (state : State) → IsCounted Own state context.now.who result steps.old steps.new (H.known reach.old).log (H.known reach.new).log }
 {
     let bound = condition_query(context.alloc, table, filter);
     scan(context, reach, bound, Purpose::Rewrite(rewriting), steps)
@@ -109,7 +109,7 @@ pub fn rewrite_seen<R: Wait, H: Reach<ColumnUnit>, G: Gate, L: Ledger>(
     requires speaks { speaks (H.known reach.old).side context.now.who ≡ true }
     requires may { MayUse context.now.who (purpose.Rewrite rewriting.now) cursor.now (H.known reach.old) }
     ensures used { IsUsed context.now.who (purpose.Rewrite rewriting.now) cursor.now (H.known reach.old) result (H.known reach.new) }
-    ensures ticks { IsCounted context.now.who steps.old steps.new (H.known reach.old) (H.known reach.new) }
+    ensures ticks { (state : State) → IsCounted Own state context.now.who result steps.old steps.new (H.known reach.old).log (H.known reach.new).log }
 {
     match gather(context, reach, cursor, Wanted::Parts, steps) {
         Ok(gathered) => {
@@ -141,6 +141,7 @@ fn rewrite_kept<R: Wait, H: Reach<ColumnUnit>, G: Gate>(
         IsRest context.now.who 1 (H.known reach.old) (plan.write_or_end (H.known reach.old).limits context.now.who view.now.place view.now.scn marks
         (plan.changes_to view.now.table rewriting.now rows.items) (plan.written rewriting.now)) (said result) late }
     ensures longer { Longer (H.known reach.old) (H.known reach.new) }
+    ensures marks { (result.marks ≡ marks) ⊎ IsOutOfMemory result }
 {
     match changes_to(context.alloc, view.table, rewriting, rows) {
         Ok(changes) => write_changes(context, reach, view, marks, changes, rewriting),
@@ -167,6 +168,7 @@ fn write_changes<R: Wait, H: Reach<ColumnUnit>, G: Gate>(
         IsRest context.now.who 1 (H.known reach.old) (plan.write_or_end (H.known reach.old).limits context.now.who view.now.place view.now.scn marks
         changes.items (plan.written rewriting.now)) (said result) late }
     ensures longer { Longer (H.known reach.old) (H.known reach.new) }
+    ensures marks { (result.marks ≡ marks) ⊎ IsOutOfMemory result }
 {
     if changes.is_empty() {
         return Reply {

@@ -6,8 +6,8 @@ ghost use Rattle.im_reach.specs.Sides.{speaks};
 ghost use Rattle.im_session.specs.declared.scan.Purpose.TheVariants as purpose;
 ghost use Rattle.im_session.specs.inner.Purposes.{IsUsed, MayScanFor, MayUse, plan_of};
 ghost use Rattle.im_session.specs.inner.Rests.{IsRest};
-ghost use Rattle.im_session.specs.Reads.{IsCounted};
-ghost use Rattle.im_statements.specs.Outcomes.{said};
+ghost use Rattle.im_session.specs.Reads.{IsCounted, Own};
+ghost use Rattle.im_statements.specs.Outcomes.{State, said};
 ghost use Rattle.im_statements.specs.Scans as plan;
 
 use crate::context::Context;
@@ -56,7 +56,7 @@ pub fn scan<R: Wait, H: Reach<ColumnUnit>, G: Gate, L: Ledger>(
     requires may { MayScanFor purpose bound (tables (H.known reach.old).log) }
     ensures rest { IsRest context.now.who 0 (H.known reach.old) (plan_of (H.known reach.old).limits context.now.who bound purpose) (said result)
         (H.known reach.new) }
-    ensures ticks { IsCounted context.now.who steps.old steps.new (H.known reach.old) (H.known reach.new) }
+    ensures ticks { (state : State) → IsCounted Own state context.now.who result steps.old steps.new (H.known reach.old).log (H.known reach.new).log }
 {
     match open_cursor(context, reach, 0, bound) {
         Ok(cursor) => {
@@ -80,7 +80,7 @@ fn use_scan<R: Wait, H: Reach<ColumnUnit>, G: Gate, L: Ledger>(
     requires speaks { speaks (H.known reach.old).side context.now.who ≡ true }
     requires may { MayUse context.now.who purpose.now cursor.now (H.known reach.old) }
     ensures used { IsUsed context.now.who purpose.now cursor.now (H.known reach.old) result (H.known reach.new) }
-    ensures ticks { IsCounted context.now.who steps.old steps.new (H.known reach.old) (H.known reach.new) }
+    ensures ticks { (state : State) → IsCounted Own state context.now.who result steps.old steps.new (H.known reach.old).log (H.known reach.new).log }
 {
     match purpose {
         Purpose::Answer => answer_seen(context, reach, cursor, steps),
@@ -100,7 +100,7 @@ fn answer_seen<R: Wait, H: Reach<ColumnUnit>, G: Gate, L: Ledger>(
     requires speaks { speaks (H.known reach.old).side context.now.who ≡ true }
     requires may { MayUse context.now.who purpose.Answer cursor.now (H.known reach.old) }
     ensures used { IsUsed context.now.who purpose.Answer cursor.now (H.known reach.old) result (H.known reach.new) }
-    ensures ticks { IsCounted context.now.who steps.old steps.new (H.known reach.old) (H.known reach.new) }
+    ensures ticks { (state : State) → IsCounted Own state context.now.who result steps.old steps.new (H.known reach.old).log (H.known reach.new).log }
 {
     match answer_scan(context, reach, cursor, steps) {
         Ok(answered) => answered.reply(cursor.view.place, cursor.view.scn),
@@ -119,7 +119,7 @@ fn explain_seen<R: Wait, H: Reach<ColumnUnit>, G: Gate, L: Ledger>(
     requires speaks { speaks (H.known reach.old).side context.now.who ≡ true }
     requires may { MayUse context.now.who purpose.Explain cursor.now (H.known reach.old) }
     ensures used { IsUsed context.now.who purpose.Explain cursor.now (H.known reach.old) result (H.known reach.new) }
-    ensures ticks { IsCounted context.now.who steps.old steps.new (H.known reach.old) (H.known reach.new) }
+    ensures ticks { (state : State) → IsCounted Own state context.now.who result steps.old steps.new (H.known reach.old).log (H.known reach.new).log }
 {
     let Ok(gathered) = gather(context, reach, cursor, Wanted::Marks, steps) else {
         return out_of_memory(context.alloc, 1);

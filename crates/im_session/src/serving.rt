@@ -1,4 +1,4 @@
-ghost use Rattle.std.specs.Prelude.{◌≡◌, ◌<◌, ◌+◌, ◌++◌, [], ◌∷◌, ℕ, List, true, IfOk, IfErr, OnOk};
+ghost use Rattle.std.specs.Prelude.{◌≡◌, ◌<◌, ◌≤◌, ◌+◌, ◌++◌, [], ◌∷◌, ℕ, List, length, true, IfOk, IfErr, OnOk};
 ghost use Rattle.std.specs.Arc.{arc_value};
 ghost use Rattle.std.specs.Option.{option_map};
 ghost use Rattle.im_group.specs.Answers.{answer};
@@ -8,12 +8,13 @@ ghost use Rattle.im_plan.specs.Plan.{Plan};
 ghost use Rattle.im_reach.specs.Sides.{speaks};
 ghost use Rattle.im_replies.specs.declared.body.Body.TheVariants as body;
 ghost use Rattle.im_replies.specs.declared.served.Served.{Served as Mark};
+ghost use Rattle.im_replies.specs.Mixes.{reads};
 ghost use Rattle.im_scan.specs.Faces.{how_of};
 ghost use Rattle.im_scan.specs.Pinned.{seen_all, seen_in};
 ghost use Rattle.im_session.specs.inner.Cursors.{IsKept};
 ghost use Rattle.im_session.specs.inner.Scans.{Comes, IsRead, Stops, Went};
-ghost use Rattle.im_session.specs.inner.Serving.{wanted_of};
-ghost use Rattle.im_session.specs.Reads.{AreRead, IsCounted};
+ghost use Rattle.im_session.specs.inner.Serving.{HasRead, wanted_of};
+ghost use Rattle.im_session.specs.Reads.{AreRead, reads_of};
 ghost use Rattle.im_session.specs.declared.serving.Wanted.TheVariants.{Marks};
 ghost use Rattle.im_statements.specs.Outcomes.{Outcome};
 ghost use Rattle.im_statements.specs.Scans as plan;
@@ -61,6 +62,7 @@ fn read<R: Wait, H: Reach<ColumnUnit>, G: Gate, L: Ledger>(
     ensures read { IfOk result (λ pin. IsRead (H.known reach.new).log cursor.now.view extent pin.place (option_map arc_value pin.unit) pin.fetched) }
     ensures ticks { AreRead context.now.who cursor.now.number cursor.now.view extent (extent + 1) steps.old steps.new (H.known reach.old).log
         (H.known reach.new).log }
+    ensures rows { IfOk result (λ pin. steps.new ≤ steps.old + length pin.fetched) }
 {
     let at = At::Step {
         cursor: cursor.number,
@@ -115,6 +117,7 @@ pub fn served_part<R: Wait, H: Reach<ColumnUnit>, G: Gate, L: Ledger>(
         served.part ≡ group.partial cursor.now.bound (wanted_of wanted (seen_in (H.known reach.old).log cursor.now.view extent))) }
     ensures ticks { AreRead context.now.who cursor.now.number cursor.now.view extent (extent + 1) steps.old steps.new (H.known reach.old).log
         (H.known reach.new).log }
+    ensures rows { IfOk result (λ served. steps.new ≤ steps.old + reads cursor.now.view extent served.mark.how) }
 {
     let pin = read(context, reach, cursor, extent, steps)?;
     let (alloc, view, bound) = (context.alloc, &cursor.view, &cursor.bound);
@@ -174,7 +177,8 @@ pub fn gather<R: Wait, H: Reach<ColumnUnit>, G: Gate, L: Ledger>(
     ensures err { IfErr result (λ lacks. (k : ℕ) (on : List Mark → Plan Outcome) →
         Stops context.now.who k (H.known reach.old) (plan.serve_from cursor.now.view cursor.now.bound.filter cursor.now.next on)
         (H.known reach.new)) }
-    ensures ticks { IsCounted context.now.who steps.old steps.new (H.known reach.old) (H.known reach.new) }
+    ensures ticks { HasRead context.now.who cursor.now steps.old steps.new (H.known reach.old).log (H.known reach.new).log }
+    ensures rows { IfOk result (λ gathered. steps.new ≤ steps.old + reads_of cursor.now.view gathered.marks.items) }
 {
     let mut gathered = Gathered {
         marks: Vec::new(context.alloc),
@@ -228,7 +232,8 @@ pub fn answer_scan<R: Wait, H: Reach<ColumnUnit>, G: Gate, L: Ledger>(
     ensures err { IfErr result (λ lacks. (k : ℕ) (on : List Mark → Plan Outcome) →
         Stops context.now.who k (H.known reach.old) (plan.serve_from cursor.now.view cursor.now.bound.filter cursor.now.next on)
         (H.known reach.new)) }
-    ensures ticks { IsCounted context.now.who steps.old steps.new (H.known reach.old) (H.known reach.new) }
+    ensures ticks { HasRead context.now.who cursor.now steps.old steps.new (H.known reach.old).log (H.known reach.new).log }
+    ensures rows { IfOk result (λ answered. steps.new ≤ steps.old + reads_of cursor.now.view answered.marks) }
 {
     let gathered = gather(context, reach, cursor, Wanted::Parts, steps)?;
     let Gathered { marks, part } = gathered;

@@ -2,8 +2,8 @@ ghost use Rattle.std.specs.Prelude.{◌≡◌, ◌<◌, [], true, false, OnOk, O
 ghost use Rattle.im_history.specs.Leaves.{has_left};
 ghost use Rattle.im_reach.specs.Sides.{speaks};
 ghost use Rattle.im_session.specs.Ends.{IsEnded, end_plan, end_without_leave};
-ghost use Rattle.im_session.specs.Reads.{IsCounted};
-ghost use Rattle.im_session.specs.Sessions.{Agrees, IsPlayed};
+ghost use Rattle.im_session.specs.Reads.{IsCounted, reading_of};
+ghost use Rattle.im_session.specs.Sessions.{Agrees, IsPlayed, state_of};
 ghost use Rattle.im_syntax.specs.Rules.{IsStmt};
 
 use crate::context::Context;
@@ -64,8 +64,8 @@ impl Session {
     /// Plays one statement, and answers it.
     ///
     /// A statement of the background is not a session's: nothing is done, and the reply says so. The gate is called before and
-    /// after each extent that a scan is served, outside the store's turn. Each row that a scan reads from the blocks is one step
-    /// at most, also where memory is out.
+    /// after each extent that a scan is served, outside the store's turn. Each row that is read from the blocks is one step at
+    /// most: no more than the marks of the reply tell of, and where memory is out no extent twice.
     pub fn execute<R: Wait, H: Reach<ColumnUnit>, G: Gate, L: Ledger>(
         &mut self,
         rt: &R,
@@ -80,7 +80,8 @@ impl Session {
         requires agrees { Agrees self.old (H.known reach.old) }
         ensures played { IsPlayed statement.now self.old (H.known reach.old) result self.new (H.known reach.new) }
         ensures agrees { Agrees self.new (H.known reach.new) }
-        ensures ticks { IsCounted self.old.who steps.old steps.new (H.known reach.old) (H.known reach.new) }
+        ensures ticks { IsCounted (reading_of statement.now) (state_of self.old.cursors) self.old.who result steps.old steps.new
+            (H.known reach.old).log (H.known reach.new).log }
     {
         let before = self.in_transaction;
         let context = Context {

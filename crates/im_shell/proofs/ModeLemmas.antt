@@ -2,7 +2,7 @@
 use Rattle.std.proofs.Common.{◌≡◌, ℕ, List, Option, None, Some, Result, Ok, Err, OnErr, ◌⊎◌, inl, inr, sym, ◌∙◌, subst}
 use Rattle.im_race.specs.Race.{IsRaceOf}
 use Rattle.im_race.specs.Report.{Report}
-use Rattle.im_shell.specs.Play.{AreMeant, Does, DoesInPart, DoneFor, InPartFor, OfScript, RacesInPart}
+use Rattle.im_shell.specs.Play.{AreMeant, Does, DoesInPart, DoneFor, InPartFor, IsUncounted, OfScript, RacesInPart}
 use Rattle.im_shell.specs.Reports.{report_text}
 use Rattle.im_shell.specs.inner.Sent.{SendsPart}
 use Rattle.im_words.specs.declared.asked.Asked.{Asked}
@@ -48,11 +48,13 @@ module _ (words : List (List ℕ)) (asked : Asked) (left before after : Option (
   }
 
   -- or in part
-  pub in-part-for : {A : Type 0} → A ⊎ DoesInPart asked.mode asked played before after → A ⊎ InPartFor words left before after
-  in-part-for (inl kept) = inl kept
-  in-part-for (inr does) = inr (record {
+  pub in-part-for : {A : Type 0} (steps_before steps_after : ℕ)
+      → ((asked.mode ≡ Race) × A) ⊎ DoesInPart asked.mode asked played before after steps_before steps_after
+      → (A × IsUncounted words steps_before steps_after) ⊎ InPartFor words left before after steps_before steps_after
+  in-part-for steps_before steps_after (inl (race, kept)) = inl (kept, inr (record { asked = asked; taken = taken; race = race }))
+  in-part-for steps_before steps_after (inr does) = inr (record {
     asked = asked;
     taken = taken;
     meant = meant;
-    does = of-script asked.mode asked left (λ bytes. DoesInPart asked.mode asked bytes before after) script played is same does;
+    does = of-script asked.mode asked left (λ bytes. DoesInPart asked.mode asked bytes before after steps_before steps_after) script played is same does;
   })

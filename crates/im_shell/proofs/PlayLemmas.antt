@@ -18,7 +18,7 @@ use Rattle.im_script.specs.Lines.{AreLines, IsLine, HasKind, no_memory}
 use Rattle.im_shell.specs.declared.shown.Shown.{Shown}
 use Rattle.im_shell.specs.Play.{ComesOf, IsPlayed, IsPlayedInPart, Plays, PlaysInPart}
 use Rattle.im_shell.specs.Texts.{text_of, text_shown}
-use Rattle.im_shell.specs.inner.Going.{text_put, IsSoFar, PlaysNext}
+use Rattle.im_shell.specs.inner.Going.{text_put, IsSoFar, PlaysNext, PlaysNextPart}
 use Rattle.im_shell.specs.inner.Sent.{Sends, SendsPart}
 use Rattle.im_shell.proofs.SentLemmas.{Sends-start, Sends-none, Sends-more, Sends-after}
 
@@ -55,7 +55,7 @@ module _ (area : ℕ) (machine : Machine) where
   -- what these come to is played with nothing to choose, at these steps
   record AreTold (demands : List Demand) (steps : ℕ) : Type 0 where
     pub lawful : are_lawful [] machine demands ≡ true
-    pub counted : AreCounted area [] machine demands steps steps
+    pub counted : AreCounted [] machine demands steps steps
 
   one_told : (f : Form) (line : List ℕ) (n : ℕ) (demands : List Demand) (steps : ℕ) → AreTold demands steps
       → AreTold (asked area n (kind_by f line) ∷ demands) steps
@@ -90,7 +90,7 @@ put-one number (Some reply) more = refl
 -- one more line was read and played
 pub IsSoFar-next : (area : ℕ) (script : List ℕ) (answers : List (ℕ × Reply)) (number : ℕ) (h new : Machine) (rest behind bytes : List ℕ) (line : Line)
     (reply : Option Reply) (first before after : ℕ) → IsSoFar area script answers number h rest first before
-    → lines_of rest ≡ bytes ∷ lines_of behind → IsLine number bytes line → IsAnswered area before after (demand_of area line) h reply new
+    → lines_of rest ≡ bytes ∷ lines_of behind → IsLine number bytes line → IsAnswered before after (demand_of area line) h reply new
     → IsSoFar area script (answers ++ one number reply) (number + 1) new behind first after
 IsSoFar-next area script answers number h new rest behind bytes line reply first before after so_far lines_are read answered = record {
   done = so_far.done ++ bytes ∷ [];
@@ -99,7 +99,7 @@ IsSoFar-next area script answers number h new rest behind bytes line reply first
       ∙ (ap (λ (l : List (List ℕ)). so_far.done ++ l) lines_are ∙ sym (append_assoc so_far.done (bytes ∷ []) (lines_of behind)));
   on = λ others lines are more end last comes.
       let all = so_far.on (bytes ∷ others) (line ∷ lines) (read, are) (put number reply more) end last
-      (line_first area (demands_of area lines) more end before after last h new (demand_of area line) number reply
+      (line_first (demands_of area lines) more end before after last h new (demand_of area line) number reply
       (subst (λ (n : ℕ). HasNumber n (demand_of area line)) read.number (asked-number area line.number line.kind)) answered comes) in
       subst (λ (l : List (List ℕ)). ComesOf area l ((answers ++ one number reply) ++ more) end first last)
       (sym (append_assoc so_far.done (bytes ∷ []) others))
@@ -142,11 +142,9 @@ IsSoFar-end shown area script answers number h rest first now so_far none =
 -- a prefix of what was written is a prefix of what the script comes to
 pub IsSoFar-part : (shown : Shown) (area : ℕ) (script : List ℕ) (answers : List (ℕ × Reply)) (number : ℕ) (h : Machine) (rest front more : List ℕ)
     (first now : ℕ) → IsSoFar area script answers number h rest first now → text_of shown answers ≡ front ++ more
-    → IsPlayedInPart shown area script front
+    → IsPlayedInPart shown area script front first now
 IsSoFar-part shown area script answers number h rest front more first now so_far split = record {
   rest = more ++ text_of shown others;
-  before = first;
-  after = now;
   played = record {
     answers = answers ++ others;
     end = machine_behind_all [] h (demands_of area lines);
@@ -198,6 +196,12 @@ pub next_in : (shown : Shown) (limits same : Limits) → limits ≡ same → (by
 next_in shown limits same is bytes number old new before after waiting new_waiting steps later next =
     subst (λ (l : Limits). PlaysNext shown l.area bytes number old new before after waiting new_waiting steps later) is next
 
+pub stopped_in : (limits same : Limits) → limits ≡ same → (bytes : List ℕ) (number : ℕ) (old new : Machine) (before after : Option (List ℕ))
+    (waiting : List ℕ) (steps later : ℕ) → PlaysNextPart limits.area bytes number old new before after waiting steps later
+    → PlaysNextPart same.area bytes number old new before after waiting steps later
+stopped_in limits same is bytes number old new before after waiting steps later part =
+    subst (λ (l : Limits). PlaysNextPart l.area bytes number old new before after waiting steps later) is part
+
 pub IsGoing-next : (shown : Shown) (area : ℕ) (script : List ℕ) (before now between after : Option (List ℕ)) (number : ℕ) (h new : Machine)
     (rest behind line waiting middle new_waiting : List ℕ) (first steps later : ℕ)
     → IsGoing shown area script before now number h rest waiting first steps
@@ -237,7 +241,7 @@ IsGoing-end shown area script before now after number h rest waiting new_waiting
 -- where it stops the sink took a prefix of the text
 pub IsGoing-part : (shown : Shown) (area : ℕ) (script : List ℕ) (before now after : Option (List ℕ)) (number : ℕ) (h : Machine) (rest waiting : List ℕ)
     (first steps : ℕ) → IsGoing shown area script before now number h rest waiting first steps → SendsPart now after waiting
-    → PlaysInPart shown area script before after
+    → PlaysInPart shown area script before after first steps
 IsGoing-part shown area script before now after number h rest waiting first steps going part =
     let all = Sends-after before now after (text_of shown going.answers) waiting part.left going.sends part.sends in
     record {
@@ -251,15 +255,39 @@ pub IsGoing-stuck : (shown : Shown) (area : ℕ) (script : List ℕ) (before now
     (rest behind line waiting middle : List ℕ) (first steps later : ℕ) → IsGoing shown area script before now number h rest waiting first steps
     → lines_of rest ≡ line ∷ lines_of behind → length behind + 1 ≤ length rest
     → PlaysNext shown area line number h new now between waiting middle steps later → SendsPart between after middle
-    → PlaysInPart shown area script before after
+    → PlaysInPart shown area script before after first later
 IsGoing-stuck shown area script before now between after number h new rest behind line waiting middle first steps later going lines_are shorter next part =
     IsGoing-part shown area script before between after (number + 1) new behind middle first later
     (IsGoing-next shown area script before now between between number h new rest behind line waiting middle middle first steps later going lines_are
     shorter next (Sends-none between middle middle refl))
     part
 
--- before its first byte a prefix of every script's text was written
-pub PlaysInPart-nil : (shown : Shown) (area : ℕ) (script : List ℕ) (taken now : Option (List ℕ)) → now ≡ taken → PlaysInPart shown area script taken now
-PlaysInPart-nil shown area script taken now same =
-    subst (λ (after : Option (List ℕ)). PlaysInPart shown area script taken after) (sym same)
-    (record { text = []; played = IsSoFar-part shown area script [] 1 idle script [] [] 0 0 (IsSoFar-start area script 0) refl; took = Took-nil taken })
+-- a fault in the text of a line, which was played
+pub IsGoing-stopped : (shown : Shown) (area : ℕ) (script : List ℕ) (before now after : Option (List ℕ)) (number : ℕ) (h new : Machine)
+    (rest behind line waiting : List ℕ) (first steps later : ℕ) → IsGoing shown area script before now number h rest waiting first steps
+    → lines_of rest ≡ line ∷ lines_of behind → PlaysNextPart area line number h new now after waiting steps later
+    → PlaysInPart shown area script before after first later
+IsGoing-stopped shown area script before now after number h new rest behind line waiting first steps later going lines_are next =
+    let text = text_put shown number next.reply in
+    let all = Sends-after before now after (text_of shown going.answers) waiting next.sends.left going.sends next.sends.sends in
+    let more = Sends-more before after (text_of shown going.answers) next.sends.left text (next.sends.left ++ text) all refl in
+    let written = text-append shown going.answers (one number next.reply)
+    ∙ ap (λ (t : List ℕ). text_of shown going.answers ++ t) (text-one shown number next.reply) in
+    record {
+      text = more.sent;
+      played = IsSoFar-part shown area script (going.answers ++ one number next.reply) (number + 1) new behind more.sent (next.sends.left ++ text) first later
+          (IsSoFar-next area script going.answers number h new rest behind line next.plays.line next.reply first steps later going.so_far lines_are
+          next.plays.read.is_line next.plays.answers.answered)
+          (written ∙ more.split);
+      took = more.took;
+    }
+
+-- before its first byte a prefix of every script's text was written, and no row was read
+pub PlaysInPart-nil : (shown : Shown) (area : ℕ) (script : List ℕ) (taken now : Option (List ℕ)) (steps later : ℕ) → now ≡ taken → later ≡ steps
+    → PlaysInPart shown area script taken now steps later
+PlaysInPart-nil shown area script taken now steps later same unread =
+    rw (same, unread) (record {
+      text = [];
+      played = IsSoFar-part shown area script [] 1 idle script [] [] steps steps (IsSoFar-start area script steps) refl;
+      took = Took-nil taken;
+    })

@@ -91,8 +91,8 @@ pub fn play_for<R: Threads + Wait + Sync, G: Gate + Sync, K: Sink, L: Ledger>(
 ) -> Result<(), Stop>
     requires ranges { IsInRange asked }
     ensures ok { OnOk result (Does asked.mode asked script.now (K.taken sink.old) (K.taken sink.new) steps.old steps.new) }
-    ensures err { OnErr result ((sink.new ≡ sink.old)
-        ⊎ DoesInPart asked.mode asked script.now (K.taken sink.old) (K.taken sink.new)) }
+    ensures err { OnErr result (((asked.mode ≡ Mode.Race) × (sink.new ≡ sink.old))
+        ⊎ DoesInPart asked.mode asked script.now (K.taken sink.old) (K.taken sink.new) steps.old steps.new) }
     ensures cause { IsErrOf result Stop.WriteFault → Rose (K.faults sink.old) (K.faults sink.new) }
     ensures later { K.faults sink.old ≤ K.faults sink.new }
 {

@@ -1,6 +1,6 @@
 ghost use Rattle.std.specs.Prelude.{◌≡◌, ◌≤◌, ◌+◌, [], ◌++◌, OnOk, OnErr, IsErrOf};
 ghost use Rattle.im_edge.specs.Faults.{Rose};
-ghost use Rattle.im_shell.specs.inner.Going.{text_put, PlaysBytes, PlaysNext};
+ghost use Rattle.im_shell.specs.inner.Going.{text_put, PlaysBytes, PlaysNext, PlaysNextPart};
 ghost use Rattle.im_shell.specs.inner.Sent.{Sends, SendsPart};
 ghost use Rattle.im_play.specs.Between.{IsBetween, machine_of, nothing_in, unused_background, unused_from};
 ghost use Rattle.im_shell.specs.Play.{Plays, PlaysInPart};
@@ -86,7 +86,10 @@ fn play_next<R: Wait, H: Reach<ColumnUnit>, G: Gate, K: Sink, L: Ledger>(
         (machine_of (H.known reach.old) players.old.sessions.items players.old.background)
         (machine_of (H.known reach.new) players.new.sessions.items players.new.background)
         (K.taken sink.old) (K.taken sink.new) waiting.old waiting.new steps.old steps.new) }
-    ensures err { OnErr result (SendsPart (K.taken sink.old) (K.taken sink.new) waiting.old) }
+    ensures err { OnErr result (PlaysNextPart (H.known reach.old).limits.area bytes.now number
+        (machine_of (H.known reach.old) players.old.sessions.items players.old.background)
+        (machine_of (H.known reach.new) players.new.sessions.items players.new.background)
+        (K.taken sink.old) (K.taken sink.new) waiting.old steps.old steps.new) }
     ensures cause { IsErrOf result Stop.WriteFault → Rose (K.faults sink.old) (K.faults sink.new) }
     ensures later { K.faults sink.old ≤ K.faults sink.new }
 {
@@ -113,7 +116,7 @@ fn play_lines<R: Wait, H: Reach<ColumnUnit>, G: Gate, K: Sink, L: Ledger>(
     requires unused_background { players.old.background ≡ unused_background }
     requires none_waits { waiting.old ≡ [] }
     ensures ok { OnOk result (Plays shown (H.known reach.old).limits.area script.now (K.taken sink.old) (K.taken sink.new) steps.old steps.new) }
-    ensures err { OnErr result (PlaysInPart shown (H.known reach.old).limits.area script.now (K.taken sink.old) (K.taken sink.new)) }
+    ensures err { OnErr result (PlaysInPart shown (H.known reach.old).limits.area script.now (K.taken sink.old) (K.taken sink.new) steps.old steps.new) }
     ensures cause { IsErrOf result Stop.WriteFault → Rose (K.faults sink.old) (K.faults sink.new) }
     ensures later { K.faults sink.old ≤ K.faults sink.new }
 {
@@ -144,7 +147,7 @@ pub fn play_script<R: Wait, G: Gate, K: Sink, L: Ledger>(
     steps: &mut Steps<L>,
 ) -> Result<(), Stop>
     ensures ok { OnOk result (Plays shown area script.now (K.taken sink.old) (K.taken sink.new) steps.old steps.new) }
-    ensures err { OnErr result (PlaysInPart shown area script.now (K.taken sink.old) (K.taken sink.new)) }
+    ensures err { OnErr result (PlaysInPart shown area script.now (K.taken sink.old) (K.taken sink.new) steps.old steps.new) }
     ensures cause { IsErrOf result Stop.WriteFault → Rose (K.faults sink.old) (K.faults sink.new) }
     ensures later { K.faults sink.old ≤ K.faults sink.new }
 {

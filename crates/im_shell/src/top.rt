@@ -2,7 +2,7 @@ ghost use Rattle.std.specs.Prelude.{◌≡◌, ◌≤◌, ◌⊎◌, ◌+◌};
 ghost use Rattle.im_edge.specs.Faults.{Rose};
 ghost use Rattle.im_edge.specs.Reading.{GaveAtMost, GaveCount};
 ghost use Rattle.im_edge.specs.Source.{IsSpent};
-ghost use Rattle.im_shell.specs.Play.{DoneFor, InPartFor};
+ghost use Rattle.im_shell.specs.Play.{DoneFor, InPartFor, IsUncounted};
 ghost use Rattle.im_words.specs.declared.asked.Asked.{Asked};
 ghost use Rattle.im_words.specs.Command.{Refuses, Takes};
 ghost use Rattle.im_words.specs.Good.{IsGood};
@@ -34,10 +34,12 @@ pub fn run<R: Threads + Wait + Sync, S: Source, K: Sink, G: Gate + Sync, L: Ledg
     gate: &G,
     steps: &mut Steps<L>,
 ) -> Status
-    // Where memory ran out before the script was there, and in a race before its report was, the sink is as it was.
+    // Where memory ran out before the script was there, and in a race before its report was, the sink is as it was; then no row was
+    // read but in a race.
     ensures done { result ≡ Status.Done → DoneFor words.now (S.left source.old) (K.taken sink.old) (K.taken sink.new) steps.old steps.new }
     ensures in_part { (result ≡ Status.WriteFault) ⊎ (result ≡ Status.NoMemory)
-        → (sink.new ≡ sink.old) ⊎ InPartFor words.now (S.left source.old) (K.taken sink.old) (K.taken sink.new) }
+        → ((sink.new ≡ sink.old) × IsUncounted words.now steps.old steps.new)
+        ⊎ InPartFor words.now (S.left source.old) (K.taken sink.old) (K.taken sink.new) steps.old steps.new }
 
     // A script that is made is not read, and any other is read to its end.
     ensures unread { (asked : Asked) → Takes words.now asked → asked.mode ≡ Mode.Gen → source.new ≡ source.old }
@@ -48,13 +50,13 @@ pub fn run<R: Threads + Wait + Sync, S: Source, K: Sink, G: Gate + Sync, L: Ledg
     ensures usage { result ≡ Status.Usage → Refuses words.now }
     ensures refused { Refuses words.now → (result ≡ Status.Usage) ⊎ (result ≡ Status.NoMemory) }
     ensures good { (asked : Asked) → IsGood words.now asked → ¬ (result ≡ Status.Usage) }
-    ensures untouched { result ≡ Status.Usage → (source.new ≡ source.old) × (sink.new ≡ sink.old) }
+    ensures untouched { result ≡ Status.Usage → (source.new ≡ source.old) × (sink.new ≡ sink.old) × (steps.new ≡ steps.old) }
 
     ensures read_fault { result ≡ Status.ReadFault → Rose (S.faults source.old) (S.faults source.new) }
     ensures write_fault { result ≡ Status.WriteFault → Rose (K.faults sink.old) (K.faults sink.new) }
     ensures too_long { result ≡ Status.ScriptTooLong → GaveCount (S.left source.old) (S.left source.new) (MOST_SCRIPT_BYTES + 1) }
     ensures not_too_long { ¬ (result ≡ Status.ScriptTooLong) → GaveAtMost (S.left source.old) (S.left source.new) MOST_SCRIPT_BYTES }
-    ensures unwritten { (result ≡ Status.ReadFault) ⊎ (result ≡ Status.ScriptTooLong) → sink.new ≡ sink.old }
+    ensures unwritten { (result ≡ Status.ReadFault) ⊎ (result ≡ Status.ScriptTooLong) → (sink.new ≡ sink.old) × (steps.new ≡ steps.old) }
     ensures reads_later { S.faults source.old ≤ S.faults source.new }
     ensures writes_later { K.faults sink.old ≤ K.faults sink.new }
 {

@@ -233,7 +233,7 @@ next-dropped who k builds old new on idle legal is =
 
 -- the extent of the build that began was read
 pub begun-counted : (who before after : ℕ) (old mid new : Known) (task : Task) (choice : Choice) → IsLawful mid.limits mid.log
-    → Offers old mid who task choice → WentOn mid.log new.log → after ≤ before + task_rows mid.log task → IsCounted who before after old new
+    → Offers old mid who task choice → WentOn mid.log new.log → after ≤ before + task_rows mid.log task → IsCounted who before after old.log new.log
 unfolding just-of
 begun-counted who before after old mid new task choice lawful added on few =
     one-counted who before after task old mid new (just-of who old mid task choice lawful added)

@@ -88,11 +88,12 @@ rows-append_all [] second = omega arith
 rows-append_all (start ∷ first) second = let rest = rows-append_all first second in omega (arith, rest)
 
 -- nothing was read
-pub none-counted : (who before after : ℕ) (old new : Known) → WentOn old.log new.log → after ≤ before → IsCounted who before after old new
+pub none-counted : (who before after : ℕ) (old new : Known) → WentOn old.log new.log → after ≤ before → IsCounted who before after old.log new.log
 none-counted who before after old new on few = record { starts = []; begun = on; few = omega (arith, few) }
 
 -- more came behind
-pub counted-counted : (who a b c : ℕ) (old mid new : Known) → IsCounted who a b old mid → IsCounted who b c mid new → IsCounted who a c old new
+pub counted-counted : (who a b c : ℕ) (old mid new : Known) → IsCounted who a b old.log mid.log → IsCounted who b c mid.log new.log
+    → IsCounted who a c old.log new.log
 counted-counted who a b c old mid new first second = record {
   starts = first.starts ++ second.starts;
   begun = begun-append who old.log first.starts second.starts mid.log new.log first.begun second.begun;
@@ -106,7 +107,7 @@ counted-counted who a b c old mid new first second = record {
 -- the extent of a build that just began was read
 pub one-counted : (who before after : ℕ) (task : Task) (old mid new : Known)
     → (just : IsJust who task mid) → WentOn old.log just.at → next just.at ≡ Some just.choice
-    → WentOn mid.log new.log → after ≤ before + task_rows mid.log task → IsCounted who before after old new
+    → WentOn mid.log new.log → after ≤ before + task_rows mid.log task → IsCounted who before after old.log new.log
 one-counted who before after task old mid new just on comes later few = record {
   starts = record { at = just.at; choice = just.choice } ∷ [];
   begun = (on, comes, subst (λ (h : History). WentOn h new.log) just.log later);

@@ -486,7 +486,7 @@ agrees-by statement before after old new reply same command =
 
 -- a line that begins no build reads nothing
 pub run-counted : (who steps : ℕ) (plan : Plan Outcome) (before : List Ready) (old : Known) (reply : Reply) (after : List Ready) (new : Known)
-    → IsRun who plan before old reply after new → IsCounted who steps steps old new
+    → IsRun who plan before old reply after new → IsCounted who steps steps old.log new.log
 run-counted who steps plan before old reply after new run =
     none-counted who steps steps old new (on-rest old new plan (Answered reply (tasks_of after)) run.rest) (omega arith)
 

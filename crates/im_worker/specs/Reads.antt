@@ -5,7 +5,6 @@ use Rattle.im_history.specs.History.{History, behind}
 use Rattle.im_history.specs.Queue.{build_of, next}
 use Rattle.im_history.specs.Tables.{given}
 use Rattle.im_history.specs.Views.{per_at}
-use Rattle.im_reach.specs.Sides.{Known}
 
 -- the beginning of a build: the history that it came behind, and which build it was
 pub record Start : Type 0 where
@@ -34,7 +33,7 @@ AreBegun who old (start ∷ starts) new =
     WentOn old start.at × (next start.at ≡ Some start.choice) × AreBegun who (behind start.at who (build_of start.at start.choice)) starts new
 
 -- the steps of a line: the extent of each build that it began was read, each row number once at most, and nothing else
-pub record IsCounted (who before after : ℕ) (old new : Known) : Type 0 where
+pub record IsCounted (who before after : ℕ) (old new : History) : Type 0 where
   pub starts : List Start
-  pub begun : AreBegun who old.log starts new.log
+  pub begun : AreBegun who old starts new
   pub few : after ≤ before + rows_of_all starts

@@ -72,7 +72,7 @@ impl Background {
         requires agrees { Agrees self.old (H.known reach.old) }
         ensures played { IsPlayed statement.now self.old (H.known reach.old) result self.new (H.known reach.new) }
         ensures agrees { Agrees self.new (H.known reach.new) }
-        ensures ticks { IsCounted self.old.who steps.old steps.new (H.known reach.old) (H.known reach.new) }
+        ensures ticks { IsCounted self.old.who steps.old steps.new (H.known reach.old).log (H.known reach.new).log }
     {
         let (alloc, who) = (self.alloc, self.who);
         play(
@@ -95,6 +95,9 @@ impl Background {
     /// Where a round makes no unit current, since no build comes next or memory is out, the worker sleeps for about a millisecond
     /// before it goes on, so that its turns last while others are at work: an idle job takes some `turns` milliseconds. The gate is
     /// called before and after each switch, outside the store's turn.
+    ///
+    /// A worker that called a turn at which no build came next one without memory would keep all clauses: the store's misses count
+    /// both.
     pub fn work<R: Wait, H: Reach<ColumnUnit>, G: Gate, L: Ledger>(
         &mut self,
         rt: &R,
@@ -116,7 +119,7 @@ impl Background {
             IsIdleAt self.old.who place (H.known reach.old).log (H.known reach.new).log)) }
         ensures same { self.new ≡ self.old }
         ensures agrees { Agrees self.new (H.known reach.new) }
-        ensures ticks { IsCounted self.old.who steps.old steps.new (H.known reach.old) (H.known reach.new) }
+        ensures ticks { IsCounted self.old.who steps.old steps.new (H.known reach.old).log (H.known reach.new).log }
     {
         let (alloc, who) = (self.alloc, self.who);
         job(
@@ -152,7 +155,7 @@ fn play<R: Wait, H: Reach<ColumnUnit>, G: Gate, L: Ledger>(
     requires statement { IsStmt statement.now }
     requires stands { Stands who held.old.items [] (H.known reach.old).log }
     ensures command { IsCommand who statement.now held.old.items (H.known reach.old) result held.new.items (H.known reach.new) }
-    ensures ticks { IsCounted who steps.old steps.new (H.known reach.old) (H.known reach.new) }
+    ensures ticks { IsCounted who steps.old steps.new (H.known reach.old).log (H.known reach.new).log }
 {
     match statement {
         Stmt::Run => run(alloc, rt, reach, gate, who, held, steps),

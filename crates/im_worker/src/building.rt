@@ -95,7 +95,7 @@ pub fn begin_next<R: Wait, H: Reach<ColumnUnit>, L: Ledger>(
     requires stands { Stands who held.now.items [] (H.known reach.old).log }
     ensures begun { IsBegun who held.now.items (H.known reach.old) result (H.known reach.new) }
     ensures lawful { IsLawful (H.known reach.new).limits (H.known reach.new).log }
-    ensures ticks { IsCounted who steps.old steps.new (H.known reach.old) (H.known reach.new) }
+    ensures ticks { IsCounted who steps.old steps.new (H.known reach.old).log (H.known reach.new).log }
 {
     let Ok(offer) = reach.build(rt, who) else {
         return Begun::Lacks;

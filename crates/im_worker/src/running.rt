@@ -44,7 +44,7 @@ fn round<R: Wait, H: Reach<ColumnUnit>, G: Gate, L: Ledger>(
     requires speaks { speaks (H.known reach.old).side who ≡ true }
     requires stands { Stands who held.now.items [] (H.known reach.old).log }
     ensures turn { IsTurn who held.now.items ran.old.items ran.new.items (H.known reach.old) result (H.known reach.new) }
-    ensures ticks { IsCounted who steps.old steps.new (H.known reach.old) (H.known reach.new) }
+    ensures ticks { IsCounted who steps.old steps.new (H.known reach.old).log (H.known reach.new).log }
 {
     let entries = entries_of(ran.as_slice());
     if ran.reserve(1).is_err() {
@@ -80,7 +80,7 @@ pub fn run<R: Wait, H: Reach<ColumnUnit>, G: Gate, L: Ledger>(
     requires speaks { speaks (H.known reach.old).side who ≡ true }
     requires stands { Stands who held.now.items [] (H.known reach.old).log }
     ensures ran { IsRan who held.now.items (H.known reach.old) result (H.known reach.new) }
-    ensures ticks { IsCounted who steps.old steps.new (H.known reach.old) (H.known reach.new) }
+    ensures ticks { IsCounted who steps.old steps.new (H.known reach.old).log (H.known reach.new).log }
 {
     let mut ran = Vec::new(alloc);
     for _ in rt.forever() {

@@ -40,7 +40,7 @@ pub fn begin<R: Wait, H: Reach<ColumnUnit>, L: Ledger>(
     requires stands { Stands who held.old.items [] (H.known reach.old).log }
     ensures run { IsRun who (plan.begin (tasks_of held.old.items)) held.old.items (H.known reach.old) result held.new.items
         (H.known reach.new) }
-    ensures ticks { IsCounted who steps.old steps.new (H.known reach.old) (H.known reach.new) }
+    ensures ticks { IsCounted who steps.old steps.new (H.known reach.old).log (H.known reach.new).log }
 {
     if held.reserve(1).is_err() {
         return out_of_memory(alloc, 0);

@@ -94,7 +94,7 @@ fn round<R: Wait, H: Reach<ColumnUnit>, G: Gate, L: Ledger>(
     requires stands { Stands who held.now.items [] (H.known reach.old).log }
     requires room { tally.old.lacks + 1 < 2 ^ 64 }
     ensures round { IsAround who sessions held.now.items tally.old tally.new (H.known reach.old) result (H.known reach.new) }
-    ensures ticks { IsCounted who steps.old steps.new (H.known reach.old) (H.known reach.new) }
+    ensures ticks { IsCounted who steps.old steps.new (H.known reach.old).log (H.known reach.new).log }
 {
     match begin_next(alloc, rt, reach, who, held, steps) {
         Begun::Ready(build) => {
@@ -139,7 +139,7 @@ pub fn job<R: Wait, H: Reach<ColumnUnit>, G: Gate, L: Ledger>(
     requires speaks { speaks (H.known reach.old).side who ≡ true }
     requires stands { Stands who held.now.items [] (H.known reach.old).log }
     ensures ended { HasEnded who turns sessions held.now.items (H.known reach.old) result (H.known reach.new) }
-    ensures ticks { IsCounted who steps.old steps.new (H.known reach.old) (H.known reach.new) }
+    ensures ticks { IsCounted who steps.old steps.new (H.known reach.old).log (H.known reach.new).log }
 {
     let mut tally = Tally {
         left: turns,

@@ -9,6 +9,7 @@ use Rattle.im_session.specs.declared.cursor.Cursor.{Cursor}
 use Rattle.im_session.specs.declared.playing.Use.{Use}
 use Rattle.im_session.specs.declared.playing.Use.TheVariants.{Step, Fetch, Close}
 use Rattle.im_session.specs.Cursors.{IsSound}
+use Rattle.im_session.specs.Reads.{Reading, Nothing, Next, Left}
 use Rattle.im_session.specs.Sessions.{AreApart, state_of}
 use Rattle.im_session.specs.inner.Rests.{IsRest}
 use Rattle.im_statements.specs.Agreement.{Agrees as AreOpen}
@@ -31,6 +32,12 @@ abbrev pub plan_over : Use → State → History → ℕ → Plan Outcome
 plan_over Step state at number = step state at number
 plan_over Fetch state at number = fetch state at number
 plan_over Close state at number = close state at number
+
+-- what it reads the blocks for
+abbrev pub reading_by : Use → ℕ → Reading
+reading_by Step number = Next number
+reading_by Fetch number = Left number
+reading_by Close number = Nothing
 
 -- the line went by this plan, and what is kept of the cursors now is what comes of it
 pub record IsRun (who : ℕ) (plan : Plan Outcome) (before : List Cursor) (old : Known) (reply : Reply) (after : List Cursor) (new : Known) : Type 0 where

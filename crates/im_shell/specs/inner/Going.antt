@@ -11,7 +11,7 @@ use Rattle.im_script.specs.Lines.{AreLines}
 use Rattle.im_shell.specs.declared.shown.Shown.{Shown}
 use Rattle.im_shell.specs.Play.{ComesOf}
 use Rattle.im_shell.specs.Texts.{text_shown}
-use Rattle.im_shell.specs.inner.Sent.{Sends}
+use Rattle.im_shell.specs.inner.Sent.{Sends, SendsPart}
 
 -- the script is played up to the rest, with these replies so far: whatever lines of some bytes come to from here, these lines behind
 -- those so far come to the replies so far and then theirs
@@ -19,7 +19,7 @@ pub record IsSoFar (area : ℕ) (script : List ℕ) (answers : List (ℕ × Repl
   pub done : List (List ℕ)
   pub split : lines_of script ≡ done ++ lines_of rest
   pub on : (bytes : List (List ℕ)) (lines : List Line) → AreLines number bytes lines
-      → (more : List (ℕ × Reply)) (end : Machine) (after : ℕ) → Comes area machine (demands_of area lines) more end now after
+      → (more : List (ℕ × Reply)) (end : Machine) (after : ℕ) → Comes machine (demands_of area lines) more end now after
       → ComesOf area (done ++ bytes) (answers ++ more) end before after
 
 -- what comes behind the text that waits: the reply to a line, where there is one that is shown
@@ -32,6 +32,13 @@ pub record PlaysBytes (area : ℕ) (bytes : List ℕ) (number : ℕ) (old : Mach
   pub line : Line
   pub read : IsRead number bytes line
   pub answers : Answers area before after line old reply new
+
+-- a line was played, and the sink took a prefix of what waited
+pub record PlaysNextPart (area : ℕ) (bytes : List ℕ) (number : ℕ) (old new : Machine) (before after : Option (List ℕ)) (waiting : List ℕ)
+    (steps_before steps_after : ℕ) : Type 0 where
+  pub reply : Option Reply
+  pub plays : PlaysBytes area bytes number old reply new steps_before steps_after
+  pub sends : SendsPart before after waiting
 
 -- a line was played, and the text of its reply came behind what waits to be written, of which the sink may have taken some
 pub record PlaysNext (shown : Shown) (area : ℕ) (bytes : List ℕ) (number : ℕ) (old new : Machine)

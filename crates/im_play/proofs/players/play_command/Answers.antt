@@ -18,7 +18,7 @@ returns-clause-between g c =
 pub returns-clause-answer : goal.returns-clause-answer
 returns-clause-answer g c = λ number.
     subst
-    (λ (k : Known). IsCommandAnswer k.limits.area c.args.steps.now c.command.new.steps (command_of k.limits.area number c.args.statement.now)
+    (λ (k : Known). IsCommandAnswer c.args.steps.now c.command.new.steps (command_of k.limits.area number c.args.statement.now)
     (machine_of k c.args.players.now.sessions.items c.args.players.now.background) c.command.result
     (machine_of (g.H.Reach.known c.command.new.reach) c.args.players.now.sessions.items c.command.new.self)) c.look_on.ensures.same
     (answer-command c.args.players.now.sessions.items c.args.players.now.background c.command.new.self (g.H.Reach.known c.look_on.new.reach)

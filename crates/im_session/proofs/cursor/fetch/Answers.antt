@@ -1,8 +1,11 @@
 use Rattle.std.proofs.Common.{ap, refl}
 use Rattle.im_history.specs.declared.entry.What.TheVariants.{Shut}
 use Rattle.im_history.specs.declared.look.Look.{Look}
+use Rattle.im_replies.specs.declared.reply.Reply.{Reply}
 use Rattle.im_plan.specs.Plan.{End}
 use Rattle.im_session.specs.Cursors.{query_of}
+use Rattle.im_session.specs.Reads.{Left}
+use Rattle.im_session.proofs.CountLemmas.{left-lacked, left-marked}
 use Rattle.im_session.proofs.ReadsLemmas.{counted-within, longer-added, longer-same}
 use Rattle.im_session.proofs.CursorLemmas.{agrees-went}
 use Rattle.im_session.proofs.RestLemmas.{decide_by-done, rest-lacks_here}
@@ -51,9 +54,16 @@ returns-in-Err-clause-agrees g c = λ still.
     c.in-Err.ensures.went c.requires.agrees
 
 pub returns-in-Ok-clause-ticks : goal.returns-in-Ok-clause-ticks
-returns-in-Ok-clause-ticks g c =
-    counted-within c.args.context.now.who c.args.steps.now c.answer_scan.new.steps (g.H.Reach.known c.args.reach.now) (g.H.Reach.known c.args.reach.now)
-    (g.H.Reach.known c.answer_scan.new.reach) (g.H.Reach.known c.shut.new.self)
-    (longer-same (g.H.Reach.known c.args.reach.now))
-    (longer-added c.args.context.now.who (g.H.Reach.known c.answer_scan.new.reach) (g.H.Reach.known c.shut.new.self) _ _ c.shut.ensures.added)
-    c.in-Ok.ensures.ticks
+returns-in-Ok-clause-ticks g c = λ state here.
+    let old = g.H.Reach.known c.args.reach.now in
+    let mid = g.H.Reach.known c.answer_scan.new.reach in
+    let new = g.H.Reach.known c.shut.new.self in
+    counted-within (Left c.args.kept.now.number) state c.args.context.now.who c.reply.result c.args.steps.now c.answer_scan.new.steps old old mid new
+    (longer-same old) (longer-added c.args.context.now.who mid new _ _ c.shut.ensures.added)
+    (left-marked c.args.context.now.who c.args.kept.now c.reply.result c.args.steps.now c.answer_scan.new.steps old.log mid.log
+    c.in-Ok.answered.marks (ap (λ (r : Reply). r.marks) c.reply.ensures) c.in-Ok.ensures.rows state here)
+
+pub returns-in-Err-clause-ticks : goal.returns-in-Err-clause-ticks
+returns-in-Err-clause-ticks g c =
+    left-lacked c.args.context.now.who c.args.kept.now c.out_of_memory.result c.args.steps.now c.answer_scan.new.steps
+    (g.H.Reach.known c.args.reach.now).log (g.H.Reach.known c.answer_scan.new.reach).log (0, c.out_of_memory.ensures) c.answer_scan.ensures.ticks

@@ -1,10 +1,12 @@
-use Rattle.std.proofs.Common.{◌+◌, arith}
-use Rattle.im_session.proofs.ReadsLemmas.{none-counted, read-counted}
+use Rattle.std.proofs.Common.{ap, arith}
+use Rattle.im_replies.specs.declared.served.Served.{Served}
+use Rattle.im_session.proofs.CountLemmas.{next-lacked, next-taken}
 use Rattle.im_session.proofs.CursorLemmas.{agrees-after, agrees-merges, agrees-went, step-serves}
 use Rattle.im_session.proofs.RestLemmas.{rest-lacks}
 use Rattle.im_session.proofs.ScanLemmas.{found-went}
 use Rattle.im_session.proofs.cursor.step.Goals as goal
 use Rattle.im_session.specs.Cursors.{query_of}
+use Rattle.im_session.specs.Reads.{Unread}
 use Rattle.im_statements.specs.Cursors.{step_query}
 
 pub take-requires-clause-few : goal.take-requires-clause-few
@@ -36,17 +38,16 @@ returns-in-Err-clause-agrees g c =
     c.in-Err.ensures.went c.requires.agrees
 
 pub returns-then-kept-clause-ticks : goal.returns-then-kept-clause-ticks
-returns-then-kept-clause-ticks g c =
-    none-counted c.args.context.now.who c.args.steps.now c.args.steps.now (g.H.Reach.known c.args.reach.now) (g.H.Reach.known c.args.reach.now) (omega arith)
+returns-then-kept-clause-ticks g c = λ state here. Unread (omega arith)
 
 pub returns-in-Ok-clause-ticks : goal.returns-in-Ok-clause-ticks
 returns-in-Ok-clause-ticks g c =
-    read-counted c.args.context.now.who c.args.kept.now.number c.args.kept.now.view c.args.kept.now.next (c.args.kept.now.next + 1) c.args.steps.now
-    c.served_part.new.steps (g.H.Reach.known c.args.reach.now) (g.H.Reach.known c.served_part.new.reach)
-    (let within = c.if-kept.false in omega (arith, within)) c.in-Ok.ensures.ticks
+    next-taken c.args.context.now.who c.args.kept.now c.take.result.reply c.args.steps.now c.served_part.new.steps (g.H.Reach.known c.args.reach.now).log
+    (g.H.Reach.known c.served_part.new.reach).log c.if-kept.false c.take.result.served c.in-Ok.served.mark c.take.ensures.reply
+    (ap (λ (mark : Served). mark.extent) c.in-Ok.ensures.mark) c.in-Ok.ensures.rows c.in-Ok.ensures.ticks
 
 pub returns-in-Err-clause-ticks : goal.returns-in-Err-clause-ticks
 returns-in-Err-clause-ticks g c =
-    read-counted c.args.context.now.who c.args.kept.now.number c.args.kept.now.view c.args.kept.now.next (c.args.kept.now.next + 1) c.args.steps.now
-    c.served_part.new.steps (g.H.Reach.known c.args.reach.now) (g.H.Reach.known c.served_part.new.reach)
-    (let within = c.if-kept.false in omega (arith, within)) c.in-Err.ensures.ticks
+    next-lacked c.args.context.now.who c.args.kept.now c.out_of_memory.result c.args.steps.now c.served_part.new.steps
+    (g.H.Reach.known c.args.reach.now).log (g.H.Reach.known c.served_part.new.reach).log c.if-kept.false (0, c.out_of_memory.ensures)
+    c.in-Err.ensures.ticks

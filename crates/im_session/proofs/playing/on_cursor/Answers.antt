@@ -1,14 +1,14 @@
 use Rattle.std.proofs.Common.{Bool, arith, filter, not, sym, subst}
 use Rattle.std.specs.Prelude.{slice_set}
 use Rattle.im_session.specs.declared.playing.Use.{Use}
+use Rattle.im_session.specs.Reads.{IsCounted, Left, Next, Unread}
 use Rattle.im_session.specs.Cursors.{query_of}
 use Rattle.im_session.specs.Sessions.{state_of}
-use Rattle.im_session.specs.inner.Running.{IsRun, is_number, plan_over}
+use Rattle.im_session.specs.inner.Running.{IsRun, is_number, plan_over, reading_by}
 use Rattle.im_session.specs.inner.Cursors.{fetch_outcome}
 use Rattle.im_session.specs.inner.Rests.{IsRest}
-use Rattle.im_session.proofs.ReadsLemmas.{none-counted}
 use Rattle.im_session.proofs.KeptLemmas.{at-place, no-place}
-use Rattle.im_session.proofs.SessionLemmas.{is-closed, is-kept, is-open, run-close, run-fetch, run-no_fetch, run-none, run-step}
+use Rattle.im_session.proofs.SessionLemmas.{counted-kept, is-closed, is-kept, is-open, run-close, run-fetch, run-no_fetch, run-none, run-step}
 use Rattle.im_session.proofs.playing.on_cursor.Goals as goal
 use Rattle.im_statements.specs.Cursors.{fetch_query}
 
@@ -90,12 +90,35 @@ returns-in-Close-clause-run g c =
     (at-place c.args.number _ c.args.kept.now.items _ c.in-Some.at c.as_slice.ensures.value c.place_of.ensures c.in-Some.is) c.index-in-Close.ensures
     c.close-reply.ensures))
 
+pub returns-in-Step-clause-ticks : goal.returns-in-Step-clause-ticks
+returns-in-Step-clause-ticks g c =
+    subst (λ (usage : Use). IsCounted (reading_by usage c.args.number) (state_of c.args.kept.now.items) c.args.context.now.who c.step.result.reply
+    c.args.steps.now c.step.new.steps (g.H.Reach.known c.args.reach.now).log (g.H.Reach.known c.step.new.reach).log) (sym c.in-Step.is)
+    (counted-kept Next c.args.context.now.who c.args.kept.now.items c.args.number c.in-Some.at c.index_mut.result.now c.step.result.reply
+    c.args.steps.now c.step.new.steps (g.H.Reach.known c.args.reach.now).log (g.H.Reach.known c.step.new.reach).log
+    (at-place c.args.number _ c.args.kept.now.items _ c.in-Some.at c.as_slice.ensures.value c.place_of.ensures c.in-Some.is) c.index_mut.ensures.value
+    c.step.ensures.ticks)
+
+pub returns-then-not-fetched-clause-ticks : goal.returns-then-not-fetched-clause-ticks
+returns-then-not-fetched-clause-ticks g c =
+    subst (λ (usage : Use). IsCounted (reading_by usage c.args.number) (state_of c.args.kept.now.items) c.args.context.now.who c.fetch-fetched.result.reply
+    c.args.steps.now c.fetch-fetched.new.steps (g.H.Reach.known c.args.reach.now).log (g.H.Reach.known c.fetch-fetched.new.reach).log) (sym c.in-Fetch.is)
+    (counted-kept Left c.args.context.now.who c.args.kept.now.items c.args.number c.in-Some.at c.index.result.now c.fetch-fetched.result.reply
+    c.args.steps.now c.fetch-fetched.new.steps (g.H.Reach.known c.args.reach.now).log (g.H.Reach.known c.fetch-fetched.new.reach).log
+    (at-place c.args.number _ c.args.kept.now.items _ c.in-Some.at c.as_slice.ensures.value c.place_of.ensures c.in-Some.is) c.index.ensures
+    c.fetch-fetched.ensures.ticks)
+
+pub returns-else-not-fetched-clause-ticks : goal.returns-else-not-fetched-clause-ticks
+returns-else-not-fetched-clause-ticks g c =
+    subst (λ (usage : Use). IsCounted (reading_by usage c.args.number) (state_of c.args.kept.now.items) c.args.context.now.who c.fetch-fetched.result.reply
+    c.args.steps.now c.fetch-fetched.new.steps (g.H.Reach.known c.args.reach.now).log (g.H.Reach.known c.fetch-fetched.new.reach).log) (sym c.in-Fetch.is)
+    (counted-kept Left c.args.context.now.who c.args.kept.now.items c.args.number c.in-Some.at c.index.result.now c.fetch-fetched.result.reply
+    c.args.steps.now c.fetch-fetched.new.steps (g.H.Reach.known c.args.reach.now).log (g.H.Reach.known c.fetch-fetched.new.reach).log
+    (at-place c.args.number _ c.args.kept.now.items _ c.in-Some.at c.as_slice.ensures.value c.place_of.ensures c.in-Some.is) c.index.ensures
+    c.fetch-fetched.ensures.ticks)
+
 pub returns-in-Close-clause-ticks : goal.returns-in-Close-clause-ticks
-returns-in-Close-clause-ticks g c =
-    none-counted c.args.context.now.who c.args.steps.now c.args.steps.now (g.H.Reach.known c.args.reach.now) (g.H.Reach.known c.close-reply.new.reach)
-    (omega arith)
+returns-in-Close-clause-ticks g c = Unread (omega arith)
 
 pub returns-in_default-clause-ticks : goal.returns-in_default-clause-ticks
-returns-in_default-clause-ticks g c =
-    none-counted c.args.context.now.who c.args.steps.now c.args.steps.now (g.H.Reach.known c.args.reach.now) (g.H.Reach.known c.args.reach.now)
-    (omega arith)
+returns-in_default-clause-ticks g c = Unread (omega arith)

@@ -1,7 +1,9 @@
-use Rattle.std.proofs.Common.{◌≡◌, ◌∙◌, sym, arith}
+use Rattle.std.proofs.Common.{◌≡◌, ◌∙◌, sym, subst, arith}
 use Rattle.im_history.specs.Views.{look_at}
-use Rattle.im_session.proofs.NameLemmas.{defines-resolved}
-use Rattle.im_session.proofs.ReadsLemmas.{counted-within, longer-found, longer-same, none-counted}
+use Rattle.im_session.specs.Reads.{IsCounted, Reading, Unread, reading_of}
+use Rattle.im_session.specs.Sessions.{state_of}
+use Rattle.im_session.proofs.NameLemmas.{defines-resolved, reading-resolved}
+use Rattle.im_session.proofs.ReadsLemmas.{counted-within, longer-found, longer-same}
 use Rattle.im_session.proofs.SessionLemmas.{kept-found, run-defined, run-lacking, run-looked, run-misnamed}
 use Rattle.im_session.proofs.ScanLemmas.{went-log}
 use Rattle.im_session.proofs.playing.run.Goals as goal
@@ -53,20 +55,22 @@ returns-clause-run g c =
     c.requires.speaks (sym c.is_definition.ensures ∙ c.if-is_definition.false) c.in-Ok.ensures.ok c.in-Err.ensures.err)
 
 pub returns-then-is_definition-clause-ticks : goal.returns-then-is_definition-clause-ticks
-returns-then-is_definition-clause-ticks g c =
-    none-counted c.args.context.now.who c.args.steps.now c.args.steps.now (g.H.Reach.known c.args.reach.now) (g.H.Reach.known c.define.new.reach) (omega arith)
+returns-then-is_definition-clause-ticks g c = Unread (omega arith)
 
 pub returns-in_default-clause-ticks : goal.returns-in_default-clause-ticks
-returns-in_default-clause-ticks g c =
-    none-counted c.args.context.now.who c.args.steps.now c.args.steps.now (g.H.Reach.known c.args.reach.now) (g.H.Reach.known c.look.new.self) (omega arith)
+returns-in_default-clause-ticks g c = Unread (omega arith)
 
 pub returns-clause-ticks : goal.returns-clause-ticks
-returns-clause-ticks g c =
-    none-counted c.args.context.now.who c.args.steps.now c.args.steps.now (g.H.Reach.known c.args.reach.now) (g.H.Reach.known c.look.new.self) (omega arith)
+returns-clause-ticks g c = Unread (omega arith)
 
 pub returns-in-Ok-resolve-clause-ticks : goal.returns-in-Ok-resolve-clause-ticks
 returns-in-Ok-resolve-clause-ticks g c =
-    counted-within c.args.context.now.who c.args.steps.now c.play.new.steps (g.H.Reach.known c.args.reach.now) (g.H.Reach.known c.look.new.self)
-    (g.H.Reach.known c.play.new.reach) (g.H.Reach.known c.play.new.reach)
-    (longer-found (g.H.Reach.known c.args.reach.now) (g.H.Reach.known c.look.new.self) _ c.in-Ok.ensures.ok)
-    (longer-same (g.H.Reach.known c.play.new.reach)) c.play.ensures.ticks
+    let who = c.args.context.now.who in
+    let state = state_of c.args.kept.now.items in
+    let old = g.H.Reach.known c.args.reach.now in
+    let looked = g.H.Reach.known c.look.new.self in
+    let new = g.H.Reach.known c.play.new.reach in
+    counted-within (reading_of c.args.statement.now) state who c.play.result c.args.steps.now c.play.new.steps old looked new new
+    (longer-found old looked _ c.in-Ok.ensures.ok) (longer-same new)
+    (subst (λ (reading : Reading). IsCounted reading state who c.play.result c.args.steps.now c.play.new.steps looked.log new.log)
+    (reading-resolved c.in-Ok.look.tables c.args.statement.now c.in-Ok-resolve.resolved c.in-Ok-resolve.ensures.ok) c.play.ensures.ticks)

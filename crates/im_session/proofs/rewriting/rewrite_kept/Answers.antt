@@ -1,4 +1,4 @@
-use Rattle.std.proofs.Common.{◌≤◌, List, length, sym, subst}
+use Rattle.std.proofs.Common.{◌≤◌, inr, List, length, sym, subst}
 use Rattle.im_history.specs.declared.change.Change.{Change}
 use Rattle.im_history.specs.Legal.{MayWrite}
 use Rattle.im_session.specs.inner.Rests.{IsRest}
@@ -30,3 +30,6 @@ returns-in-Err-clause-rest g c = λ late shut.
 
 pub returns-in-Err-clause-longer : goal.returns-in-Err-clause-longer
 returns-in-Err-clause-longer g c = longer-same (g.H.Reach.known c.args.reach.now)
+
+pub returns-in-Err-clause-marks : goal.returns-in-Err-clause-marks
+returns-in-Err-clause-marks g c = inr (1, c.out_of_memory.ensures)

@@ -9,9 +9,11 @@ use Rattle.im_session.specs.declared.scan.Purpose.TheVariants.{Rewrite}
 use Rattle.im_session.specs.inner.Rests.{IsRest}
 use Rattle.im_session.specs.inner.Scans.{IsScan}
 use Rattle.im_session.specs.inner.Writes.{AreRows}
+use Rattle.im_session.specs.Reads.{Own}
+use Rattle.im_session.proofs.CountLemmas.{own-lacked, own-told}
 use Rattle.im_session.proofs.PurposeLemmas.{behind, used-on, used-stopped}
 use Rattle.im_session.proofs.ReadsLemmas.{counted-within, longer-same}
-use Rattle.im_session.proofs.ScanLemmas.{scan-went, speaks-went}
+use Rattle.im_session.proofs.ScanLemmas.{longer-went, scan-went, speaks-went}
 use Rattle.im_session.proofs.WriteLemmas.{kept-rows, rewrites-went, rows-went}
 use Rattle.im_session.proofs.rewriting.rewrite_seen.Goals as goal
 use Rattle.im_statements.specs.Outcomes.{said}
@@ -82,7 +84,20 @@ returns-in-Err-clause-used g c =
     (c.in-Err.ensures.err 1 (behind who purpose cursor old)))
 
 pub returns-in-Ok-clause-ticks : goal.returns-in-Ok-clause-ticks
-returns-in-Ok-clause-ticks g c =
-    counted-within c.args.context.now.who c.args.steps.now c.gather.new.steps (g.H.Reach.known c.args.reach.now) (g.H.Reach.known c.args.reach.now)
-    (g.H.Reach.known c.gather.new.reach) (g.H.Reach.known c.rewrite_kept.new.reach)
-    (longer-same (g.H.Reach.known c.args.reach.now)) c.rewrite_kept.ensures.longer c.in-Ok.ensures.ticks
+returns-in-Ok-clause-ticks g c = λ state.
+    let who = c.args.context.now.who in
+    let cursor = c.args.cursor.now in
+    let old = g.H.Reach.known c.args.reach.now in
+    let mid = g.H.Reach.known c.gather.new.reach in
+    let new = g.H.Reach.known c.rewrite_kept.new.reach in
+    let reply = c.rewrite_kept.result in
+    counted-within Own state who reply c.args.steps.now c.gather.new.steps old old mid new (longer-same old) c.rewrite_kept.ensures.longer
+    (own-told who (Rewrite c.args.rewriting.now) cursor old mid c.requires.may (longer-went old mid c.in-Ok.ensures.went) reply c.args.steps.now
+    c.gather.new.steps state c.of-marks.result c.rewrite_kept.ensures.marks (rw c.of-marks.ensures c.in-Ok.ensures.rows) c.in-Ok.ensures.ticks)
+
+pub returns-in-Err-clause-ticks : goal.returns-in-Err-clause-ticks
+returns-in-Err-clause-ticks g c = λ state.
+    let old = g.H.Reach.known c.args.reach.now in
+    let new = g.H.Reach.known c.gather.new.reach in
+    own-lacked c.args.context.now.who (Rewrite c.args.rewriting.now) c.args.cursor.now old new c.requires.may (longer-went old new c.in-Err.ensures.went)
+    c.out_of_memory.result c.args.steps.now c.gather.new.steps state (1, c.out_of_memory.ensures) c.in-Err.ensures.ticks

@@ -4,6 +4,7 @@ use Rattle.im_plan.specs.Plan.{Plan}
 use Rattle.im_session.specs.inner.Rests.{IsRest}
 use Rattle.im_session.specs.inner.Writes.{write_reply}
 use Rattle.im_session.proofs.ReadsLemmas.{longer-added, longer-found, longer-same}
+use Rattle.im_session.proofs.RefusalLemmas.{write-marks}
 use Rattle.im_session.proofs.ScanLemmas.{open-went, scan-ended, went-found}
 use Rattle.im_session.proofs.WritingLemmas.{open-wrote, some-write, write-done, write-told}
 use Rattle.im_session.proofs.rewriting.write_changes.Goals as goal
@@ -64,3 +65,6 @@ returns-in-Ok-clause-longer g c =
 
 pub returns-in-Err-clause-longer : goal.returns-in-Err-clause-longer
 returns-in-Err-clause-longer g c = longer-found (g.H.Reach.known c.args.reach.now) (g.H.Reach.known c.write.new.self) _ c.in-Err.ensures.err
+
+pub returns-in-Err-clause-marks : goal.returns-in-Err-clause-marks
+returns-in-Err-clause-marks g c = rw c.write_refused.ensures (write-marks 1 c.in-Err.refused.place c.args.marks c.in-Err.refused.why)

@@ -2,7 +2,8 @@ use Rattle.std.proofs.Common.{◌∙◌, false, ap, arith, length}
 use Rattle.im_replies.specs.Causes.{fault_of}
 use Rattle.im_reach.specs.Sides.{Known, speaks}
 use Rattle.im_session.specs.inner.Purposes.{behind_scan}
-use Rattle.im_session.proofs.ReadsLemmas.{counted-within, longer-added, none-counted}
+use Rattle.im_session.specs.Reads.{Own, Unread}
+use Rattle.im_session.proofs.ReadsLemmas.{counted-within, longer-added}
 use Rattle.im_session.proofs.OpeningLemmas.{unopened-rest}
 use Rattle.im_session.proofs.PurposeLemmas.{opened-may, scan-used}
 use Rattle.im_session.proofs.ScanLemmas.{shut-added}
@@ -47,14 +48,15 @@ returns-clause-rest g c =
     c.in-Err.refused c.requires.speaks c.requires.shut c.in-Err.ensures.err)
 
 pub returns-in-Ok-clause-ticks : goal.returns-in-Ok-clause-ticks
-returns-in-Ok-clause-ticks g c =
-    counted-within c.args.context.now.who c.args.steps.now c.use_scan-reply.new.steps (g.H.Reach.known c.args.reach.now)
-    (g.H.Reach.known c.open_cursor.new.reach) (g.H.Reach.known c.use_scan-reply.new.reach) (g.H.Reach.known c.shut.new.self)
-    (longer-added c.args.context.now.who (g.H.Reach.known c.args.reach.now) (g.H.Reach.known c.open_cursor.new.reach) _ _ c.in-Ok.ensures.opened.added)
-    (longer-added c.args.context.now.who (g.H.Reach.known c.use_scan-reply.new.reach) (g.H.Reach.known c.shut.new.self) _ _ c.shut.ensures.added)
-    c.use_scan-reply.ensures.ticks
+returns-in-Ok-clause-ticks g c = λ state.
+    let who = c.args.context.now.who in
+    let old = g.H.Reach.known c.args.reach.now in
+    let opened = g.H.Reach.known c.open_cursor.new.reach in
+    let used = g.H.Reach.known c.use_scan-reply.new.reach in
+    let new = g.H.Reach.known c.shut.new.self in
+    counted-within Own state who c.use_scan-reply.result c.args.steps.now c.use_scan-reply.new.steps old opened used new
+    (longer-added who old opened _ _ c.in-Ok.ensures.opened.added) (longer-added who used new _ _ c.shut.ensures.added)
+    (c.use_scan-reply.ensures.ticks state)
 
 pub returns-clause-ticks : goal.returns-clause-ticks
-returns-clause-ticks g c =
-    none-counted c.args.context.now.who c.args.steps.now c.args.steps.now (g.H.Reach.known c.args.reach.now) (g.H.Reach.known c.open_cursor.new.reach)
-    (omega arith)
+returns-clause-ticks g c = λ state. Unread (omega arith)

@@ -3,9 +3,9 @@ use Rattle.im_replies.specs.declared.served.Served.{Served}
 use Rattle.im_plan.specs.Plan.{Plan}
 use Rattle.im_session.specs.inner.Scans.{Comes, Stops}
 use Rattle.im_session.proofs.CursorLemmas.{agrees-went}
-use Rattle.im_session.proofs.ReadsLemmas.{none-counted, read-counted}
+use Rattle.im_session.proofs.ReadsLemmas.{none-read, rows-next}
 use Rattle.im_session.proofs.ScanLemmas.{comes-last, comes-next, went-on}
-use Rattle.im_session.proofs.ServingLemmas.{counted-served, err-always, part-all, part-merges, part-next, read-served, stops-served}
+use Rattle.im_session.proofs.ServingLemmas.{err-always, has-served, part-all, part-merges, part-next, read-served, stops-served}
 use Rattle.im_session.proofs.serving.gather.Goals as goal
 use Rattle.im_statements.specs.Outcomes.{Outcome}
 use Rattle.im_statements.specs.Scans.{serve, serve_from}
@@ -73,6 +73,10 @@ loop-extent-preserved g c = record {
       (g.H.Reach.known c.args.reach.now) (g.H.Reach.known c.loop-extent.reach) (g.H.Reach.known c.served_part.new.reach)
       c.in_ok-served.ensures.went c.args.steps.now c.loop-extent.steps c.served_part.new.steps
       c.loop-extent.invariant.went c.loop-extent.invariant.read c.in_ok-served.ensures.ticks;
+  rows =
+      rows-next c.args.cursor.now.view c.loop-extent.extent c.args.steps.now c.loop-extent.steps c.served_part.new.steps
+      c.loop-extent.gathered.marks.items _ c.in_ok-served.served.mark (ap (λ (mark : Served). mark.extent) c.in_ok-served.ensures.mark)
+      c.in_ok-take.ensures.marks c.loop-extent.invariant.rows c.in_ok-served.ensures.rows;
 }
 
 pub returns-clause-part : goal.returns-clause-part
@@ -90,28 +94,6 @@ returns-clause-marks g c = λ k on.
     c.args.cursor.now.view c.args.cursor.now.bound.filter c.loop-extent.extent
     c.loop-extent.gathered.marks.items on c.loop-extent-test.false (c.loop-extent.invariant.comes k on)
 
-pub returns-in_err-served-clause-ticks : goal.returns-in_err-served-clause-ticks
-returns-in_err-served-clause-ticks g c =
-    counted-served c.args.context.now.who c.args.cursor.now c.loop-extent.extent
-    (g.H.Reach.known c.args.reach.now) (g.H.Reach.known c.loop-extent.reach) (g.H.Reach.known c.served_part.new.reach)
-    c.in_err-served.ensures.went c.args.steps.now c.loop-extent.steps c.served_part.new.steps
-    c.loop-extent.invariant.went c.loop-extent.invariant.read c.in_err-served.ensures.ticks c.loop-extent-test.true
-
-pub returns-in_err-take-clause-ticks : goal.returns-in_err-take-clause-ticks
-returns-in_err-take-clause-ticks g c =
-    counted-served c.args.context.now.who c.args.cursor.now c.loop-extent.extent
-    (g.H.Reach.known c.args.reach.now) (g.H.Reach.known c.loop-extent.reach) (g.H.Reach.known c.served_part.new.reach)
-    c.in_ok-served.ensures.went c.args.steps.now c.loop-extent.steps c.served_part.new.steps
-    c.loop-extent.invariant.went c.loop-extent.invariant.read c.in_ok-served.ensures.ticks c.loop-extent-test.true
-
-pub returns-clause-ticks : goal.returns-clause-ticks
-returns-clause-ticks g c =
-    let end = c.loop-extent.auto.extent-end c.requires.kept.sound.next in
-    read-counted c.args.context.now.who c.args.cursor.now.number c.args.cursor.now.view c.args.cursor.now.next
-    c.loop-extent.extent c.args.steps.now c.loop-extent.steps
-    (g.H.Reach.known c.args.reach.now) (g.H.Reach.known c.loop-extent.reach)
-    (omega (arith, end)) c.loop-extent.invariant.read
-
 pub returns-in_err-copy-clause-err : goal.returns-in_err-copy-clause-err
 returns-in_err-copy-clause-err g c =
     let stops : (k : ℕ) (on : List Served → Plan Outcome)
@@ -123,6 +105,30 @@ returns-in_err-copy-clause-err g c =
     } in
     err-always _ _ (λ error. stops)
 
+pub returns-in_err-served-clause-ticks : goal.returns-in_err-served-clause-ticks
+returns-in_err-served-clause-ticks g c =
+    has-served c.args.context.now.who c.args.cursor.now c.loop-extent.extent
+    (g.H.Reach.known c.args.reach.now) (g.H.Reach.known c.loop-extent.reach) (g.H.Reach.known c.served_part.new.reach)
+    c.in_err-served.ensures.went c.args.steps.now c.loop-extent.steps c.served_part.new.steps
+    c.loop-extent.invariant.went c.loop-extent.invariant.read c.in_err-served.ensures.ticks c.loop-extent-test.true
+
+pub returns-in_err-take-clause-ticks : goal.returns-in_err-take-clause-ticks
+returns-in_err-take-clause-ticks g c =
+    has-served c.args.context.now.who c.args.cursor.now c.loop-extent.extent
+    (g.H.Reach.known c.args.reach.now) (g.H.Reach.known c.loop-extent.reach) (g.H.Reach.known c.served_part.new.reach)
+    c.in_ok-served.ensures.went c.args.steps.now c.loop-extent.steps c.served_part.new.steps
+    c.loop-extent.invariant.went c.loop-extent.invariant.read c.in_ok-served.ensures.ticks c.loop-extent-test.true
+
+pub returns-clause-ticks : goal.returns-clause-ticks
+returns-clause-ticks g c =
+    let end = c.loop-extent.auto.extent-end c.requires.kept.sound.next in
+    record { upto = c.loop-extent.extent; within = omega (arith, end); read = c.loop-extent.invariant.read }
+
 pub returns-in_err-copy-clause-ticks : goal.returns-in_err-copy-clause-ticks
-returns-in_err-copy-clause-ticks g c =
-    none-counted c.args.context.now.who c.args.steps.now c.args.steps.now (g.H.Reach.known c.args.reach.now) (g.H.Reach.known c.args.reach.now) (omega arith)
+returns-in_err-copy-clause-ticks g c = record {
+  upto = c.args.cursor.now.next;
+  within = c.requires.kept.sound.next;
+  read =
+      none-read c.args.context.now.who c.args.cursor.now.number c.args.cursor.now.view c.args.cursor.now.next c.args.steps.now c.args.steps.now
+      (g.H.Reach.known c.args.reach.now) (g.H.Reach.known c.args.reach.now) (omega arith);
+}

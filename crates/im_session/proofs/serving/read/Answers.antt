@@ -29,3 +29,8 @@ returns-in-Err-clause-ticks g c =
     c.args.steps.now c.pin-pinned.new.steps (g.H.Reach.known c.args.reach.now)
     (g.H.Reach.known c.pin-pinned.new.self) _ c.requires.speaks c.requires.kept.scan c.in-Err.ensures.err
     (went-log (g.H.Reach.known c.args.reach.now) (g.H.Reach.known c.pin-pinned.new.self) _ c.in-Err.ensures.err).1
+
+pub returns-in-Ok-clause-rows : goal.returns-in-Ok-clause-rows
+returns-in-Ok-clause-rows g c =
+    let found = went-log (g.H.Reach.known c.args.reach.now) (g.H.Reach.known c.pin-pinned.new.self) _ c.in-Ok.ensures.ok in
+    rw found.2 found.3

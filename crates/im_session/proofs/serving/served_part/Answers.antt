@@ -8,7 +8,7 @@ use Rattle.im_scan.specs.Parts.{MayAsk}
 use Rattle.im_scan.specs.Pinned.{seen_in}
 use Rattle.im_session.specs.declared.serving.Wanted.{Wanted}
 use Rattle.im_session.specs.inner.Serving.{wanted_of}
-use Rattle.im_session.proofs.ServingLemmas.{how-read, may-read, seen_in-went}
+use Rattle.im_session.proofs.ServingLemmas.{how-read, may-read, rows-read, seen_in-went}
 use Rattle.im_session.proofs.serving.served_part.Goals as goal
 
 pub part-requires-clause-unit_fits : goal.part-requires-clause-unit_fits
@@ -47,3 +47,17 @@ returns-clause-mark g c =
     rw (c.mark-mark.ensures, read.place_is, read.unit_is, read.fetched_is)
     (ap (λ (how : How). record { place = length (g.H.Reach.known c.read.new.reach).log; extent = c.args.extent; how = how })
     (how-read (g.H.Reach.known c.read.new.reach).log c.args.cursor.now.view c.args.extent c.args.cursor.now.bound.filter))
+
+pub returns-clause-rows : goal.returns-clause-rows
+returns-clause-rows g c =
+    rw (
+      c.mark-mark.ensures,
+      rows-read (g.H.Reach.known c.read.new.reach).log c.args.cursor.now.view c.args.extent _ _ _ c.in_ok-pin.ensures.read,
+    ) c.in_ok-pin.ensures.rows
+
+pub returns-in-Parts-clause-rows : goal.returns-in-Parts-clause-rows
+returns-in-Parts-clause-rows g c =
+    rw (
+      c.mark-mark.ensures,
+      rows-read (g.H.Reach.known c.read.new.reach).log c.args.cursor.now.view c.args.extent _ _ _ c.in_ok-pin.ensures.read,
+    ) c.in_ok-pin.ensures.rows

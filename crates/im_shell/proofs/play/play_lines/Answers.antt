@@ -1,6 +1,6 @@
 use Rattle.std.proofs.Common.{arith, refl, ◌∙◌}
 use Rattle.im_shell.proofs.SentLemmas.{OnErr-always}
-use Rattle.im_shell.proofs.PlayLemmas.{IsGoing-start, IsGoing-next, IsGoing-end, IsGoing-part, IsGoing-stuck, next_in}
+use Rattle.im_shell.proofs.PlayLemmas.{IsGoing-start, IsGoing-next, IsGoing-end, IsGoing-part, IsGoing-stopped, IsGoing-stuck, next_in, stopped_in}
 use Rattle.im_play.proofs.ForCallers.{between-start, machine-start}
 use Rattle.im_shell.proofs.play.play_lines.Goals as goal
 
@@ -15,7 +15,8 @@ loop-rest-init g c = record {
 
 pub returns-in_err-play_next-clause-err : goal.returns-in_err-play_next-clause-err
 returns-in_err-play_next-clause-err g c =
-    OnErr-always _ (IsGoing-part c.args.shown _ _ _ _ _ _ _ _ _ _ _ c.loop-rest.invariant.going c.in_err-play_next.ensures.err)
+    OnErr-always _ (IsGoing-stopped c.args.shown _ _ _ _ _ _ _ _ _ _ _ _ _ _ _ c.loop-rest.invariant.going c.first_line.ensures.lines
+    (stopped_in _ _ c.loop-rest.invariant.limits _ _ _ _ _ _ _ _ _ c.in_err-play_next.ensures.err))
 
 pub returns-in_err-flush_piece-clause-err : goal.returns-in_err-flush_piece-clause-err
 returns-in_err-flush_piece-clause-err g c =

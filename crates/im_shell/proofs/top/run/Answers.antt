@@ -17,9 +17,9 @@ returns-in-Ok-play_for-clause-done g c = λ done.
 pub returns-in-Err-WriteFault-clause-in_part : goal.returns-in-Err-WriteFault-clause-in_part
 returns-in-Err-WriteFault-clause-in_part g c = λ ended.
     in-part-for c.args.words.now c.in-Ok.asked _ _ _ c.in-Ok-script_for.script.items c.as_slice.result.now c.in-Ok.ensures.taken c.in-Ok.ensures.good
-    c.in-Ok-script_for.ensures.script c.as_slice.ensures.value c.in-Err-WriteFault.ensures.err
+    c.in-Ok-script_for.ensures.script c.as_slice.ensures.value _ _ c.in-Err-WriteFault.ensures.err
 
 pub returns-clause-in_part : goal.returns-clause-in_part
 returns-clause-in_part g c = λ ended.
     in-part-for c.args.words.now c.in-Ok.asked _ _ _ c.in-Ok-script_for.script.items c.as_slice.result.now c.in-Ok.ensures.taken c.in-Ok.ensures.good
-    c.in-Ok-script_for.ensures.script c.as_slice.ensures.value c.in-Err-NoMemory-play_for.ensures.err
+    c.in-Ok-script_for.ensures.script c.as_slice.ensures.value _ _ c.in-Err-NoMemory-play_for.ensures.err

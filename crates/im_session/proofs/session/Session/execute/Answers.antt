@@ -1,8 +1,8 @@
 use Rattle.std.proofs.Common.{ap, sym, ◌∙◌}
 use Rattle.im_reach.specs.Sides.{speaks}
 use Rattle.im_session.specs.Sessions.{Kept}
-use Rattle.im_session.proofs.ReadsLemmas.{session-counted}
-use Rattle.im_session.proofs.SessionLemmas.{session-agrees, session-kept, session-played}
+use Rattle.im_session.specs.Reads.{reading_of}
+use Rattle.im_session.proofs.SessionLemmas.{session-agrees, session-counted, session-kept, session-played}
 use Rattle.im_session.proofs.session.Session.execute.Goals as goal
 
 pub run-reply-requires-clause-agrees : goal.run-reply-requires-clause-agrees
@@ -26,5 +26,6 @@ returns-clause-agrees g c =
 
 pub returns-clause-ticks : goal.returns-clause-ticks
 returns-clause-ticks g c =
-    session-counted c.args.self.now c.self.inside.who c.self.inside.cursors.items c.self.inside.in_transaction (sym c.self.view_is) c.args.steps.now
-    c.run-reply.new.steps (g.H.Reach.known c.args.reach.now) (g.H.Reach.known c.run-reply.new.reach) c.run-reply.ensures.ticks
+    session-counted c.args.self.now c.self.inside.who c.self.inside.cursors.items c.self.inside.in_transaction (sym c.self.view_is)
+    (g.H.Reach.known c.args.reach.now) (reading_of c.args.statement.now) c.run-reply.result c.args.steps.now c.run-reply.new.steps (g.H.Reach.known c.args.reach.now).log
+    (g.H.Reach.known c.run-reply.new.reach).log c.run-reply.ensures.ticks
