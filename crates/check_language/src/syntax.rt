@@ -3,8 +3,7 @@ ghost use Rattle.im_syntax.specs.Rules.{IsStmt};
 
 use im_lex::lex;
 use im_parse::parse;
-use im_syntax::{Stmt, Token, spell};
-use im_values::NoMemory;
+use im_syntax::{Keyword, Stmt, Token, spell};
 use std::alloc::Global;
 use std::test::Fail;
 
@@ -26,40 +25,72 @@ fn statement_of(alloc: Global, tokens: &[Token]) -> Result<Stmt, Fail>
     }
 }
 
-/// How many tokens a statement is spelled by.
-fn spelled_length(alloc: Global, statement: &Stmt) -> Result<usize, NoMemory>
-    requires { IsStmt statement.now }
-{
-    let tokens = spell(alloc, statement)?;
-    Ok(tokens.len())
+/// The signs, in the order in which the type of signs has them.
+const SIGNS: [&str; 10] = ["(", ")", ",", "*", "=", "<", "<=", ">", ">=", "<>"];
+
+/// Texts in quotes, and without them.
+const TEXTS: [(&str, &str); 4] = [("'it''s'", "it's"), ("''", ""), ("'a'", "a"), ("'b'", "b")];
+
+/// Whether a word, as it stands in a statement, is a token.
+fn is_token(word: &str, token: &Token) -> bool {
+    match token {
+        Token::Keyword(keyword) => match Keyword::of(word.as_bytes()) {
+            Some(read) => read as usize == *keyword as usize,
+            None => false,
+        },
+        Token::Word(name) => name.bytes() == word.as_bytes(),
+        Token::Int(number) => word.parse::<i64>() == Ok(*number),
+        Token::Text(text) => TEXTS.iter().any(|(quoted, plain)| *quoted == word
+            && plain.as_bytes() == text.bytes()),
+        Token::Sign(sign) => SIGNS[*sign as usize] == word,
+    }
 }
 
-/// Whether a text is a statement that is spelled again, by as many tokens.
-fn is_spelled_again(alloc: Global, text: &[u8]) -> Result<bool, Fail> {
-    let tokens = tokens_of(alloc, text)?;
+/// Whether these tokens are the words of a text, one after the other.
+fn are_tokens(tokens: &[Token], text: &str) -> bool {
+    let mut words = text.split(' ');
+    for token in tokens {
+        match words.next() {
+            Some(word) if is_token(word, token) => {}
+            _ => return false,
+        }
+    }
+    words.next().is_none()
+}
+
+/// Whether a text is a statement whose spelling is the words of the text.
+fn is_spelled_again(alloc: Global, text: &str) -> Result<bool, Fail> {
+    let tokens = tokens_of(alloc, text.as_bytes())?;
     let statement = statement_of(alloc, tokens.as_slice())?;
-    Ok(spelled_length(alloc, &statement)? == tokens.len())
+    let spelled = spell(alloc, &statement)?;
+    Ok(are_tokens(spelled.as_slice(), text))
 }
 
-/// A statement of each kind, with each part that it may have.
-const STATEMENTS: [&[u8]; 17] = [
-    b"CREATE TABLE T (K NUMBER, M INTEGER, N VARCHAR2(2)) BLOCK 2 EXTENT 3 INMEMORY MEMCOMPRESS FOR QUERY LOW PRIORITY HIGH",
-    b"ALTER TABLE T NO INMEMORY",
-    b"INSERT INTO T (K, N) VALUES (-1, 'it''s'), (NULL, '')",
-    b"UPDATE T SET K = 1, N = NULL WHERE NOT (K IN (1, 2) OR K IS NOT NULL) AND N NOT BETWEEN 'a' AND 'b'",
-    b"DELETE FROM T",
-    b"SELECT K, COUNT(*) FROM T WHERE K != 1 GROUP BY K ORDER BY MAX(K) DESC, K",
-    b"EXPLAIN SELECT * FROM T",
-    b"OPEN 7 FOR SELECT SUM(K), MIN(K), COUNT(K) FROM T",
-    b"STEP 7",
-    b"FETCH 7",
-    b"CLOSE 7",
-    b"SET TRANSACTION ISOLATION LEVEL READ COMMITTED",
-    b"COMMIT",
-    b"ROLLBACK",
-    b"RUN",
-    b"TRICKLE 6",
-    b"EVICT T 0",
+/// A statement of each kind, with each part that it may have. Its tokens have blanks between them.
+const STATEMENTS: [&str; 23] = [
+    "CREATE TABLE T ( K NUMBER , M INTEGER , N VARCHAR2 ( 2 ) ) BLOCK 2 EXTENT 3 INMEMORY MEMCOMPRESS FOR QUERY LOW PRIORITY HIGH",
+    "ALTER TABLE T INMEMORY PRIORITY NONE",
+    "ALTER TABLE T NO INMEMORY",
+    "INSERT INTO T ( K , N ) VALUES ( -1 , 'it''s' ) , ( NULL , '' )",
+    "UPDATE T SET K = 1 , N = NULL WHERE NOT ( K IN ( 1 , 2 ) OR K IS NOT NULL ) AND N NOT BETWEEN 'a' AND 'b'",
+    "DELETE FROM T",
+    "SELECT K , COUNT ( * ) FROM T WHERE K <> 1 AND K < 2 OR K <= 3 AND K > 4 AND K >= 5 GROUP BY K ORDER BY MAX ( K ) DESC , K ASC , M",
+    "EXPLAIN SELECT * FROM T",
+    "OPEN 7 FOR SELECT SUM ( K ) , MIN ( K ) , COUNT ( K ) FROM T",
+    "STEP 7",
+    "FETCH 7",
+    "CLOSE 7",
+    "SET TRANSACTION ISOLATION LEVEL READ COMMITTED",
+    "SET TRANSACTION ISOLATION LEVEL SERIALIZABLE",
+    "SET TRANSACTION READ ONLY",
+    "COMMIT",
+    "ROLLBACK",
+    "RUN",
+    "BEGIN",
+    "SWITCH",
+    "CANCEL",
+    "TRICKLE 6",
+    "EVICT T 0",
 ];
 
 #[test]
