@@ -5,8 +5,9 @@ ghost use Rattle.std.specs.Prelude.{◌≡◌, ◌<◌};
 
 use im_edge::{OpenGate, StdSink, StdSource};
 use im_shell::{Status, Word, run};
-use im_values::{NoMemory, Steps};
+use im_values::Steps;
 use std::alloc::Global;
+use std::io::ErrorKind;
 use std::marker::Brand;
 use std::process::ExitCode;
 use std::sync::Wait;
@@ -14,14 +15,25 @@ use std::sync::ledger::{Blank, Ledger};
 use std::thread::Threads;
 use std::{env, io};
 
-/// The words of the command line.
-fn words(alloc: Global, rt: &HostRuntime) -> Result<Vec<Word>, NoMemory> {
-    let mut words = Vec::new(alloc);
-    let Ok(arguments) = env::args(rt) else {
-        return Err(NoMemory);
+/// How the program ends where its words cannot be had: memory ran out, or one of them is no text.
+fn status_without_words(error: &io::Error) -> Status {
+    match error.kind() {
+        ErrorKind::OutOfMemory => Status::NoMemory,
+        _ => Status::Usage,
+    }
+}
+
+/// The words of the command line, or how the program ends without them.
+fn words(alloc: Global, rt: &HostRuntime) -> Result<Vec<Word>, Status> {
+    let arguments = match env::args(rt) {
+        Ok(arguments) => arguments,
+        Err(error) => return Err(status_without_words(&error)),
     };
+    let mut words = Vec::new(alloc);
     for argument in arguments {
-        words.push(Word::of(argument))?;
+        if words.push(Word::of(argument)).is_err() {
+            return Err(Status::NoMemory);
+        }
     }
     Ok(words)
 }
@@ -55,7 +67,7 @@ fn main(rt: HostRuntime) -> ExitCode {
     let alloc = rt.alloc();
     let status = match words(alloc, &rt) {
         Ok(words) => play::<HostRuntime, Brand>(&rt, alloc, words.as_slice(), Blank::new(1)),
-        Err(NoMemory) => Status::NoMemory,
+        Err(status) => status,
     };
     if let Some(line) = status.line() {
         // A line that cannot be written changes nothing: the exit status says the same.
