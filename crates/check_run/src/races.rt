@@ -1,6 +1,7 @@
+use crate::gates::MeetingGate;
 use crate::reader::{Race, read_report};
 use crate::shell::{plain, played};
-use im_edge::{Gate, HoldGate, OpenGate};
+use im_edge::{Gate, OpenGate};
 use im_shell::Status;
 use std::alloc::Global;
 use std::process::Abort;
@@ -146,7 +147,7 @@ fn steps_late(text: &str) -> Option<bool> {
 fn stepped<R: Abort + Threads + Wait + Sync>(
     rt: &R,
     alloc: Global,
-    gate: &HoldGate,
+    gate: &MeetingGate,
 ) -> Result<Vec<u8>, Fail> {
     let words = ["ime", "race", "--workers", "1", "--turns", "1000000"];
     let report = report_of(rt, alloc, &words, STEPPED, gate)?;
@@ -165,7 +166,7 @@ fn stepped<R: Abort + Threads + Wait + Sync>(
 
 #[test]
 fn a_step_waits_for_a_switch(rt: HostRuntime) -> Result<(), Fail> {
-    let gate = HoldGate::new((1, 2), (17, 1), 10_000_000);
+    let gate = MeetingGate::new((1, 2), (17, 1), 10_000_000);
     let report = stepped(&rt, rt.alloc(), &gate)?;
     assert_eq!(rt; steps_late(text_of(report.as_slice())), Some(true));
     Ok(())
@@ -173,7 +174,7 @@ fn a_step_waits_for_a_switch(rt: HostRuntime) -> Result<(), Fail> {
 
 #[test]
 fn a_switch_waits_for_a_step(rt: HostRuntime) -> Result<(), Fail> {
-    let gate = HoldGate::new((17, 1), (1, 2), 10_000_000);
+    let gate = MeetingGate::new((17, 1), (1, 2), 10_000_000);
     let report = stepped(&rt, rt.alloc(), &gate)?;
     let text = text_of(report.as_slice());
     assert_eq!(rt; steps_late(text), Some(false));
