@@ -34,6 +34,20 @@ const STEPS_REPORT: &str =
     h,9,1,shut,1\nh,10,1,leave\nworker,17,over,11\nat,5,4\n5,opened,1,2,2\nat,6,5\nmark,6,5,0,blocks\n\
     6,served,0,blocks\nat,7,9\nmark,7,9,1,unit,2,0\n7,served,1,unit,2,0\nat,8,9\n8,answer,2,1\n8,row,21\n";
 
+/// The race of a session that finds no row, since a unit excludes what it asks for.
+const PRUNED_RACE: Race<'static> = Race {
+    script: "1> CREATE TABLE T (K NUMBER) BLOCK 2 EXTENT 2 INMEMORY PRIORITY HIGH\n\
+        1> INSERT INTO T VALUES (10), (20)\n1> COMMIT\nrace>\n1> UPDATE T SET K = 7 WHERE K = 5",
+    prelude: 4,
+    workers: 1,
+};
+
+/// A report of it.
+const PRUNED_REPORT: &str =
+    "1,created,1,1\n2,inserted,2,0\n3,committed,2\nhistory,9\nh,0,1,create,T,2,2,K,0\nh,1,1,memory,1,high\n\
+    h,2,1,write,2\nc,2,1,0,put,10\nc,2,1,1,put,20\nh,3,1,commit\nh,4,17,build,1,1,0,0\nh,5,17,switch,1\n\
+    h,6,1,open,0,1\nh,7,1,shut,0\nh,8,1,leave\nworker,17,over,9\nat,5,6\nmark,5,7,0,pruned,2,0\n5,updated,0\n";
+
 /// A report with lines changed: each that is the first of a pair becomes the second, or is left out where that is empty.
 fn changed(alloc: Global, report: &str, pairs: &[(&str, &str)]) -> Result<String, Fail> {
     let mut text = String::new(alloc);
@@ -68,6 +82,10 @@ fn a_lawful_report_passes(rt: HostRuntime) -> Result<(), Fail> {
     assert_eq!(rt; read_changed(rt.alloc(), &RACE, REPORT, &[])?, Ok(()));
     assert_eq!(rt;
         read_changed(rt.alloc(), &STEPS_RACE, STEPS_REPORT, &[])?,
+        Ok(())
+    );
+    assert_eq!(rt;
+        read_changed(rt.alloc(), &PRUNED_RACE, PRUNED_REPORT, &[])?,
         Ok(())
     );
     let spent = [("worker,17,over,16", "worker,17,spent,0,16")];
@@ -169,6 +187,23 @@ const STEPS_LINES: [Spoilt; 5] = [
     ),
 ];
 
+/// The race of a session that finds no row, with one line changed.
+const PRUNED_LINES: [Spoilt; 3] = [
+    // A unit is read that could be passed over, and a mark stands behind the end of the scan.
+    (
+        "mark,5,7,0,pruned,2,0",
+        "mark,5,7,0,unit,2,0",
+        Wrong::Mark(5),
+    ),
+    (
+        "mark,5,7,0,pruned,2,0",
+        "mark,5,8,0,pruned,2,0",
+        Wrong::Extents(5),
+    ),
+    // A row is said to be changed, and nothing was written.
+    ("5,updated,0", "5,updated,1", Wrong::Reply(5)),
+];
+
 /// Compares what the reader says of the report of a race with a line changed.
 fn check_spoilt<R: Abort>(
     rt: &R,
@@ -189,7 +224,8 @@ fn check_spoilt<R: Abort>(
 #[test]
 fn a_report_with_a_line_spoilt_is_refused(rt: HostRuntime) -> Result<(), Fail> {
     check_spoilt(&rt, rt.alloc(), &RACE, REPORT, &LINES)?;
-    check_spoilt(&rt, rt.alloc(), &STEPS_RACE, STEPS_REPORT, &STEPS_LINES)
+    check_spoilt(&rt, rt.alloc(), &STEPS_RACE, STEPS_REPORT, &STEPS_LINES)?;
+    check_spoilt(&rt, rt.alloc(), &PRUNED_RACE, PRUNED_REPORT, &PRUNED_LINES)
 }
 
 #[test]
