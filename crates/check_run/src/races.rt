@@ -20,7 +20,7 @@ const REFUSED: &str =
     "1> CREATE TABLE T (K NUMBER)\nrace>\n2> SELEC\n2> SELECT K FROM U\n  bg> RUN\n3> garbage";
 
 /// A session steps through a table of two extents, beside a worker that builds them.
-const STEPPED: &str = "1> CREATE TABLE T (K NUMBER) BLOCK 2 EXTENT 2 INMEMORY PRIORITY HIGH\n\
+pub const STEPPED: &str = "1> CREATE TABLE T (K NUMBER) BLOCK 2 EXTENT 2 INMEMORY PRIORITY HIGH\n\
     1> INSERT INTO T VALUES (1), (2), (3), (4), (5), (6)\n1> COMMIT\nrace>\n\
     1> OPEN 1 FOR SELECT SUM(K) FROM T\n1> STEP 1\n1> STEP 1\n1> FETCH 1";
 

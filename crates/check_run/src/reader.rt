@@ -1,17 +1,29 @@
 //! A plain, slow reader of the report of a race. It shares nothing with the engine: it cuts the text into records, and computes what it
 //! compares by going through the whole history again and again.
 //!
-//! It reads races over tables whose columns are numbers, so no field is quoted.
+//! It reads races over tables of one column of numbers, so no field is quoted, and replays what their statements come to:
+//!
+//! - before the race CREATE TABLE, INSERT and COMMIT alone
+//! - in the race also UPDATE and DELETE with one condition `COLUMN = N`, sums and counts of a whole table by SELECT or by a cursor that
+//!   is opened there, COMMIT and ROLLBACK
+//! - no EVICT, no TRICKLE, and no place in the column store that is left or of the priority `none`: it refuses a report of these
+//!
+//! It passes over the values of errors and whether they are due, the columns and the shape of a table that is created, which of those
+//! builds that may begin comes first, whether units fit into the area, and how many turns a worker has.
 mod answers;
 mod entry;
 mod record;
+mod replies;
 mod report;
 mod rows;
 mod rules;
 mod script;
+mod units;
+mod writes;
 mod wrong;
 
 use answers::check_answers;
+use replies::check_prelude;
 use report::Report;
 use rules::check_history;
 use script::{Line, Script};
@@ -49,11 +61,15 @@ fn check_parts(
     script: &Script<'_>,
     report: &Report<'_>,
 ) -> Result<(), Wrong> {
+    let mut early = Vec::new(alloc);
+    for reply in &report.prelude {
+        early.push(reply.count(0)?)?;
+    }
     let mut answered = Vec::new(alloc);
     for answer in &report.answers {
         answered.push(answer.line)?;
     }
-    check_lines(script.prelude.as_slice(), report.prelude.as_slice())?;
+    check_lines(script.prelude.as_slice(), early.as_slice())?;
     check(report.ends.len() == race.workers, Wrong::Workers)?;
     check_lines(script.race.as_slice(), answered.as_slice())
 }
@@ -66,6 +82,7 @@ pub fn read_report(alloc: Global, race: &Race<'_>, report: &[u8]) -> Result<(), 
     let script = Script::read(alloc, race.script)?;
     let report = Report::read(alloc, text)?;
     check_parts(alloc, race, &script, &report)?;
-    check_history(race, &script, &report)?;
-    check_answers(alloc, &script, &report)
+    check_history(alloc, race, &script, &report)?;
+    check_prelude(alloc, race, &script, &report)?;
+    check_answers(alloc, race, &script, &report)
 }

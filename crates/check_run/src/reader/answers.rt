@@ -1,27 +1,15 @@
 // The answers to the lines of a race.
+use super::Race;
 use super::entry::{Entry, What};
-use super::record::Value;
-use super::report::{Answer, Mark, Report};
-use super::rows::{Rows, View, rows_seen, scn, stale, view_of};
+use super::record::{Record, Value};
+use super::replies::is_told;
+use super::report::{Answer, Report};
+use super::rows::{Rows, View, extents, rows_seen, scn, table_called, view_of};
 use super::script::{Line, Query, Script};
+use super::units::unit_at;
+use super::writes::{is_written, writes};
 use super::wrong::{Wrong, check};
 use std::alloc::Global;
-
-/// Whether a line with this reply has the place of this entry.
-fn is_settled_by(what: What, answer: &Answer<'_>) -> bool {
-    match answer.field(1) {
-        "answer" | "opened" | "plan" => matches!(what, What::Open { .. }),
-        "inserted" => matches!(what, What::Write { .. }),
-        "updated" | "deleted" if answer.field(2) == "0" => matches!(what, What::Open { .. }),
-        "updated" | "deleted" => matches!(what, What::Write { .. }),
-        "created" => matches!(what, What::Create { .. }),
-        "altered" => what == What::Memory,
-        "begun" => matches!(what, What::Begin { .. }),
-        "committed" => what == What::Commit,
-        "closed" => matches!(what, What::Shut { .. }),
-        _ => true,
-    }
-}
 
 /// Whether a reply has the place of an entry, and not that of a look.
 fn has_entry(line: &Line<'_>, answer: &Answer<'_>) -> bool {
@@ -31,26 +19,47 @@ fn has_entry(line: &Line<'_>, answer: &Answer<'_>) -> bool {
     }
 }
 
-/// The entry of a reply is one of its session, and of the kind that the reply wants.
-fn is_settled(
+/// Whether a reply has one record alone, which is that of the line's entry, where it has the place of one.
+fn is_replied(line: &Line<'_>, answer: &Answer<'_>, reply: &Record<'_>) -> bool {
+    match reply.field(1) {
+        "error" => answer.records.len() == 1,
+        "answer" => line.reply() == "answer",
+        "rolled-back" => line.reply() == "rolled-back" && reply.says("rolled-back", &[]),
+        "end" => line.reply() == "served" && reply.says("end", &[line.cursor()]),
+        "served" => match answer.marks.first() {
+            Some(mark) => line.reply() == "served" && mark.is_told(reply),
+            None => false,
+        },
+        word => line.reply() == word && answer.records.len() == 1,
+    }
+}
+
+/// The reply of a line is that of its statement and its entry, and the entry has what the statement comes to.
+fn check_reply(
+    alloc: Global,
     entries: &[Entry<'_>],
     line: &Line<'_>,
     answer: &Answer<'_>,
     who: usize,
     place: usize,
-) -> bool {
+) -> Result<(), Wrong> {
+    let wrong = Wrong::Reply(line.number);
+    let reply = answer.records.first().ok_or(wrong)?;
+    check(is_replied(line, answer, reply), wrong)?;
     if !has_entry(line, answer) {
-        return place <= entries.len();
+        return check(place <= entries.len(), Wrong::Place(line.number));
     }
-    match entries.get(place) {
-        Some(entry) => entry.who == who && is_settled_by(entry.what, answer),
-        None => false,
-    }
+    let entry = entries.get(place).ok_or(Wrong::Place(line.number))?;
+    check(entry.who == who, Wrong::Place(line.number))?;
+    check(is_told(entries, place, entry, reply), wrong)?;
+    let is_good = is_written(alloc, entries, line, place, entry)?;
+    check(is_good, Wrong::Write(line.number))
 }
 
-/// The greatest place of a line, or 0.
-fn last_place(answer: &Answer<'_>) -> usize {
-    let mut last = answer.place.unwrap_or(0);
+/// The greatest place of a line, and at least the place behind its entry, or 0.
+fn last_place(line: &Line<'_>, answer: &Answer<'_>) -> usize {
+    let behind = usize::from(answer.place.is_some() && has_entry(line, answer));
+    let mut last = answer.place.unwrap_or(0).saturating_add(behind);
     for mark in &answer.marks {
         last = last.max(mark.place);
     }
@@ -62,7 +71,7 @@ fn last_before(script: &Script<'_>, report: &Report<'_>, line: usize, who: usize
     let mut last = 0;
     for (other, answer) in script.race.iter().zip(report.answers.iter()) {
         if other.number < line && other.who == Some(who) {
-            last = last_place(answer).max(last);
+            last = last_place(other, answer).max(last);
         }
     }
     last
@@ -96,74 +105,92 @@ fn check_places(
         Some(mark) => answer.field(1) != "served" || mark.place == place,
         None => answer.field(1) != "served",
     };
-    let is_good = is_in_order(answer, first, entries.len())
-        && is_settled(entries, line, answer, who, place)
-        && is_served;
+    let is_good = is_in_order(answer, first, entries.len()) && is_served;
     check(is_good, Wrong::Place(line.number))
 }
 
-/// The SCN of a unit that is in use for an extent at a place.
-fn unit_scn(entries: &[Entry<'_>], place: usize, table: usize, extent: usize) -> Option<usize> {
-    let mut found = None;
-    for entry in entries.iter().take(place) {
-        if let What::Switch { id } = entry.what {
-            for (at, begun) in entries.iter().enumerate() {
-                if begun.what == (What::Build { id, table, extent }) {
-                    found = Some(scn(entries, at));
-                }
-            }
+/// How many extents the steps of a cursor were served before a line.
+fn steps_before(script: &Script<'_>, report: &Report<'_>, line: &Line<'_>, view: &View) -> usize {
+    let mut steps: usize = 0;
+    for (other, answer) in script.race.iter().zip(report.answers.iter()) {
+        let is_before = other.number < line.number && other.who == Some(view.who);
+        let is_step = other.verb() == "STEP" && other.cursor() == line.cursor();
+        let is_served = answer.field(1) == "served" && answer.place > Some(view.place);
+        if is_before && is_step && is_served {
+            steps = steps.saturating_add(1);
         }
     }
-    found
+    steps
 }
 
-/// A mark with a unit is what the history says of it.
-fn is_marked(
-    alloc: Global,
-    entries: &[Entry<'_>],
+/// The place of the entry that ends a scan: its write, or the entry that shuts its cursor.
+fn scan_end(entries: &[Entry<'_>], view: &View, cursor: usize) -> usize {
+    for (at, entry) in entries.iter().enumerate() {
+        let is_end = match entry.what {
+            What::Shut { cursor: shut } => shut == cursor,
+            What::Write { .. } => cursor == 0,
+            _ => false,
+        };
+        if is_end && at > view.place && entry.who == view.who {
+            return at;
+        }
+    }
+    entries.len()
+}
+
+/// Whether a line with this answer has as many marks as it should have, where so many extents are left.
+fn is_counted(line: &Line<'_>, answer: &Answer<'_>, left: usize) -> bool {
+    let count = answer.marks.len();
+    match answer.field(1) {
+        "answer" | "updated" | "deleted" => count == left,
+        "served" => count == 1 && left > 0,
+        "end" => count == 0 && left == 0,
+        "error" => count == 0 || (line.asked().is_some() && count == left),
+        _ => count == 0,
+    }
+}
+
+/// A line was served those extents that were left for it, in order, while it scanned.
+fn check_extents(
+    script: &Script<'_>,
+    report: &Report<'_>,
+    line: &Line<'_>,
+    answer: &Answer<'_>,
     view: &View,
-    mark: &Mark,
-) -> Result<bool, Wrong> {
-    let Some(unit) = mark.unit else {
-        return Ok(true);
-    };
-    let is_in_use = unit_scn(entries, mark.place, view.table, mark.extent) == Some(unit.scn);
-    let is_old = unit.scn <= scn(entries, view.snapshot);
-    Ok(is_in_use && is_old && unit.stale == stale(alloc, entries, view, mark.extent, unit.scn)?)
+) -> Result<(), Wrong> {
+    let entries = report.entries.as_slice();
+    let first = steps_before(script, report, line, view);
+    let left = extents(entries, view.place, view.table).saturating_sub(first);
+    let end = scan_end(entries, view, line.cursor());
+    let mut is_good = is_counted(line, answer, left);
+    for (index, mark) in answer.marks.iter().enumerate() {
+        let is_next = mark.extent == first.saturating_add(index);
+        is_good = is_good && is_next && mark.place > view.place && mark.place <= end;
+    }
+    check(is_good, Wrong::Extents(line.number))
 }
 
 /// Each extent was served so as the history says.
 fn check_marks(
     alloc: Global,
-    entries: &[Entry<'_>],
+    script: &Script<'_>,
+    report: &Report<'_>,
     line: &Line<'_>,
     answer: &Answer<'_>,
     who: usize,
+    place: usize,
 ) -> Result<(), Wrong> {
+    let entries = report.entries.as_slice();
+    let behind = place.saturating_add(usize::from(line.cursor() == 0));
+    let Some(view) = view_of(entries, behind, who, line.cursor()) else {
+        return check(answer.marks.is_empty(), Wrong::Extents(line.number));
+    };
+    check_extents(script, report, line, answer, &view)?;
     for mark in &answer.marks {
-        match view_of(entries, mark.place, who, line.cursor()) {
-            Some(view) => {
-                let is_good = is_marked(alloc, entries, &view, mark)?;
-                check(is_good, Wrong::Mark(line.number))?;
-            }
-            None => return Err(Wrong::Mark(line.number)),
-        }
+        let unit = unit_at(alloc, entries, &view, mark.place, mark.extent, line.asked())?;
+        check(mark.unit == unit, Wrong::Mark(line.number))?;
     }
     Ok(())
-}
-
-/// The number of a table and the entry that created it.
-fn table_called<'a, 'b>(entries: &'b [Entry<'a>], name: &str) -> Option<(usize, &'b Entry<'a>)> {
-    let mut tables: usize = 0;
-    for entry in entries {
-        if matches!(entry.what, What::Create { .. }) {
-            tables = tables.saturating_add(1);
-            if entry.record.field(4) == name {
-                return Some((tables, entry));
-            }
-        }
-    }
-    None
 }
 
 /// What a query answers of rows.
@@ -256,17 +283,35 @@ fn check_line(
     let who = line.who.ok_or(Wrong::Place(line.number))?;
     let entries = report.entries.as_slice();
     check_places(script, report, line, answer, who, place)?;
-    check_marks(alloc, entries, line, answer, who)?;
+    check_reply(alloc, entries, line, answer, who, place)?;
+    check_marks(alloc, script, report, line, answer, who, place)?;
     if answer.field(1) == "answer" {
         check_answer(alloc, script, entries, line, answer, who, place)?;
     }
     Ok(())
 }
 
-/// Each line of the race is answered so as the history says.
-pub fn check_answers(alloc: Global, script: &Script<'_>, report: &Report<'_>) -> Result<(), Wrong> {
+/// Whether a line has a write.
+fn has_write(answer: &Answer<'_>) -> bool {
+    match answer.field(1) {
+        "inserted" => true,
+        "updated" | "deleted" => answer.field(2) != "0",
+        _ => false,
+    }
+}
+
+/// Each line of the race is answered so as the history says, and no other line wrote.
+pub fn check_answers(
+    alloc: Global,
+    race: &Race<'_>,
+    script: &Script<'_>,
+    report: &Report<'_>,
+) -> Result<(), Wrong> {
+    let mut told: usize = 0;
     for (line, answer) in script.race.iter().zip(report.answers.iter()) {
         check_line(alloc, script, report, line, answer)?;
+        told = told.saturating_add(usize::from(has_write(answer)));
     }
-    Ok(())
+    let is_told = writes(report.entries.as_slice(), race.prelude) == told;
+    check(is_told, Wrong::Writes)
 }

@@ -13,7 +13,9 @@ pub enum What {
     Create {
         extent: usize,
     },
-    Memory,
+    Memory {
+        table: usize,
+    },
     /// Whether the transaction keeps its first snapshot.
     Begin {
         keeps: bool,
@@ -41,8 +43,6 @@ pub enum What {
     Cancel {
         id: usize,
     },
-    /// Credits, or a unit that was thrown out.
-    Other,
     Leave,
 }
 
@@ -72,7 +72,13 @@ fn what_of(record: &Record<'_>) -> Result<What, Wrong> {
         "create" => What::Create {
             extent: record.count(5)?.saturating_mul(record.count(6)?),
         },
-        "memory" => What::Memory,
+        "memory" => {
+            let is_read = record.field(5) != "none" && record.field(5) != "off";
+            check(is_read, record.wrong())?;
+            What::Memory {
+                table: record.count(4)?,
+            }
+        }
         "begin" => What::Begin {
             keeps: record.field(4) != "committed",
         },
@@ -99,7 +105,6 @@ fn what_of(record: &Record<'_>) -> Result<What, Wrong> {
         "cancel" => What::Cancel {
             id: record.count(4)?,
         },
-        "trickle" | "evict" => What::Other,
         "leave" => What::Leave,
         _ => return Err(record.wrong()),
     })

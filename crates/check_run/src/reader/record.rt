@@ -38,6 +38,20 @@ impl<'a> Record<'a> {
         self.fields.get(at).copied().unwrap_or("")
     }
 
+    /// Whether a field is this number.
+    pub fn is_number(&self, at: usize, number: usize) -> bool {
+        self.field(at).parse::<usize>() == Ok(number)
+    }
+
+    /// Whether it answers with this word and these numbers, and with no more.
+    pub fn says(&self, word: &str, numbers: &[usize]) -> bool {
+        let mut is_so = self.field(1) == word && self.len() == numbers.len().saturating_add(2);
+        for (at, number) in numbers.iter().enumerate() {
+            is_so = is_so && self.is_number(at.saturating_add(2), *number);
+        }
+        is_so
+    }
+
     /// The number that is a field.
     pub fn count(&self, at: usize) -> Result<usize, Wrong> {
         match self.field(at).parse::<usize>() {

@@ -8,12 +8,15 @@ use std::alloc::Global;
 #[derive(Clone, Copy)]
 pub enum End {
     Over { place: usize },
-    Spent,
+    /// The last place, if there was one, at which no build could begin.
+    Spent { idle: Option<usize> },
 }
 
 /// The unit that served an extent.
-#[derive(Clone, Copy)]
+#[derive(Clone, Copy, PartialEq, Eq)]
 pub struct Unit {
+    /// Whether no row of it can meet what is asked for.
+    pub is_pruned: bool,
     pub scn: usize,
     pub stale: usize,
 }
@@ -40,8 +43,8 @@ pub struct Answer<'a> {
 /// A report.
 #[derive(Drop)]
 pub struct Report<'a> {
-    /// The lines that are answered before the history.
-    pub prelude: Vec<usize>,
+    /// The replies before the history.
+    pub prelude: Vec<Record<'a>>,
     /// How many entries the history is said to have, where that is said.
     length: Option<usize>,
     pub entries: Vec<Entry<'a>>,
@@ -62,10 +65,12 @@ fn end_of(record: &Record<'_>) -> Result<End, Wrong> {
         record.wrong(),
     )?;
     record.count(3)?;
-    if !record.field(4).is_empty() {
-        record.count(4)?;
+    if record.field(4).is_empty() {
+        return Ok(End::Spent { idle: None });
     }
-    Ok(End::Spent)
+    Ok(End::Spent {
+        idle: Some(record.count(4)?),
+    })
 }
 
 /// The unit of a mark, where it has one.
@@ -77,6 +82,7 @@ fn unit_of(record: &Record<'_>) -> Result<Option<Unit>, Wrong> {
     let is_unit = record.field(4) == "unit" || record.field(4) == "pruned";
     check(is_unit && record.len() == 7, record.wrong())?;
     Ok(Some(Unit {
+        is_pruned: record.field(4) == "pruned",
         scn: record.count(5)?,
         stale: record.count(6)?,
     }))
@@ -89,6 +95,19 @@ fn mark_of(record: &Record<'_>) -> Result<Mark, Wrong> {
         extent: record.count(3)?,
         unit: unit_of(record)?,
     })
+}
+
+impl Mark {
+    /// Whether the reply to a STEP says the same.
+    pub fn is_told(&self, reply: &Record<'_>) -> bool {
+        let is_extent = reply.is_number(2, self.extent);
+        let Some(unit) = self.unit else {
+            return is_extent && reply.len() == 4 && reply.field(3) == "blocks";
+        };
+        let word = if unit.is_pruned { "pruned" } else { "unit" };
+        let is_unit = reply.is_number(4, unit.scn) && reply.is_number(5, unit.stale);
+        is_extent && is_unit && reply.len() == 6 && reply.field(3) == word
+    }
 }
 
 impl<'a> Answer<'a> {
@@ -209,7 +228,8 @@ impl<'a> Report<'a> {
     fn add_reply(&mut self, alloc: Global, record: Record<'a>) -> Result<(), Wrong> {
         let line = record.count(0)?;
         if self.length.is_none() {
-            return self.add_early(line);
+            self.prelude.push(record)?;
+            return Ok(());
         }
         let is_begun = match self.answers.last() {
             Some(answer) => answer.line == line,
@@ -221,18 +241,6 @@ impl<'a> Report<'a> {
         match self.answers.last_mut() {
             Some(answer) => answer.records.push(record)?,
             None => return Err(record.wrong()),
-        }
-        Ok(())
-    }
-
-    /// Adds a record of the reply to a line before the race.
-    fn add_early(&mut self, line: usize) -> Result<(), Wrong> {
-        let is_begun = match self.prelude.last() {
-            Some(last) => *last == line,
-            None => false,
-        };
-        if !is_begun {
-            self.prelude.push(line)?;
         }
         Ok(())
     }

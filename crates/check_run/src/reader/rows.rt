@@ -134,8 +134,54 @@ pub fn rows_seen(
     Ok(rows)
 }
 
+/// The number of a table and the entry that created it.
+pub fn table_called<'a, 'b>(
+    entries: &'b [Entry<'a>],
+    name: &str,
+) -> Option<(usize, &'b Entry<'a>)> {
+    let mut tables: usize = 0;
+    for entry in entries {
+        if matches!(entry.what, What::Create { .. }) {
+            tables = tables.saturating_add(1);
+            if entry.record.field(4) == name {
+                return Some((tables, entry));
+            }
+        }
+    }
+    None
+}
+
+/// How many tables stand at a place.
+pub fn tables(entries: &[Entry<'_>], place: usize) -> usize {
+    entries
+        .iter()
+        .take(place)
+        .filter(|entry| matches!(entry.what, What::Create { .. }))
+        .count()
+}
+
+/// How many row numbers of a table are given at a place.
+pub fn given(entries: &[Entry<'_>], place: usize, table: usize) -> usize {
+    let mut given = 0;
+    for entry in entries.iter().take(place) {
+        for change in &entry.changes {
+            if change.table == table {
+                given = change.row.saturating_add(1).max(given);
+            }
+        }
+    }
+    given
+}
+
+/// How many extents of a table the row numbers fill that are given at a place.
+pub fn extents(entries: &[Entry<'_>], place: usize, table: usize) -> usize {
+    let per = extent_rows(entries, table).unwrap_or(1);
+    let filled = given(entries, place, table).saturating_add(per.saturating_sub(1));
+    filled.checked_div(per).unwrap_or(0)
+}
+
 /// How many row numbers make an extent of a table.
-fn extent_rows(entries: &[Entry<'_>], table: usize) -> Option<usize> {
+pub fn extent_rows(entries: &[Entry<'_>], table: usize) -> Option<usize> {
     let mut tables: usize = 0;
     for entry in entries {
         if let What::Create { extent } = entry.what {

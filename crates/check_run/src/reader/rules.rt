@@ -4,7 +4,9 @@ use super::entry::{Entry, FIRST_WORKER, What};
 use super::report::{End, Report};
 use super::rows::is_open;
 use super::script::Script;
+use super::units::{has_build, may_build};
 use super::wrong::{Wrong, check};
+use std::alloc::Global;
 
 /// Whether a number has a cursor open at a place.
 fn is_cursor_open(entries: &[Entry<'_>], place: usize, who: usize, cursor: usize) -> bool {
@@ -55,7 +57,7 @@ fn takes_part(race: &Race<'_>, script: &Script<'_>, place: usize, who: usize) ->
 }
 
 /// Whether a number may begin a build at a place.
-fn may_build(race: &Race<'_>, place: usize, who: usize) -> bool {
+fn is_builder(race: &Race<'_>, place: usize, who: usize) -> bool {
     place < race.prelude || is_worker(race, who)
 }
 
@@ -76,7 +78,7 @@ fn check_entry(
             Wrong::Cursor(place),
         ),
         What::Build { id, .. } => check(
-            may_build(race, place, who) && !is_begun(entries, place, id),
+            is_builder(race, place, who) && !is_begun(entries, place, id),
             Wrong::Begins(place),
         ),
         What::Switch { id } | What::Cancel { id } => check(
@@ -134,18 +136,61 @@ fn check_session(entries: &[Entry<'_>], who: usize) -> Result<(), Wrong> {
     check(!goes_on && !has_open, Wrong::Leaves(who))
 }
 
+/// Whether a number holds a build at a place.
+fn holds(entries: &[Entry<'_>], place: usize, who: usize) -> bool {
+    entries.iter().take(place).any(|entry| {
+        matches!(entry.what, What::Build { id, .. } if holder(entries, place, id) == Some(who))
+    })
+}
+
 /// A worker that was over had nothing to do from there on, and all sessions had left.
-fn check_end(entries: &[Entry<'_>], sessions: usize, who: usize, end: End) -> Result<(), Wrong> {
-    let End::Over { place } = end else {
-        return Ok(());
-    };
+fn check_over(
+    entries: &[Entry<'_>],
+    sessions: usize,
+    who: usize,
+    place: usize,
+) -> Result<(), Wrong> {
     let goes_on = entries.iter().skip(place).any(|entry| entry.who == who);
     let is_over = place <= entries.len() && left(entries, place) == sessions;
     check(is_over && !goes_on, Wrong::Over(who))
 }
 
+/// A worker with nothing to do held no build, and none could begin.
+fn check_end(
+    alloc: Global,
+    race: &Race<'_>,
+    entries: &[Entry<'_>],
+    sessions: usize,
+    who: usize,
+    end: End,
+) -> Result<(), Wrong> {
+    let place = match end {
+        End::Over { place } => {
+            check_over(entries, sessions, who, place)?;
+            place
+        }
+        End::Spent { idle: Some(place) } => place,
+        End::Spent { idle: None } => return Ok(()),
+    };
+    let is_there = race.prelude <= place && place <= entries.len();
+    let is_idle = is_there && !holds(entries, place, who) && !has_build(alloc, entries, place)?;
+    check(is_idle, Wrong::Idle(who))
+}
+
+/// Each build was of an extent that had to be built.
+fn check_builds(alloc: Global, entries: &[Entry<'_>]) -> Result<(), Wrong> {
+    for (place, entry) in entries.iter().enumerate() {
+        if let What::Build { table, extent, .. } = entry.what {
+            let is_due = may_build(alloc, entries, place, table, extent)?;
+            check(is_due, Wrong::Begins(place))?;
+        }
+    }
+    Ok(())
+}
+
 /// The history keeps the rules of a race.
 pub fn check_history(
+    alloc: Global,
     race: &Race<'_>,
     script: &Script<'_>,
     report: &Report<'_>,
@@ -158,6 +203,7 @@ pub fn check_history(
         )?;
         check_entry(race, entries, place, entry)?;
     }
+    check_builds(alloc, entries)?;
     check_held(entries)?;
     for who in 1..FIRST_WORKER {
         if script.plays(who) {
@@ -168,6 +214,8 @@ pub fn check_history(
     }
     for (index, end) in report.ends.iter().enumerate() {
         check_end(
+            alloc,
+            race,
             entries,
             script.sessions(),
             index.saturating_add(FIRST_WORKER),

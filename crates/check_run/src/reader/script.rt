@@ -1,5 +1,6 @@
 // The lines of a script, as far as they matter here.
 use super::entry::FIRST_WORKER;
+use super::record::Value;
 use super::wrong::Wrong;
 use std::alloc::Global;
 
@@ -54,7 +55,7 @@ impl<'a> Line<'a> {
     }
 
     /// A word of its statement, or nothing past the last one.
-    fn word(&self, at: usize) -> &'a str {
+    pub fn word(&self, at: usize) -> &'a str {
         self.words.get(at).copied().unwrap_or("")
     }
 
@@ -68,6 +69,63 @@ impl<'a> Line<'a> {
         match self.verb() {
             "STEP" | "FETCH" => self.word(1).parse::<usize>().unwrap_or(0),
             _ => 0,
+        }
+    }
+
+    /// The value that a word is, in brackets or not.
+    fn value(&self, at: usize) -> Value {
+        let word = self.word(at);
+        let word = word.strip_suffix(",").unwrap_or(word);
+        let word = word.strip_suffix(")").unwrap_or(word);
+        word.strip_prefix("(").unwrap_or(word).parse::<i64>().ok()
+    }
+
+    /// The table that it writes to.
+    pub fn written(&self) -> &'a str {
+        self.word(if self.verb() == "UPDATE" { 1 } else { 2 })
+    }
+
+    /// How many rows an INSERT has.
+    pub fn rows(&self) -> usize {
+        self.words.len().saturating_sub(4)
+    }
+
+    /// The value of a row of an INSERT.
+    pub fn inserted(&self, row: usize) -> Value {
+        self.value(row.saturating_add(4))
+    }
+
+    /// The value that an UPDATE puts into each row that it finds: a DELETE puts none.
+    pub fn put(&self) -> Option<Value> {
+        match self.verb() {
+            "UPDATE" => Some(self.value(5)),
+            _ => None,
+        }
+    }
+
+    /// The value that an UPDATE or a DELETE asks for.
+    pub fn asked(&self) -> Value {
+        match self.verb() {
+            "UPDATE" => self.value(9),
+            "DELETE" => self.value(6),
+            _ => None,
+        }
+    }
+
+    /// The word of its reply, unless it is refused.
+    pub fn reply(&self) -> &str {
+        match self.verb() {
+            "CREATE" => "created",
+            "INSERT" => "inserted",
+            "UPDATE" => "updated",
+            "DELETE" => "deleted",
+            "SELECT" | "FETCH" => "answer",
+            "COMMIT" => "committed",
+            "ROLLBACK" => "rolled-back",
+            "OPEN" => "opened",
+            "STEP" => "served",
+            "CLOSE" => "closed",
+            _ => "error",
         }
     }
 

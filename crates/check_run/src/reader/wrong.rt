@@ -30,10 +30,22 @@ pub enum Wrong {
     Leaves(usize),
     /// The worker of this number was not over where it says so.
     Over(usize),
+    /// A build could begin, or one was held, where the worker of this number had nothing to do.
+    Idle(usize),
+    /// The line before the race has another reply or other entries than its statement gives.
+    Early(usize),
+    /// More or fewer entries of the race are writes than its lines say.
+    Writes,
     /// The line was out of memory.
     OutOfMemory(usize),
     /// The line has a place that its reply or its order does not allow.
     Place(usize),
+    /// The line has another reply than its entry gives.
+    Reply(usize),
+    /// The line wrote something else than its statement comes to.
+    Write(usize),
+    /// The line was served other extents than are left for it, or not between its first and its last entry.
+    Extents(usize),
     /// The line was served an extent in another way than it says.
     Mark(usize),
     /// The line has another answer than the rows of its snapshot give.
