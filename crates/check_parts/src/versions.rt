@@ -88,7 +88,9 @@ fn a_chain_that_lacks_memory_for_a_version_has_the_rows_that_it_had(
     rows.push((0, None))?;
     for i in 1..20 {
         let row = if i % 3 == 0 { None } else { Some(i as i64) };
-        assert!(rt; reserve_twice::<HostRuntime, Brand>(&rt, Blank::new(1), &mut chain, rows.as_slice())?);
+        assert!(rt;
+            reserve_twice::<HostRuntime, Brand>(&rt, Blank::new(1), &mut chain, rows.as_slice())?
+        );
         assert!(rt; put(alloc, &mut chain, 2 * i, row)?);
         rows.push((2 * i, row))?;
         rows.push((2 * i + 1, row))?;
