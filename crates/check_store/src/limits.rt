@@ -15,6 +15,7 @@ use im_values::Steps;
 use im_values::limits::{MOST_CHANGES, MOST_WEIGHT};
 use std::alloc::Global;
 use std::marker::Brand;
+use std::mem::replace;
 use std::sync::Wait;
 use std::sync::ledger::{Blank, Ledger};
 use std::test::Fail;
@@ -37,12 +38,14 @@ fn play<R: Wait, H: Reach<ColumnUnit>, L: Ledger>(
     ensures agrees { Agrees session.new (H.known store.new) }
 {
     let line = read_line(alloc, 1, text.as_bytes());
-    match &line.kind {
+    let reply = match &line.kind {
         LineKind::Session(_, statement) => {
             Some(session.execute(rt, store, &OpenGate, statement, steps))
         }
         _ => None,
-    }
+    };
+    drop(line);
+    reply
 }
 
 /// The reply to the last of these lines, which a session plays over a store that nothing has happened in.
@@ -59,8 +62,9 @@ fn last_reply<R: Wait, H: Reach<ColumnUnit>, L: Ledger>(
     let mut session = Session::new(alloc, 1);
     let mut last = None;
     for line in lines {
-        last = play(rt, alloc, store, &mut session, line, steps);
+        drop(replace(&mut last, play(rt, alloc, store, &mut session, line, steps)));
     }
+    drop(session);
     last
 }
 
@@ -83,7 +87,9 @@ fn reply_within<R: Threads + Wait, L: Ledger>(
     };
     let mut store = Sole::new(core);
     let mut steps = Steps::<L>::new(rt, blank);
-    last_reply(rt, alloc, &mut store, lines, &mut steps)
+    let last = last_reply(rt, alloc, &mut store, lines, &mut steps);
+    drop(store);
+    last
 }
 
 /// What a write comes to.
