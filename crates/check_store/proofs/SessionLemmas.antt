@@ -8,7 +8,7 @@ use Rattle.im_session.specs.Sessions.{Agrees}
 use Rattle.im_statements.specs.Agreement.{AreQueriesOf}
 
 pub agrees-new : (known : Known) → known.log ≡ [] → Agrees (record { who = 1; cursors = []; in_transaction = false }) known
-unfolding is_cursor_open opened is_open
+unfolding opened
 agrees-new known fresh = record {
   cursors = record {
     closed = ap (λ (h : History). is_cursor_open h 1 0) fresh;
