@@ -1,4 +1,4 @@
-use Rattle.std.proofs.Common.{◌≡◌, ◌⊎◌, ⊎_elim}
+use Rattle.std.proofs.Common.{◌≡◌, ◌⊎◌, ⊎_elim, refl}
 use Rattle.im_words.specs.declared.fault.WordsFault.TheVariants.{Usage, NoMemory}
 use Rattle.im_shell.proofs.ModeLemmas.{done-for, in-part-for}
 use Rattle.im_shell.specs.declared.status.Status.TheVariants as status
@@ -65,3 +65,11 @@ returns-in-Ok-play_for-clause-in_part g c = λ ended. absurd (⊎_elim not_write
 
 pub returns-in-Ok-play_for-clause-too_long : goal.returns-in-Ok-play_for-clause-too_long
 returns-in-Ok-play_for-clause-too_long g c = λ ended. absurd (not_too_long ended)
+
+-- ---- no step is made where the script could not be read
+
+pub returns-in-Err-Fault-clause-unwritten : goal.returns-in-Err-Fault-clause-unwritten
+returns-in-Err-Fault-clause-unwritten g c = λ ended. (refl, refl)
+
+pub returns-in-Err-TooLong-clause-unwritten : goal.returns-in-Err-TooLong-clause-unwritten
+returns-in-Err-TooLong-clause-unwritten g c = λ ended. (refl, refl)
