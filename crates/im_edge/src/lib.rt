@@ -5,6 +5,7 @@
 //! where they show them. Both count their `faults`, and a call fails only where the count rose, so a
 //! caller who answers with a fault has to have met one. A `Gate` is called round each step of a
 //! scan and each switch of a unit, so that a test can hold one of them: that is what a `HoldGate` does.
+//! `Outside` is what those who play statements have of all this.
 //!
 //! `MemSource` and `MemSink` are exact doubles in memory. `StdSource` and `StdSink` are the trusted
 //! edge: they adapt a reader and a writer of std, and show no bytes. `read_all` and `write_all`
@@ -19,6 +20,7 @@ mod from_memory;
 mod from_std;
 mod gate;
 mod hold;
+mod outside;
 mod reading;
 mod sink;
 mod source;
@@ -28,6 +30,7 @@ pub use from_memory::{MemSink, MemSource};
 pub use from_std::{StdSink, StdSource};
 pub use gate::{At, Gate, OpenGate};
 pub use hold::HoldGate;
+pub use outside::Outside;
 pub use reading::{ReadError, read_all};
 pub use sink::{Put, Sink};
 pub use source::{Got, Source};
