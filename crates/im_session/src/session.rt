@@ -11,7 +11,7 @@ use crate::cursor::Cursor;
 use crate::ending::{close_each, leave, roll_back_open};
 use crate::playing::run;
 use crate::transaction::is_open_after;
-use im_edge::Gate;
+use im_edge::{Gate, Outside};
 use im_reach::Reach;
 use im_replies::Reply;
 use im_syntax::Stmt;
@@ -68,9 +68,8 @@ impl Session {
     /// most: no more than the marks of the reply tell of, and where memory is out no extent twice.
     pub fn execute<R: Wait, H: Reach<ColumnUnit>, G: Gate, L: Ledger>(
         &mut self,
-        rt: &R,
+        outside: &Outside<R, G>,
         reach: &mut H,
-        gate: &G,
         statement: &Stmt,
         steps: &mut Steps<L>,
     ) -> Reply
@@ -86,8 +85,8 @@ impl Session {
         let before = self.in_transaction;
         let context = Context {
             alloc: self.alloc,
-            rt,
-            gate,
+            rt: outside.rt,
+            gate: outside.gate,
             who: self.who,
         };
         let reply = run(&context, reach, &mut self.cursors, statement, steps);
