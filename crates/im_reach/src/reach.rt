@@ -13,7 +13,7 @@ ghost use Rattle.im_history.specs.Views.{look_at, view_at};
 ghost use Rattle.im_core.specs.Answers.{IsRefusal, content_in, cursor_view, evict_refusal, task_fetched, task_rows};
 ghost use Rattle.im_history.specs.Serving.{fetched_in, serving_content};
 ghost use Rattle.im_history.specs.Units.{IsOwn, task_content, unit_content};
-ghost use Rattle.im_reach.specs.Sides.{Added, Found, IsSwitched, Known, Missed, Offered, speaks};
+ghost use Rattle.im_reach.specs.Sides.{Added, Found, IsSwitched, Known, Missed, Offered, sole, speaks};
 
 use im_core::{Begun, Committed, Evicted, Made, Offer, Pin, Switched, Wrote};
 use im_history::{Change, Look, Mode, Priority, Refused, Shape, Task, UnitLike, View};
@@ -30,6 +30,11 @@ use std::sync::{Arc, Wait};
 pub trait Reach<U: UnitLike> {
     /// What this side knows of the store.
     ghost known: { Self → Known };
+
+    /// Shows that the history of a store that nobody else has is legal, also before any call. That is a fact for contracts alone:
+    /// it does nothing when it runs, and makes no turn.
+    fn lawful(&self)
+        ensures { (known self.now).side ≡ sole → IsLawful (known self.now).limits (known self.now).log };
 
     /// What a session finds: the place, the SCN, its transaction, and the tables.
     fn look<R: Wait>(&mut self, rt: &R, who: u32) -> Result<Look, Refused>

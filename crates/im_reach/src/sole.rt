@@ -21,6 +21,10 @@ pub struct Sole<U: UnitLike> {
 impl<U: UnitLike> Reach<U> for Sole<U> {
     ghost known = { λ s. record { side = sole; limits = s.core.limits; log = s.core.log; misses = s.misses } };
 
+    fn lawful(&self) {
+        self.core.known();
+    }
+
     fn look<R: Wait>(&mut self, _rt: &R, who: u32) -> Result<Look, Refused> {
         let answer = self.core.look(who);
         self.core.known();

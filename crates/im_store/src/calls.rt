@@ -17,6 +17,9 @@ use std::sync::{Arc, Wait};
 impl<'a, U: UnitLike> Reach<U> for Shared<'a, U> {
     ghost known = { λ s. known_by s.pass s.misses };
 
+    // Others may have the store too, so this side owes nothing.
+    fn lawful(&self) {}
+
     fn look<R: Wait>(&mut self, rt: &R, who: u32) -> Result<Look, Refused> {
         let mut core = take(rt, self.store, &mut self.pass);
         let answer = core.look(who);
