@@ -12,7 +12,7 @@ use crate::held::Build;
 use crate::running::run;
 use crate::statements::{begin, cancel, evict, switch, trickle};
 use crate::work::{Ended, job};
-use im_edge::Gate;
+use im_edge::{Gate, Outside};
 use im_reach::Reach;
 use im_replies::{Body, Reply};
 use im_syntax::Stmt;
@@ -28,7 +28,6 @@ use std::sync::ledger::Ledger;
 /// The background: its number, and the builds that it holds, the oldest first.
 #[derive(Drop)]
 pub struct Background {
-    alloc: Global,
     who: u32,
     held: VecDeque<Build>,
 }
@@ -47,7 +46,6 @@ impl Background {
         ensures { result ≡ record { who = who; builds = [] } }
     {
         Background {
-            alloc,
             who,
             held: VecDeque::new(alloc),
         }
@@ -60,9 +58,8 @@ impl Background {
     /// one step at most, also where memory is out.
     pub fn command<R: Wait, H: Reach<ColumnUnit>, G: Gate, L: Ledger>(
         &mut self,
-        rt: &R,
+        outside: &Outside<R, G>,
         reach: &mut H,
-        gate: &G,
         statement: &Stmt,
         steps: &mut Steps<L>,
     ) -> Reply
@@ -74,17 +71,7 @@ impl Background {
         ensures agrees { Agrees self.new (H.known reach.new) }
         ensures ticks { IsCounted self.old.who steps.old steps.new (H.known reach.old).log (H.known reach.new).log }
     {
-        let (alloc, who) = (self.alloc, self.who);
-        play(
-            alloc,
-            rt,
-            reach,
-            gate,
-            who,
-            &mut self.held,
-            statement,
-            steps,
-        )
+        play(outside, reach, self.who, &mut self.held, statement, steps)
     }
 
     /// Does a worker's job: begins the build that comes next, makes its unit and switches to it, again and again, until so many
@@ -100,9 +87,8 @@ impl Background {
     /// both.
     pub fn work<R: Wait, H: Reach<ColumnUnit>, G: Gate, L: Ledger>(
         &mut self,
-        rt: &R,
+        outside: &Outside<R, G>,
         reach: &mut H,
-        gate: &G,
         turns: u64,
         sessions: u32,
         steps: &mut Steps<L>,
@@ -121,10 +107,7 @@ impl Background {
         ensures agrees { Agrees self.new (H.known reach.new) }
         ensures ticks { IsCounted self.old.who steps.old steps.new (H.known reach.old).log (H.known reach.new).log }
     {
-        let (alloc, who) = (self.alloc, self.who);
-        job(
-            alloc, rt, reach, gate, who, &self.held, turns, sessions, steps,
-        )
+        job(outside, reach, self.who, &self.held, turns, sessions, steps)
     }
 
     /// Ends all builds that are held without their units, the oldest first. It takes no memory.
@@ -141,10 +124,8 @@ impl Background {
 
 /// Plays one statement over the builds that are held.
 fn play<R: Wait, H: Reach<ColumnUnit>, G: Gate, L: Ledger>(
-    alloc: Global,
-    rt: &R,
+    outside: &Outside<R, G>,
     reach: &mut H,
-    gate: &G,
     who: u32,
     held: &mut VecDeque<Build>,
     statement: &Stmt,
@@ -158,12 +139,12 @@ fn play<R: Wait, H: Reach<ColumnUnit>, G: Gate, L: Ledger>(
     ensures ticks { IsCounted who steps.old steps.new (H.known reach.old).log (H.known reach.new).log }
 {
     match statement {
-        Stmt::Run => run(alloc, rt, reach, gate, who, held, steps),
-        Stmt::Begin => begin(alloc, rt, reach, who, held, steps),
-        Stmt::Switch => switch(alloc, rt, reach, gate, who, held),
-        Stmt::Cancel => cancel(alloc, rt, reach, who, held),
-        Stmt::Trickle(count) => trickle(alloc, rt, reach, who, held, *count),
-        Stmt::Evict { .. } => evict(alloc, rt, reach, who, held, statement),
+        Stmt::Run => run(outside, reach, who, held, steps),
+        Stmt::Begin => begin(outside, reach, who, held, steps),
+        Stmt::Switch => switch(outside, reach, who, held),
+        Stmt::Cancel => cancel(outside, reach, who, held),
+        Stmt::Trickle(count) => trickle(outside, reach, who, held, *count),
+        Stmt::Evict { .. } => evict(outside, reach, who, held, statement),
         Stmt::Select(_)
         | Stmt::Explain(_)
         | Stmt::Create { .. }
@@ -180,7 +161,7 @@ fn play<R: Wait, H: Reach<ColumnUnit>, G: Gate, L: Ledger>(
         | Stmt::OpenFor { .. }
         | Stmt::Step(_)
         | Stmt::Fetch(_)
-        | Stmt::Close(_) => Reply::plain(alloc, Body::Nothing),
+        | Stmt::Close(_) => Reply::plain(outside.alloc, Body::Nothing),
     }
 }
 

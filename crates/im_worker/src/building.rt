@@ -13,6 +13,7 @@ ghost use Rattle.im_worker.specs.inner.Standing.{Stands};
 use crate::held::Build;
 use crate::rows::{padded, unit_of_rows};
 use im_core::{Fetched, Offer};
+use im_edge::Outside;
 use im_history::Task;
 use im_reach::Reach;
 use im_unit::ColumnUnit;
@@ -53,9 +54,8 @@ fn unit_from(alloc: Global, task: &Task, fetched: Fetched) -> Result<Arc<ColumnU
 /// Reads what a build that just began is of, and makes its unit.
 ///
 /// Each row number of the extent that was given is one step at most.
-fn unit_of<R: Wait, H: Reach<ColumnUnit>, L: Ledger>(
-    alloc: Global,
-    rt: &R,
+fn unit_of<R: Wait, H: Reach<ColumnUnit>, G, L: Ledger>(
+    outside: &Outside<R, G>,
     reach: &mut H,
     who: u32,
     task: &Task,
@@ -70,10 +70,10 @@ fn unit_of<R: Wait, H: Reach<ColumnUnit>, L: Ledger>(
     ensures steps { steps.new ≤ steps.old + task_rows (H.known reach.old).log task.now }
     ensures lawful { IsLawful (H.known reach.new).limits (H.known reach.new).log }
 {
-    let Ok(pin) = reach.read_task(rt, who, task, steps) else {
+    let Ok(pin) = reach.read_task(outside.rt, who, task, steps) else {
         return None;
     };
-    match unit_from(alloc, task, pin.fetched) {
+    match unit_from(outside.alloc, task, pin.fetched) {
         Ok(unit) => Some(unit),
         Err(NoMemory) => None,
     }
@@ -82,9 +82,8 @@ fn unit_of<R: Wait, H: Reach<ColumnUnit>, L: Ledger>(
 /// Begins the build that comes next, beside those that are held, and makes its unit ready.
 ///
 /// Each row number of its extent that was given is one step at most.
-pub fn begin_next<R: Wait, H: Reach<ColumnUnit>, L: Ledger>(
-    alloc: Global,
-    rt: &R,
+pub fn begin_next<R: Wait, H: Reach<ColumnUnit>, G, L: Ledger>(
+    outside: &Outside<R, G>,
     reach: &mut H,
     who: u32,
     held: &VecDeque<Build>,
@@ -97,17 +96,17 @@ pub fn begin_next<R: Wait, H: Reach<ColumnUnit>, L: Ledger>(
     ensures lawful { IsLawful (H.known reach.new).limits (H.known reach.new).log }
     ensures ticks { IsCounted who steps.old steps.new (H.known reach.old).log (H.known reach.new).log }
 {
-    let Ok(offer) = reach.build(rt, who) else {
+    let Ok(offer) = reach.build(outside.rt, who) else {
         return Begun::Lacks;
     };
     let task = match offer {
         Offer::Task(task) => task,
         Offer::Idle { place, left } => return Begun::Idle { place, left },
     };
-    match unit_of(alloc, rt, reach, who, &task, steps) {
+    match unit_of(outside, reach, who, &task, steps) {
         Some(unit) => Begun::Ready(Build { task, unit }),
         None => {
-            reach.cancel(rt, who, task);
+            reach.cancel(outside.rt, who, task);
             Begun::Dropped
         }
     }

@@ -6,7 +6,7 @@ ghost use Rattle.im_worker.specs.inner.Rests.{Cancels, IsEnded, told_by};
 
 use crate::held::Build;
 use im_core::Switched;
-use im_edge::{At, Gate};
+use im_edge::{At, Gate, Outside};
 use im_history::UnitLike;
 use im_reach::Reach;
 use im_replies::Ending;
@@ -29,9 +29,8 @@ fn ending_of(id: u64, bytes: u64, switched: Switched<ColumnUnit>) -> Ending
 ///
 /// The gate is called before and after, outside the store's turn.
 pub fn end_build<R: Wait, H: Reach<ColumnUnit>, G: Gate>(
-    rt: &R,
+    outside: &Outside<R, G>,
     reach: &mut H,
-    gate: &G,
     who: u32,
     build: Build,
 ) -> Ending
@@ -44,9 +43,9 @@ pub fn end_build<R: Wait, H: Reach<ColumnUnit>, G: Gate>(
 {
     let Build { task, unit } = build;
     let (id, bytes) = (task.id, unit.bytes());
-    gate.before(rt, who, At::Switch { id });
-    let switched = reach.switch(rt, who, task, unit);
-    gate.after(who, At::Switch { id });
+    outside.gate.before(outside.rt, who, At::Switch { id });
+    let switched = reach.switch(outside.rt, who, task, unit);
+    outside.gate.after(who, At::Switch { id });
     ending_of(id, bytes, switched)
 }
 

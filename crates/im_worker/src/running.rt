@@ -9,13 +9,12 @@ use crate::building::{Begun, begin_next};
 use crate::ending::end_build;
 use crate::held::Build;
 use crate::replies::{built_of, out_of_memory};
-use im_edge::Gate;
+use im_edge::{Gate, Outside};
 use im_reach::Reach;
 use im_replies::{Body, Built, Ending, Reply};
 use im_unit::ColumnUnit;
 use im_values::limits::NUMBERS;
 use im_values::{List, Steps};
-use std::alloc::Global;
 use std::collections::VecDeque;
 use std::mem::replace;
 use std::sync::Wait;
@@ -31,10 +30,8 @@ fn entries_of(ran: &[(Built, Ending)]) -> u64
 /// One round of RUN: a build begins and ends, and is told behind those before it. The reply where the line ends with it: no
 /// build is left, or memory lacks.
 fn round<R: Wait, H: Reach<ColumnUnit>, G: Gate, L: Ledger>(
-    alloc: Global,
-    rt: &R,
+    outside: &Outside<R, G>,
     reach: &mut H,
-    gate: &G,
     who: u32,
     held: &VecDeque<Build>,
     ran: &mut Vec<(Built, Ending)>,
@@ -48,30 +45,28 @@ fn round<R: Wait, H: Reach<ColumnUnit>, G: Gate, L: Ledger>(
 {
     let entries = entries_of(ran.as_slice());
     if ran.reserve(1).is_err() {
-        return Some(out_of_memory(alloc, entries));
+        return Some(out_of_memory(outside.alloc, entries));
     }
-    match begin_next(alloc, rt, reach, who, held, steps) {
+    match begin_next(outside, reach, who, held, steps) {
         Begun::Ready(build) => {
             let built = built_of(&build.task);
-            let ending = end_build(rt, reach, gate, who, build);
+            let ending = end_build(outside, reach, who, build);
             ran.push_reserved((built, ending));
             None
         }
         Begun::Idle { .. } => {
-            let all = replace(ran, Vec::new(alloc));
-            Some(Reply::plain(alloc, Body::Ran(List::of(all))))
+            let all = replace(ran, Vec::new(outside.alloc));
+            Some(Reply::plain(outside.alloc, Body::Ran(List::of(all))))
         }
-        Begun::Lacks => Some(out_of_memory(alloc, entries)),
-        Begun::Dropped => Some(out_of_memory(alloc, entries + 1)),
+        Begun::Lacks => Some(out_of_memory(outside.alloc, entries)),
+        Begun::Dropped => Some(out_of_memory(outside.alloc, entries + 1)),
     }
 }
 
 /// RUN: begins and ends builds until none is left.
 pub fn run<R: Wait, H: Reach<ColumnUnit>, G: Gate, L: Ledger>(
-    alloc: Global,
-    rt: &R,
+    outside: &Outside<R, G>,
     reach: &mut H,
-    gate: &G,
     who: u32,
     held: &VecDeque<Build>,
     steps: &mut Steps<L>,
@@ -82,9 +77,9 @@ pub fn run<R: Wait, H: Reach<ColumnUnit>, G: Gate, L: Ledger>(
     ensures ran { IsRan who held.now.items (H.known reach.old) result (H.known reach.new) }
     ensures ticks { IsCounted who steps.old steps.new (H.known reach.old).log (H.known reach.new).log }
 {
-    let mut ran = Vec::new(alloc);
-    for _ in rt.forever() {
-        if let Some(reply) = round(alloc, rt, reach, gate, who, held, &mut ran, steps) {
+    let mut ran = Vec::new(outside.alloc);
+    for _ in outside.rt.forever() {
+        if let Some(reply) = round(outside, reach, who, held, &mut ran, steps) {
             return reply;
         }
     }

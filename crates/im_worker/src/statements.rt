@@ -13,7 +13,7 @@ use crate::building::{Begun, begin_next};
 use crate::ending::{cancel_build, end_build};
 use crate::held::Build;
 use crate::replies::{built_of, out_of_memory};
-use im_edge::Gate;
+use im_edge::{Gate, Outside};
 use im_names::{Resolved, resolve};
 use im_reach::Reach;
 use im_replies::{Body, Ending, Fault, Reply};
@@ -21,15 +21,13 @@ use im_syntax::Stmt;
 use im_unit::ColumnUnit;
 use im_values::Steps;
 use im_values::limits::NUMBERS;
-use std::alloc::Global;
 use std::collections::VecDeque;
 use std::sync::Wait;
 use std::sync::ledger::Ledger;
 
 /// BEGIN: begins the build that comes next, makes its unit ready, and holds it.
-pub fn begin<R: Wait, H: Reach<ColumnUnit>, L: Ledger>(
-    alloc: Global,
-    rt: &R,
+pub fn begin<R: Wait, H: Reach<ColumnUnit>, G, L: Ledger>(
+    outside: &Outside<R, G>,
     reach: &mut H,
     who: u32,
     held: &mut VecDeque<Build>,
@@ -43,26 +41,24 @@ pub fn begin<R: Wait, H: Reach<ColumnUnit>, L: Ledger>(
     ensures ticks { IsCounted who steps.old steps.new (H.known reach.old).log (H.known reach.new).log }
 {
     if held.reserve(1).is_err() {
-        return out_of_memory(alloc, 0);
+        return out_of_memory(outside.alloc, 0);
     }
-    match begin_next(alloc, rt, reach, who, held, steps) {
+    match begin_next(outside, reach, who, held, steps) {
         Begun::Ready(build) => {
             let built = built_of(&build.task);
             held.push_back_reserved(build);
-            Reply::plain(alloc, Body::Build(built))
+            Reply::plain(outside.alloc, Body::Build(built))
         }
-        Begun::Idle { .. } => Reply::plain(alloc, Body::Idle),
-        Begun::Lacks => out_of_memory(alloc, 0),
-        Begun::Dropped => out_of_memory(alloc, 1),
+        Begun::Idle { .. } => Reply::plain(outside.alloc, Body::Idle),
+        Begun::Lacks => out_of_memory(outside.alloc, 0),
+        Begun::Dropped => out_of_memory(outside.alloc, 1),
     }
 }
 
 /// SWITCH: ends the oldest build that is held, its unit being ready. It takes no memory.
 pub fn switch<R: Wait, H: Reach<ColumnUnit>, G: Gate>(
-    alloc: Global,
-    rt: &R,
+    outside: &Outside<R, G>,
     reach: &mut H,
-    gate: &G,
     who: u32,
     held: &mut VecDeque<Build>,
 ) -> Reply
@@ -74,17 +70,16 @@ pub fn switch<R: Wait, H: Reach<ColumnUnit>, G: Gate>(
 {
     match held.pop_front() {
         Some(build) => {
-            let ending = end_build(rt, reach, gate, who, build);
-            Reply::plain(alloc, Body::Ended(ending))
+            let ending = end_build(outside, reach, who, build);
+            Reply::plain(outside.alloc, Body::Ended(ending))
         }
-        None => Reply::plain(alloc, Body::Nothing),
+        None => Reply::plain(outside.alloc, Body::Nothing),
     }
 }
 
 /// CANCEL: ends the oldest build that is held without its unit. It takes no memory.
-pub fn cancel<R: Wait, H: Reach<ColumnUnit>>(
-    alloc: Global,
-    rt: &R,
+pub fn cancel<R: Wait, H: Reach<ColumnUnit>, G>(
+    outside: &Outside<R, G>,
     reach: &mut H,
     who: u32,
     held: &mut VecDeque<Build>,
@@ -97,17 +92,16 @@ pub fn cancel<R: Wait, H: Reach<ColumnUnit>>(
 {
     match held.pop_front() {
         Some(build) => {
-            let id = cancel_build(rt, reach, who, build);
-            Reply::plain(alloc, Body::Ended(Ending::Dropped { id }))
+            let id = cancel_build(outside.rt, reach, who, build);
+            Reply::plain(outside.alloc, Body::Ended(Ending::Dropped { id }))
         }
-        None => Reply::plain(alloc, Body::Nothing),
+        None => Reply::plain(outside.alloc, Body::Nothing),
     }
 }
 
 /// TRICKLE: allows so many more builds ahead of the threshold.
-pub fn trickle<R: Wait, H: Reach<ColumnUnit>>(
-    alloc: Global,
-    rt: &R,
+pub fn trickle<R: Wait, H: Reach<ColumnUnit>, G>(
+    outside: &Outside<R, G>,
     reach: &mut H,
     who: u32,
     held: &VecDeque<Build>,
@@ -119,16 +113,15 @@ pub fn trickle<R: Wait, H: Reach<ColumnUnit>>(
     ensures run { IsRun who (plan.trickle who (tasks_of held.now.items) count) held.now.items (H.known reach.old) result
         held.now.items (H.known reach.new) }
 {
-    match reach.trickle(rt, who, count) {
-        Ok(credits) => Reply::plain(alloc, Body::Trickle { credits }),
-        Err(_) => out_of_memory(alloc, 0),
+    match reach.trickle(outside.rt, who, count) {
+        Ok(credits) => Reply::plain(outside.alloc, Body::Trickle { credits }),
+        Err(_) => out_of_memory(outside.alloc, 0),
     }
 }
 
 /// Takes an extent of a table that is there out of the column store.
-fn evict_extent<R: Wait, H: Reach<ColumnUnit>>(
-    alloc: Global,
-    rt: &R,
+fn evict_extent<R: Wait, H: Reach<ColumnUnit>, G>(
+    outside: &Outside<R, G>,
     reach: &mut H,
     who: u32,
     held: &VecDeque<Build>,
@@ -142,11 +135,11 @@ fn evict_extent<R: Wait, H: Reach<ColumnUnit>>(
     ensures run { IsRun who (plan.evict who (tasks_of held.now.items) table extent) held.now.items (H.known reach.old) result
         held.now.items (H.known reach.new) }
 {
-    match reach.evict(rt, who, table, extent) {
+    match reach.evict(outside.rt, who, table, extent) {
         Ok(evicted) => {
             let used = evicted.used;
             Reply::plain(
-                alloc,
+                outside.alloc,
                 Body::Evicted {
                     table,
                     extent,
@@ -154,7 +147,10 @@ fn evict_extent<R: Wait, H: Reach<ColumnUnit>>(
                 },
             )
         }
-        Err(refused) => Reply::refusal(alloc, Fault::of_eviction(table, extent, refused.why)),
+        Err(refused) => Reply::refusal(
+            outside.alloc,
+            Fault::of_eviction(table, extent, refused.why),
+        ),
     }
 }
 
@@ -169,9 +165,8 @@ fn extent_of(resolved: &Resolved) -> Option<(u32, u64)>
 }
 
 /// EVICT: looks the table's name up, and takes its extent out of the column store.
-pub fn evict<R: Wait, H: Reach<ColumnUnit>>(
-    alloc: Global,
-    rt: &R,
+pub fn evict<R: Wait, H: Reach<ColumnUnit>, G>(
+    outside: &Outside<R, G>,
     reach: &mut H,
     who: u32,
     held: &VecDeque<Build>,
@@ -184,14 +179,20 @@ pub fn evict<R: Wait, H: Reach<ColumnUnit>>(
     ensures run { IsRun who (evict_named who (tasks_of held.now.items) statement.now) held.now.items (H.known reach.old) result
         held.now.items (H.known reach.new) }
 {
-    let Ok(look) = reach.look(rt, who) else {
-        return out_of_memory(alloc, 0);
+    let Ok(look) = reach.look(outside.rt, who) else {
+        return out_of_memory(outside.alloc, 0);
     };
-    match resolve(alloc, statement, &look) {
-        Ok(resolved) => match extent_of(&resolved) {
-            Some((table, extent)) => evict_extent(alloc, rt, reach, who, held, table, extent),
-            None => Reply::plain(alloc, Body::Nothing),
-        },
-        Err(fault) => Reply::refusal(alloc, Fault::from(fault)),
+    let resolved = resolve(outside.alloc, statement, &look);
+    drop(look);
+    match resolved {
+        Ok(resolved) => {
+            let extent = extent_of(&resolved);
+            drop(resolved);
+            match extent {
+                Some((table, extent)) => evict_extent(outside, reach, who, held, table, extent),
+                None => Reply::plain(outside.alloc, Body::Nothing),
+            }
+        }
+        Err(fault) => Reply::refusal(outside.alloc, Fault::from(fault)),
     }
 }

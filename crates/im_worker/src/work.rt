@@ -7,12 +7,11 @@ ghost use Rattle.im_worker.specs.inner.Working.{HasEnded, IsAround};
 use crate::building::{Begun, begin_next};
 use crate::ending::end_build;
 use crate::held::Build;
-use im_edge::Gate;
+use im_edge::{Gate, Outside};
 use im_reach::Reach;
 use im_unit::ColumnUnit;
 use im_values::Steps;
 use im_values::limits::NUMBERS;
-use std::alloc::Global;
 use std::collections::VecDeque;
 use std::sync::Wait;
 use std::sync::atomic::AtomicU64;
@@ -79,10 +78,8 @@ fn pause<R: Wait>(rt: &R) {
 ///
 /// Where no unit became ready the round ends with a pause.
 fn round<R: Wait, H: Reach<ColumnUnit>, G: Gate, L: Ledger>(
-    alloc: Global,
-    rt: &R,
+    outside: &Outside<R, G>,
     reach: &mut H,
-    gate: &G,
     who: u32,
     held: &VecDeque<Build>,
     sessions: u32,
@@ -96,9 +93,9 @@ fn round<R: Wait, H: Reach<ColumnUnit>, G: Gate, L: Ledger>(
     ensures round { IsAround who sessions held.now.items tally.old tally.new (H.known reach.old) result (H.known reach.new) }
     ensures ticks { IsCounted who steps.old steps.new (H.known reach.old).log (H.known reach.new).log }
 {
-    match begin_next(alloc, rt, reach, who, held, steps) {
+    match begin_next(outside, reach, who, held, steps) {
         Begun::Ready(build) => {
-            end_build(rt, reach, gate, who, build);
+            end_build(outside, reach, who, build);
             tally.note_build();
             None
         }
@@ -107,17 +104,17 @@ fn round<R: Wait, H: Reach<ColumnUnit>, G: Gate, L: Ledger>(
                 return Some(place);
             }
             tally.note_idle(place);
-            pause(rt);
+            pause(outside.rt);
             None
         }
         Begun::Lacks => {
             tally.note_lack();
-            pause(rt);
+            pause(outside.rt);
             None
         }
         Begun::Dropped => {
             tally.note_build();
-            pause(rt);
+            pause(outside.rt);
             None
         }
     }
@@ -125,10 +122,8 @@ fn round<R: Wait, H: Reach<ColumnUnit>, G: Gate, L: Ledger>(
 
 /// Does a worker's job beside builds that are held.
 pub fn job<R: Wait, H: Reach<ColumnUnit>, G: Gate, L: Ledger>(
-    alloc: Global,
-    rt: &R,
+    outside: &Outside<R, G>,
     reach: &mut H,
-    gate: &G,
     who: u32,
     held: &VecDeque<Build>,
     turns: u64,
@@ -147,9 +142,7 @@ pub fn job<R: Wait, H: Reach<ColumnUnit>, G: Gate, L: Ledger>(
         idle: None,
     };
     while tally.left > 0 {
-        if let Some(place) = round(
-            alloc, rt, reach, gate, who, held, sessions, &mut tally, steps,
-        ) {
+        if let Some(place) = round(outside, reach, who, held, sessions, &mut tally, steps) {
             return Ended::Over { place };
         }
     }

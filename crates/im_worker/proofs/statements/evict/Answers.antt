@@ -30,30 +30,30 @@ evict_extent-requires-clause-stands g c =
 
 pub evict_extent-requires-clause-exists : goal.evict_extent-requires-clause-exists
 evict_extent-requires-clause-exists g c =
-    named-exists c.args.who c.in-Ok.look c.in-Ok-resolve.resolved (c.in-Some.table, c.in-Some.extent) (g.H.Reach.known c.args.reach.now)
-    (g.H.Reach.known c.look.new.self) c.in-Ok.ensures.ok c.in-Ok-resolve.ensures.serves (sym c.extent_of.ensures ∙ c.in-Some.is)
+    named-exists c.args.who c.in-Ok.look c.in-Ok-resolved.resolved (c.in-Some.table, c.in-Some.extent) (g.H.Reach.known c.args.reach.now)
+    (g.H.Reach.known c.look.new.self) c.in-Ok.ensures.ok c.in-Ok-resolved.ensures.serves (sym c.extent_of-extent.ensures ∙ c.in-Some.is)
 
 pub returns-in-Some : goal.returns-in-Some
 returns-in-Some g c = record {
-  run = named-extent c.args.who c.args.held.now.items c.in-Ok.look c.args.statement.now c.in-Ok-resolve.resolved (c.in-Some.table, c.in-Some.extent)
+  run = named-extent c.args.who c.args.held.now.items c.in-Ok.look c.args.statement.now c.in-Ok-resolved.resolved (c.in-Some.table, c.in-Some.extent)
       (g.H.Reach.known c.args.reach.now) (g.H.Reach.known c.look.new.self) (g.H.Reach.known c.evict_extent.new.reach) c.evict_extent.result
-      c.in-Ok.ensures.ok c.in-Ok-resolve.ensures.ok (sym c.extent_of.ensures ∙ c.in-Some.is) c.evict_extent.ensures.run;
+      c.in-Ok.ensures.ok c.in-Ok-resolved.ensures.ok (sym c.extent_of-extent.ensures ∙ c.in-Some.is) c.evict_extent.ensures.run;
 }
 
-pub returns-in-Ok-resolve : goal.returns-in-Ok-resolve
-returns-in-Ok-resolve g c =
+pub returns-in-None : goal.returns-in-None
+returns-in-None g c =
     let builds = c.args.held.now.items in
     let old = g.H.Reach.known c.args.reach.now in
     let new = g.H.Reach.known c.look.new.self in
     record {
       run = run-told c.args.who (evict_named c.args.who (tasks_of builds) c.args.statement.now) builds old (said body.Nothing) c.plain.result builds new
           c.plain.ensures
-          (named-nothing c.args.who builds c.in-Ok.look c.args.statement.now c.in-Ok-resolve.resolved old new c.requires.speaks c.in-Ok.ensures.lawful
-          c.requires.stands c.in-Ok.ensures.ok c.in-Ok-resolve.ensures.ok (sym c.extent_of.ensures ∙ c.in-None.is));
+          (named-nothing c.args.who builds c.in-Ok.look c.args.statement.now c.in-Ok-resolved.resolved old new c.requires.speaks c.in-Ok.ensures.lawful
+          c.requires.stands c.in-Ok.ensures.ok c.in-Ok-resolved.ensures.ok (sym c.extent_of-extent.ensures ∙ c.in-None.is));
     }
 
-pub returns : goal.returns
-returns g c =
+pub returns-in-Err : goal.returns-in-Err
+returns-in-Err g c =
     let builds = c.args.held.now.items in
     let old = g.H.Reach.known c.args.reach.now in
     let new = g.H.Reach.known c.look.new.self in
