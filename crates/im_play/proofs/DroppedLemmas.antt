@@ -1,5 +1,5 @@
 -- The builds that the background of a script holds are dropped: with nobody between, that is played.
-use Rattle.std.proofs.Common.{◌≡◌, ℕ, ◌==◌, Bool, true, false, All, List, [], ◌∷◌, ◌++◌, map, inl, refl, sym, ap, ap₂, ◌∙◌, subst, append-nil, arith}
+use Rattle.std.proofs.Common.{◌≡◌, ℕ, Bool, true, false, All, List, [], ◌∷◌, ◌++◌, map, inl, refl, sym, ap, ap₂, ◌∙◌, subst, append-nil, arith}
 use Rattle.std.proofs.lemmas.Bool.Decides.{nat_tests}
 use Rattle.std.proofs.lemmas.List.Elements.{All-head}
 use Rattle.im_history.specs.declared.entry.Entry.{Entry}
@@ -14,7 +14,7 @@ use Rattle.im_play.specs.Machine.{Machine, without_builds}
 use Rattle.im_play.specs.Requests.{BACKGROUND, script_limits}
 use Rattle.im_play.proofs.SessionsLemmas.{holding-new, others-agree}
 use Rattle.im_play.proofs.ThereLemmas.{there-dropped}
-use Rattle.im_reach.specs.Sides.{Known, StoreSide, sole, speaks}
+use Rattle.im_reach.specs.Sides.{Known, StoreSide, speaks}
 use Rattle.im_session.specs.Sessions.{Kept, state_of}
 use Rattle.im_session.proofs.ForCallers.{IsOwn, line-alone, line-own}
 use Rattle.im_statements.specs.Background.{drop_all}

@@ -18,7 +18,7 @@ ghost use Rattle.im_reach.specs.Sides.{sole};
 ghost use Rattle.im_syntax.specs.Rules.{IsStmt};
 
 use crate::told::settled;
-use im_edge::Gate;
+use im_edge::{Gate, Outside};
 use im_reach::Reach;
 use im_replies::Reply;
 use im_script::{Line, LineKind};
@@ -83,9 +83,8 @@ impl Players {
 
 /// Plays a statement of a session.
 fn play_statement<R: Wait, H: Reach<ColumnUnit>, G: Gate, L: Ledger>(
-    rt: &R,
+    outside: &Outside<R, G>,
     reach: &mut H,
-    gate: &G,
     players: &mut Players,
     who: u32,
     statement: &Stmt,
@@ -102,7 +101,7 @@ fn play_statement<R: Wait, H: Reach<ColumnUnit>, G: Gate, L: Ledger>(
         (machine_of (H.known reach.old) players.old.sessions.items players.old.background) result
         (machine_of (H.known reach.new) players.new.sessions.items players.new.background) }
 {
-    players.sessions[who as usize].execute(rt, reach, gate, statement, steps)
+    players.sessions[who as usize].execute(outside, reach, statement, steps)
 }
 
 /// Looks at a store that nobody else has: its history is known to be legal then. The look itself is not used.
@@ -116,9 +115,8 @@ fn look_on<R: Wait, H: Reach<ColumnUnit>>(rt: &R, reach: &mut H)
 
 /// Plays a statement of the background.
 fn play_command<R: Wait, H: Reach<ColumnUnit>, G: Gate, L: Ledger>(
-    rt: &R,
+    outside: &Outside<R, G>,
     reach: &mut H,
-    gate: &G,
     players: &mut Players,
     statement: &Stmt,
     steps: &mut Steps<L>,
@@ -132,18 +130,14 @@ fn play_command<R: Wait, H: Reach<ColumnUnit>, G: Gate, L: Ledger>(
         (machine_of (H.known reach.old) players.old.sessions.items players.old.background) result
         (machine_of (H.known reach.new) players.new.sessions.items players.new.background) }
 {
-    look_on(rt, reach);
-    players
-        .background
-        .command(rt, reach, gate, statement, steps)
+    look_on(outside.rt, reach);
+    players.background.command(outside, reach, statement, steps)
 }
 
 /// Plays one line. Blanks, comments and the end of a prelude have no reply.
 pub fn play_line<R: Wait, H: Reach<ColumnUnit>, G: Gate, L: Ledger>(
-    alloc: Global,
-    rt: &R,
+    outside: &Outside<R, G>,
     reach: &mut H,
-    gate: &G,
     players: &mut Players,
     line: &Line,
     steps: &mut Steps<L>,
@@ -158,25 +152,23 @@ pub fn play_line<R: Wait, H: Reach<ColumnUnit>, G: Gate, L: Ledger>(
 {
     match &line.kind {
         LineKind::Session(who, statement) => {
-            Some(play_statement(rt, reach, gate, players, *who, statement, steps))
+            Some(play_statement(outside, reach, players, *who, statement, steps))
         }
         LineKind::Background(statement) => {
-            Some(play_command(rt, reach, gate, players, statement, steps))
+            Some(play_command(outside, reach, players, statement, steps))
         }
         LineKind::Skip
         | LineKind::Race
         | LineKind::Long(_)
         | LineKind::Bad(_)
-        | LineKind::NoMemory => settled(alloc, &line.kind),
+        | LineKind::NoMemory => settled(outside.alloc, &line.kind),
     }
 }
 
 /// Plays lines one after the other, and answers their replies, each with its line's number.
 pub fn play_lines<R: Wait, H: Reach<ColumnUnit>, G: Gate, L: Ledger>(
-    alloc: Global,
-    rt: &R,
+    outside: &Outside<R, G>,
     reach: &mut H,
-    gate: &G,
     players: &mut Players,
     lines: &[Line],
     steps: &mut Steps<L>,
@@ -189,9 +181,9 @@ pub fn play_lines<R: Wait, H: Reach<ColumnUnit>, G: Gate, L: Ledger>(
         (demands_of (H.known reach.old).limits.area lines.now) replies.items
         (machine_of (H.known reach.new) players.new.sessions.items players.new.background) steps.old steps.new) }
 {
-    let mut replies = Vec::new(alloc);
+    let mut replies = Vec::new(outside.alloc);
     for line in lines {
-        if let Some(reply) = play_line(alloc, rt, reach, gate, players, line, steps) {
+        if let Some(reply) = play_line(outside, reach, players, line, steps) {
             replies.push((line.number, reply))?;
         }
     }
