@@ -33,6 +33,8 @@ use Rattle.im_store.proofs.store.Store.TheSendSync as store_crosses
 use Rattle.im_session.specs.contracts.cursor.Cursor as cursor
 use Rattle.im_session.specs.contracts.session.Session as session
 use Rattle.im_session.specs.contracts.session.Session.TheInside as kept
+use Rattle.im_edge.specs.contracts.outside.Outside as outside
+use Rattle.im_edge.proofs.outside.Outside.TheSendSync as outside_crosses
 use Rattle.im_race.specs.contracts.course.Course as course
 use Rattle.im_race.specs.contracts.job.Job as job
 use Rattle.im_race.specs.contracts.job.Player as player
@@ -111,11 +113,10 @@ course_sync a =
 pub store_sync : IsSync (store.the_row unit.the_row like.ghosts)
 store_sync = store_crosses.the_sync unit.the_row like.ghosts unit_crosses.the_send unit_crosses.the_sync
 
--- what a closure of five captures shares
-pub captured_sync : (name : Sym) (A B C D E : RattleType) → IsSync A → IsSync B → IsSync C → IsSync D → IsSync E
-    → IsSync (TupleAt name (A ∷ B ∷ C ∷ D ∷ E ∷ []))
-captured_sync name A B C D E a b c d e =
-    declared_sync (type_at name (A ∷ B ∷ C ∷ D ∷ E ∷ [])) (
-      as_row_sync (row_field A) a,
-      (as_row_sync (row_field B) b, (as_row_sync (row_field C) c, (as_row_sync (row_field D) d, (as_row_sync (row_field E) e, tt)))),
-    )
+pub outside_sync : (a : NamedLft) (R G : RattleType) → IsSync R → IsSync G → IsSync (outside.the_row a R G)
+outside_sync a R G r g = outside_crosses.the_sync a R G r g
+
+-- what a closure of three captures shares
+pub captured_sync : (name : Sym) (A B C : RattleType) → IsSync A → IsSync B → IsSync C → IsSync (TupleAt name (A ∷ B ∷ C ∷ []))
+captured_sync name A B C a b c =
+    declared_sync (type_at name (A ∷ B ∷ C ∷ [])) (as_row_sync (row_field A) a, (as_row_sync (row_field B) b, (as_row_sync (row_field C) c, tt)))

@@ -98,24 +98,28 @@ module _ (area workers turns : ℕ) (lines : List Line) (machine : Machine) (now
         beside.did;
   }
 
--- a prelude that came to this from the start, and what came behind it, are a race of the script
-pub raced-script : (area workers turns given : ℕ) (script : List ℕ) (lines prelude behind : List Line) (start machine : Machine) (now : Known)
+-- a prelude that came to this from the start, and what came behind it, are a race of the lines
+pub raced-prelude : (area workers turns given : ℕ) (lines prelude behind : List Line) (start machine : Machine) (now : Known)
     (sessions : List Kept) (kept : background.Kept) (report : Report) (replies : List (ℕ × Reply)) (before after : ℕ) → given ≡ area
-    → AreLines 1 (lines_of script) lines → prelude ≡ prelude_of lines → behind ≡ behind_of lines → start ≡ idle
+    → prelude ≡ prelude_of lines → behind ≡ behind_of lines → start ≡ idle
     → Comes start (demands_of given prelude) replies machine before after → machine_of now sessions kept ≡ without_builds machine
-    → IsBeside area workers turns sessions now.log behind report → report.prelude ≡ replies → IsRaceOf area workers turns script report
-raced-script area workers turns given script lines prelude behind start machine now sessions kept report replies before after given_is are prelude_is behind_is
-    start_is comes dropped beside replies_are = record {
-      lines = lines;
-      are = are;
-      race =
-          raced-lines area workers turns lines machine now sessions kept report dropped
-          (subst (λ (l : List Line). IsBeside area workers turns sessions now.log l report) behind_is beside) before after
-          (subst (λ (l : List (ℕ × Reply)). Comes idle (demands_of area (prelude_of lines)) l machine before after) (sym replies_are)
-          (subst (λ (m : Machine). Comes m (demands_of area (prelude_of lines)) replies machine before after) start_is
-          (subst (λ (l : List Line). Comes start (demands_of area l) replies machine before after) prelude_is
-          (subst (λ (n : ℕ). Comes start (demands_of n prelude) replies machine before after) given_is comes))));
-    }
+    → IsBeside area workers turns sessions now.log behind report → report.prelude ≡ replies → IsRace area workers turns lines report
+raced-prelude area workers turns given lines prelude behind start machine now sessions kept report replies before after given_is prelude_is behind_is
+    start_is comes dropped beside replies_are =
+    raced-lines area workers turns lines machine now sessions kept report dropped
+    (subst (λ (l : List Line). IsBeside area workers turns sessions now.log l report) behind_is beside) before after
+    (subst (λ (l : List (ℕ × Reply)). Comes idle (demands_of area (prelude_of lines)) l machine before after) (sym replies_are)
+    (subst (λ (m : Machine). Comes m (demands_of area (prelude_of lines)) replies machine before after) start_is
+    (subst (λ (l : List Line). Comes start (demands_of area l) replies machine before after) prelude_is
+    (subst (λ (n : ℕ). Comes start (demands_of n prelude) replies machine before after) given_is comes))))
+
+-- a race of the lines of a script is a race of the script
+pub raced-script : {E : Type 0} (area workers turns : ℕ) (script : List ℕ) (lines played : List Line) (answer : Result Report E)
+    → AreLines 1 (lines_of script) lines → played ≡ lines → IfOk answer (λ (report : Report). IsRace area workers turns played report)
+    → IfOk answer (λ (report : Report). IsRaceOf area workers turns script report)
+raced-script area workers turns script lines played (Ok report) are same race =
+    record { lines = lines; are = are; race = subst (λ (l : List Line). IsRace area workers turns l report) same race }
+raced-script area workers turns script lines played (Err error) are same race = tt
 
 -- two facts of an answer give a third
 pub both-ok : {T E : Type 0} {P Q S : T → Type 0} (answer : Result T E) → IfOk answer P → IfOk answer Q → ((value : T) → P value → Q value → S value)

@@ -6,12 +6,11 @@ ghost use Rattle.im_script.specs.Lines.{NamesOneOf16};
 
 use crate::job::{Done, Job, Outcome, Player};
 use crate::playing::{play_session, play_worker};
-use im_edge::Gate;
+use im_edge::{Gate, Outside};
 use im_script::Line;
 use im_store::Store;
 use im_unit::ColumnUnit;
 use im_values::{NoMemory, Steps};
-use std::alloc::Global;
 use std::marker::Brand;
 use std::sync::Wait;
 use std::sync::ledger::{Blank, Ledger};
@@ -41,10 +40,8 @@ pub struct Course<'a> {
 
 /// Does a job, counting its steps.
 fn play_counting<R: Threads + Wait, G: Gate, L: Ledger>(
-    alloc: Global,
-    rt: &R,
+    outside: &Outside<R, G>,
     store: &Store<ColumnUnit>,
-    gate: &G,
     course: &Course<'_>,
     job: Job,
     blank: Blank,
@@ -58,26 +55,15 @@ fn play_counting<R: Threads + Wait, G: Gate, L: Ledger>(
     ensures { IsDone course.now.options.area course.now.options.turns course.now.sessions course.now.lines.now job result }
 {
     let Job { who, pass, player } = job;
-    let mut steps = Steps::<L>::new(rt, blank);
+    let mut steps = Steps::<L>::new(outside.rt, blank);
     let mut side = store.shared(pass);
     let outcome = match player {
         Player::Session(session) => {
-            play_session(
-                alloc,
-                rt,
-                &mut side,
-                gate,
-                session,
-                who,
-                course.lines,
-                &mut steps,
-            )
+            play_session(outside, &mut side, session, who, course.lines, &mut steps)
         }
         Player::Worker => Outcome::Ended(play_worker(
-            alloc,
-            rt,
+            outside,
             &mut side,
-            gate,
             who,
             course.options.turns,
             course.sessions,
@@ -93,10 +79,8 @@ fn play_counting<R: Threads + Wait, G: Gate, L: Ledger>(
 
 /// Does a job.
 fn play<R: Threads + Wait, G: Gate>(
-    alloc: Global,
-    rt: &R,
+    outside: &Outside<R, G>,
     store: &Store<ColumnUnit>,
-    gate: &G,
     course: &Course<'_>,
     job: Job,
 ) -> Done
@@ -105,16 +89,14 @@ fn play<R: Threads + Wait, G: Gate>(
     requires names { All NamesOneOf16 course.now.lines.now }
     ensures { IsDone course.now.options.area course.now.options.turns course.now.sessions course.now.lines.now job result }
 {
-    play_counting::<R, G, Brand>(alloc, rt, store, gate, course, job, Blank::new(1))
+    play_counting::<R, G, Brand>(outside, store, course, job, Blank::new(1))
 }
 
 /// Does all jobs, each on a thread of its own where one can be made, and one after the other in their order where none can.
 /// What came of them stands in their order.
 pub fn play_all<R: Threads + Wait + Sync, G: Gate + Sync>(
-    alloc: Global,
-    rt: &R,
+    outside: &Outside<R, G>,
     store: &Store<ColumnUnit>,
-    gate: &G,
     course: &Course<'_>,
     jobs: Vec<Job>,
 ) -> Result<Vec<Done>, NoMemory>
@@ -125,7 +107,7 @@ pub fn play_all<R: Threads + Wait + Sync, G: Gate + Sync>(
         jobs.items done.items) }
 {
     let Ok(done) = thread::map_vec(
-        rt,
+        outside.rt,
         jobs,
         &|job: Job| -> Done
             requires ready { IsReady course.now.options.area store.now.id job }
@@ -133,7 +115,7 @@ pub fn play_all<R: Threads + Wait + Sync, G: Gate + Sync>(
             requires names { All NamesOneOf16 course.now.lines.now }
             ensures { IsDone course.entry.now.options.area course.entry.now.options.turns course.entry.now.sessions
                 course.entry.now.lines.now job result }
-        { play(alloc, rt, store, gate, course, job) },
+        { play(outside, store, course, job) },
     ) else {
         return Err(NoMemory);
     };

@@ -13,7 +13,7 @@ ghost use Rattle.im_worker.specs.Background.{builds_of};
 use crate::job::Outcome;
 use crate::lines::speaks_in;
 use crate::replies::Replies;
-use im_edge::Gate;
+use im_edge::{Gate, Outside};
 use im_play::settled;
 use im_reach::Reach;
 use im_replies::{Body, Reply};
@@ -23,16 +23,13 @@ use im_unit::ColumnUnit;
 use im_values::limits::{NUMBERS, SESSIONS};
 use im_values::{NoMemory, Steps};
 use im_worker::{Background, Ended};
-use std::alloc::Global;
 use std::sync::Wait;
 use std::sync::ledger::Ledger;
 
 /// Plays a line of a session.
 fn play_line<R: Wait, H: Reach<ColumnUnit>, G: Gate, L: Ledger>(
-    alloc: Global,
-    rt: &R,
+    outside: &Outside<R, G>,
     reach: &mut H,
-    gate: &G,
     session: &mut Session,
     line: &Line,
     steps: &mut Steps<L>,
@@ -54,24 +51,22 @@ fn play_line<R: Wait, H: Reach<ColumnUnit>, G: Gate, L: Ledger>(
     ensures stays { has_left (H.known reach.new).log session.old.who ≡ false }
 {
     match &line.kind {
-        LineKind::Session(_, statement) => session.execute(rt, reach, gate, statement, steps),
+        LineKind::Session(_, statement) => session.execute(outside, reach, statement, steps),
         LineKind::Skip
         | LineKind::Race
         | LineKind::Long(_)
         | LineKind::Bad(_)
         | LineKind::Background(_)
         | LineKind::NoMemory => {
-            settled(alloc, &line.kind).unwrap_or(Reply::plain(alloc, Body::Nothing))
+            settled(outside.alloc, &line.kind).unwrap_or(Reply::plain(outside.alloc, Body::Nothing))
         }
     }
 }
 
 /// Plays those of these lines in which a session speaks, one after the other, and answers the replies.
 fn play_lines<R: Wait, H: Reach<ColumnUnit>, G: Gate, L: Ledger>(
-    alloc: Global,
-    rt: &R,
+    outside: &Outside<R, G>,
     reach: &mut H,
-    gate: &G,
     session: &mut Session,
     who: u32,
     lines: &[Line],
@@ -93,10 +88,10 @@ fn play_lines<R: Wait, H: Reach<ColumnUnit>, G: Gate, L: Ledger>(
     ensures agrees { Agrees session.new (H.known reach.new) }
     ensures stays { has_left (H.known reach.new).log who ≡ false }
 {
-    let mut replies = Vec::new(alloc);
+    let mut replies = Vec::new(outside.alloc);
     for line in lines {
         if speaks_in(who, line) {
-            replies.push(play_line(alloc, rt, reach, gate, session, line, steps))?;
+            replies.push(play_line(outside, reach, session, line, steps))?;
         }
     }
     Ok(replies)
@@ -105,10 +100,8 @@ fn play_lines<R: Wait, H: Reach<ColumnUnit>, G: Gate, L: Ledger>(
 /// Does the job of a session: it plays those of these lines in which it speaks, one after the other, and ends. Out of memory it may not
 /// have left.
 pub fn play_session<R: Wait, H: Reach<ColumnUnit>, G: Gate, L: Ledger>(
-    alloc: Global,
-    rt: &R,
+    outside: &Outside<R, G>,
     reach: &mut H,
-    gate: &G,
     mut session: Session,
     who: u32,
     lines: &[Line],
@@ -127,10 +120,10 @@ pub fn play_session<R: Wait, H: Reach<ColumnUnit>, G: Gate, L: Ledger>(
     ensures came { CameOfSession (H.known reach.old).limits.area lines.now who session (H.known reach.old).log result
         (H.known reach.new).log }
 {
-    let Ok(replies) = play_lines(alloc, rt, reach, gate, &mut session, who, lines, steps) else {
+    let Ok(replies) = play_lines(outside, reach, &mut session, who, lines, steps) else {
         return Outcome::NoMemory;
     };
-    match session.end(rt, reach) {
+    match session.end(outside.rt, reach) {
         Ok(()) => Outcome::Replies(Replies::of(replies)),
         Err(NoMemory) => Outcome::NoMemory,
     }
@@ -138,10 +131,8 @@ pub fn play_session<R: Wait, H: Reach<ColumnUnit>, G: Gate, L: Ledger>(
 
 /// Does the job of a worker.
 pub fn play_worker<R: Wait, H: Reach<ColumnUnit>, G: Gate, L: Ledger>(
-    alloc: Global,
-    rt: &R,
+    outside: &Outside<R, G>,
     reach: &mut H,
-    gate: &G,
     who: u32,
     turns: u64,
     sessions: u32,
@@ -153,5 +144,5 @@ pub fn play_worker<R: Wait, H: Reach<ColumnUnit>, G: Gate, L: Ledger>(
     ensures known { H.known reach.new ≡ record (H.known reach.old) { log = (H.known reach.new).log; misses = (H.known reach.new).misses } }
     ensures worker { Worker (H.known reach.old).limits turns sessions who (H.known reach.old).log result (H.known reach.new).log }
 {
-    Background::new(alloc, who).work(rt, reach, gate, turns, sessions, steps)
+    Background::new(outside.alloc, who).work(outside, reach, turns, sessions, steps)
 }

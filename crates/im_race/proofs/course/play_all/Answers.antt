@@ -1,8 +1,8 @@
 use Rattle.std.proofs.Common.{rules}
 use denote.Exit.{no}
 use denote.Param.Send.{sendable, arg_sync, param_sync, shr_sync}
-use Rattle.std.proofs.Crossing.{crosses, sync}
-use Rattle.im_race.proofs.Crossing.{captured_sync, course_sync, job_send, store_sync}
+use Rattle.std.proofs.Crossing.{crosses}
+use Rattle.im_race.proofs.Crossing.{captured_sync, course_sync, job_send, outside_sync, store_sync}
 use Rattle.im_race.proofs.DoneLemmas.{all-done}
 use Rattle.im_race.proofs.course.play_all.Goals as goal
 
@@ -12,7 +12,7 @@ map_vec-requires-send-J g c κs within = search (sendable, crosses, job_send) de
 pub map_vec-requires-sync-F : goal.map_vec-requires-sync-F
 map_vec-requires-sync-F g c κs within =
     param_sync 4 _ (arg_sync _ no _
-    (captured_sync _ _ _ _ _ _ (shr_sync _ _ _ sync) (shr_sync _ _ _ c.type_bounds.sync-R) (shr_sync _ _ _ store_sync) (shr_sync _ _ _ c.type_bounds.sync-G)
+    (captured_sync _ _ _ _ (shr_sync _ _ _ (outside_sync _ _ _ c.type_bounds.sync-R c.type_bounds.sync-G)) (shr_sync _ _ _ store_sync)
     (shr_sync _ _ _ (course_sync _))))
 
 pub returns : goal.returns
