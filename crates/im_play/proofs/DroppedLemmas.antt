@@ -68,6 +68,9 @@ module _ (sessions : List Kept) (kept after : background.Kept) (old new : Known)
     there = there-dropped kept after old new between.side (let e = who-is in omega (arith, e)) kept-own dropped between.there;
   }
 
+  pub limits-dropped : new.limits ≡ old.limits
+  limits-dropped = ap (λ (k : Known). k.limits) dropped.known
+
   pub machine-dropped : machine_of new sessions after ≡ without_builds (machine_of old sessions kept)
   machine-dropped = ap₂ machine history_is (ap (λ (builds : List background.Ready). tasks_of builds) dropped.none)
     where
@@ -79,15 +82,3 @@ module _ (sessions : List Kept) (kept after : background.Kept) (old new : Known)
           subst (λ (n : ℕ). new.log ≡ (play n old.log (drop_all (tasks_of kept.builds))).history) who-is
           (goes-played (speaks old.side) (λ number. ap (λ (s : StoreSide). speaks s number) between.side) kept.who old.log
           (drop_all (tasks_of kept.builds)) tt new.log dropped.goes)
-
--- and so from what was known before a look
-pub machine-looked : (sessions : List Kept) (kept after : background.Kept) (first old new : Known) → old ≡ first → IsBetween old sessions kept
-    → background.IsDropped kept old after new → machine_of new sessions after ≡ without_builds (machine_of first sessions kept)
-machine-looked sessions kept after first old new same between dropped =
-    machine-dropped sessions kept after old new between dropped
-    ∙ ap (λ (k : Known). without_builds (machine_of k sessions kept)) same
-
-pub limits-looked : (kept after : background.Kept) (first old new : Known) → old ≡ first → background.IsDropped kept old after new
-    → new.limits ≡ first.limits
-limits-looked kept after first old new same dropped =
-    ap (λ (k : Known). k.limits) dropped.known ∙ ap (λ (k : Known). k.limits) same

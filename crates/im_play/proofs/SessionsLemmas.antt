@@ -296,10 +296,6 @@ module _ (sessions : List Kept) (kept after : background.Kept) (old new : Known)
       outcome : command.Outcome
       outcome = Answered reply (tasks_of after.builds)
 
--- a look at the store changes nothing
-pub looked : (old now : Known) (sessions : List Kept) (kept : background.Kept) → now ≡ old → IsBetween old sessions kept → IsBetween now sessions kept
-looked old now sessions kept same between = subst (λ (k : Known). IsBetween k sessions kept) (sym same) between
-
 -- a line of the background
 pub answers-command : (area before after : ℕ) (line : Line) (s : Stmt) (old new : Machine) (reply : Reply) → line.kind ≡ kind.Background s
     → ((number : ℕ) → IsCommandAnswer before after (command_of area number s) old reply new) → Answers area before after line old (Some reply) new

@@ -1,5 +1,4 @@
 ghost use Rattle.std.specs.Prelude.{◌≡◌, ◌≤◌, ◌+◌, ℕ, All, IfOk};
-ghost use Rattle.im_history.specs.Legal.{IsLawful};
 ghost use Rattle.im_play.specs.Between.{
   Answers,
   IsAnswer,
@@ -14,7 +13,6 @@ ghost use Rattle.im_play.specs.Between.{
 ghost use Rattle.im_play.specs.Lines.{IsKnown};
 ghost use Rattle.im_play.specs.Machine.{Comes, without_builds};
 ghost use Rattle.im_play.specs.Requests.{demands_of};
-ghost use Rattle.im_reach.specs.Sides.{sole};
 ghost use Rattle.im_syntax.specs.Rules.{IsStmt};
 
 use crate::told::settled;
@@ -76,7 +74,7 @@ impl Players {
         ensures dropped { machine_of (H.known reach.new) self.new.sessions.items self.new.background
             ≡ without_builds (machine_of (H.known reach.old) self.old.sessions.items self.old.background) }
     {
-        look_on(rt, reach);
+        reach.lawful();
         self.background.drop_held(rt, reach);
     }
 }
@@ -104,15 +102,6 @@ fn play_statement<R: Wait, H: Reach<ColumnUnit>, G: Gate, L: Ledger>(
     players.sessions[who as usize].execute(outside, reach, statement, steps)
 }
 
-/// Looks at a store that nobody else has: its history is known to be legal then. The look itself is not used.
-fn look_on<R: Wait, H: Reach<ColumnUnit>>(rt: &R, reach: &mut H)
-    requires alone { (H.known reach.old).side ≡ sole }
-    ensures same { H.known reach.new ≡ H.known reach.old }
-    ensures lawful { IsLawful (H.known reach.new).limits (H.known reach.new).log }
-{
-    let _ = reach.look(rt, BACKGROUND);
-}
-
 /// Plays a statement of the background.
 fn play_command<R: Wait, H: Reach<ColumnUnit>, G: Gate, L: Ledger>(
     outside: &Outside<R, G>,
@@ -130,7 +119,7 @@ fn play_command<R: Wait, H: Reach<ColumnUnit>, G: Gate, L: Ledger>(
         (machine_of (H.known reach.old) players.old.sessions.items players.old.background) result
         (machine_of (H.known reach.new) players.new.sessions.items players.new.background) }
 {
-    look_on(outside.rt, reach);
+    reach.lawful();
     players.background.command(outside, reach, statement, steps)
 }
 
