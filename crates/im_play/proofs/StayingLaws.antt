@@ -40,7 +40,8 @@ use Rattle.im_replies.specs.declared.fault.Fault.{Fault}
 use Rattle.im_replies.specs.declared.served.Served.{Served}
 use Rattle.im_replies.specs.declared.task.Built.{Built}
 use Rattle.im_replies.specs.declared.task.Ending.{Ending}
-use Rattle.im_replies.specs.Causes.{creation_fault, fault_of, opening_fault}
+use Rattle.im_replies.specs.declared.aim.Aim.TheVariants as aim
+use Rattle.im_replies.specs.Causes.{fault_of}
 use Rattle.im_syntax.specs.declared.statement.Stmt.{Stmt}
 use Rattle.im_syntax.specs.declared.statement.Stmt.TheVariants as stmt
 use Rattle.im_syntax.specs.Condition.{CondOf}
@@ -147,7 +148,7 @@ keeps-serve view filter (suc left) extent marks on rest = λ at.
 keeps-scan : (who table : ℕ) (filter : Option (CondOf ℕ Value)) (on : History → View → List Served → Plan Outcome)
     → ((at : History) (view : View) (marks : List Served) → Keeps (on at view marks)) → Keeps (scan who table filter on)
 keeps-scan who table filter on rest =
-    keeps-attempt false fault_of (λ at. open_refusal at who 0) (λ at. what.Open 0 table)
+    keeps-attempt false (fault_of (aim.Opening 0)) (λ at. open_refusal at who 0) (λ at. what.Open 0 table)
     (λ at. serve_from (view_at at who table) filter 0 (on at (view_at at who table))) (λ at. refl)
     (λ at. keeps-serve (view_at at who table) filter _ 0 [] (on at (view_at at who table)) (rest at (view_at at who table)))
 
@@ -171,9 +172,9 @@ keeps-rewrite limits who table filter rewriting =
 
 keeps-create : (name : List ℕ) (schema : List Column) (grid : Grid) (memory : Option Priority) → Keeps (create_table name schema grid memory)
 keeps-create name schema grid None =
-    keeps-attempt true (creation_fault name) (λ at. create_refusal at name) (λ at. what.Create name schema grid) created (λ at. refl) (λ at. tt)
+    keeps-attempt true (fault_of (aim.Creating name)) (λ at. create_refusal at name) (λ at. what.Create name schema grid) created (λ at. refl) (λ at. tt)
 keeps-create name schema grid (Some priority) =
-    keeps-attempt false (creation_fault name) (λ at. create_refusal at name) (λ at. what.Create name schema grid) (λ at. join_memory at priority)
+    keeps-attempt false (fault_of (aim.Creating name)) (λ at. create_refusal at name) (λ at. what.Create name schema grid) (λ at. join_memory at priority)
     (λ at. refl) (λ at here. (refl, tt))
 
 keeps-with : (cursor : ℕ) (at : History) (query : Option Query) (on : Query → Plan Outcome) → ((query : Query) → Keeps (on query))
@@ -193,19 +194,19 @@ keeps-resolved limits who state at (resolved.Explain bound) =
 keeps-resolved limits who state at (resolved.Create name schema grid memory) = keeps-create name schema grid memory
 keeps-resolved limits who state at (resolved.Memory table priority) = λ here. (refl, tt)
 keeps-resolved limits who state at (resolved.Insert table rows) =
-    keeps-attempt true fault_of (λ here. insert_refusal limits here who (inserts table rows here)) (λ here. what.Write (inserts table rows here))
+    keeps-attempt true (fault_of aim.Plain) (λ here. insert_refusal limits here who (inserts table rows here)) (λ here. what.Write (inserts table rows here))
     (λ here. answer_at here (body.Inserted (length rows) (given here table))) (λ here. refl) (λ here. tt)
 keeps-resolved limits who state at (resolved.Update table filter sets) =
     keeps-if (forbids_writing (mode at who)) _ _ tt (keeps-rewrite limits who table filter (Updating sets))
 keeps-resolved limits who state at (resolved.Delete table filter) =
     keeps-if (forbids_writing (mode at who)) _ _ tt (keeps-rewrite limits who table filter Deleting)
 keeps-resolved limits who state at (resolved.SetMode m) =
-    keeps-attempt true fault_of (λ here. begin_refusal here who) (λ here. what.Begin m) (λ here. answer_at here (body.Begun (scn here)))
+    keeps-attempt true (fault_of aim.Plain) (λ here. begin_refusal here who) (λ here. what.Begin m) (λ here. answer_at here (body.Begun (scn here)))
     (λ here. refl) (λ here. tt)
 keeps-resolved limits who state at resolved.Commit = λ here. (refl, tt)
 keeps-resolved limits who state at resolved.Rollback = keeps-if (is_open at who) _ _ (λ here. (refl, tt)) tt
 keeps-resolved limits who state at (resolved.OpenFor cursor bound) =
-    keeps-attempt true (opening_fault cursor) (λ here. open_refusal here who cursor) (λ here. what.Open cursor bound.table)
+    keeps-attempt true (fault_of (aim.Opening cursor)) (λ here. open_refusal here who cursor) (λ here. what.Open cursor bound.table)
     (λ here. End (Replied
     (settled_reply (length here) (body.Opened cursor (view_at here who bound.table).scn (view_at here who bound.table).extents))
     (Opens (record { cursor = cursor; bound = bound; view = view_at here who bound.table; next = 0 })))) (λ here. refl)

@@ -1,5 +1,5 @@
 -- How a scan is served an extent, as a history tells of it.
-use Rattle.std.specs.Prelude.{ℕ, List, length, Option, Some, None}
+use Rattle.std.specs.Prelude.{ℕ, length, Option, Some, None}
 use Rattle.im_values.specs.declared.value.Value.{Value}
 use Rattle.im_syntax.specs.Condition.{CondOf}
 use Rattle.im_history.specs.declared.view.View.{View}

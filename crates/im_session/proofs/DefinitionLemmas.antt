@@ -1,5 +1,5 @@
 -- The creation of a table, and its joining of the column store.
-use Rattle.std.proofs.Common.{◌≡◌, ℕ, zero, suc, ◌+◌, ◌==◌, Bool, true, false, if◌then◌else◌, List, [], ◌∷◌, ◌++◌, length, Option, Some, None, is_some, refl, sym, ap, ◌∙◌, subst, arith}
+use Rattle.std.proofs.Common.{◌≡◌, ℕ, zero, suc, ◌+◌, true, false, List, [], ◌∷◌, ◌++◌, length, Option, Some, None, is_some, refl, sym, ap, ◌∙◌, subst, arith}
 use Rattle.std.specs.List.{list_any}
 use Rattle.std.specs.Prelude.{slice_get}
 use Rattle.im_core.specs.declared.answers.Made.{Made}
@@ -10,17 +10,18 @@ use Rattle.im_history.specs.declared.entry.What.TheVariants as what
 use Rattle.im_history.specs.declared.look.TableInfo.{TableInfo}
 use Rattle.im_history.specs.declared.refused.Refused.{Refused}
 use Rattle.im_history.specs.Commits.{scn}
-use Rattle.im_history.specs.Cursors.{is_cursor, is_cursor_open, opened}
+use Rattle.im_history.specs.Cursors.{is_cursor, is_cursor_open}
 use Rattle.im_history.specs.Grid.{Grid}
 use Rattle.im_history.specs.History.{History}
 use Rattle.im_history.specs.Legal.{MaySetMemory}
 use Rattle.im_history.specs.Refusals.{create_refusal}
 use Rattle.im_history.specs.Tables.{table_among, table_at, tables}
-use Rattle.im_history.specs.Transactions.{begun, is_open}
+use Rattle.im_history.specs.Transactions.{is_open}
 use Rattle.im_history.proofs.Laws.{tables-push}
 use Rattle.im_plan.specs.Plan.{Plan, End}
 use Rattle.im_reach.specs.Sides.{Added, Found, Known, speaks}
-use Rattle.im_replies.specs.Causes.{creation_fault}
+use Rattle.im_replies.specs.declared.aim.Aim.TheVariants as aim
+use Rattle.im_replies.specs.Causes.{fault_of}
 use Rattle.im_session.specs.inner.Definitions.{created_reply}
 use Rattle.im_session.specs.inner.Rests.{IsRest}
 use Rattle.im_session.proofs.OtherLemmas.{begun-added, opened-added}
@@ -33,12 +34,12 @@ use Rattle.im_statements.specs.Turns.{decide_by, refused_reply}
 pub create-refused : (who k : ℕ) (old new : Known) (name : List ℕ) (schema : List Column) (grid : Grid) (memory : Option Priority)
     (told : Refused) → speaks old.side who ≡ true → is_cursor_open old.log who 0 ≡ false
     → Found old new (λ at. IsRefusal at (create_refusal at name) told)
-    → IsRest who k old (create_table name schema grid memory) (said (refused_reply (creation_fault name) k told.place told.why)) new
+    → IsRest who k old (create_table name schema grid memory) (said (refused_reply (fault_of (aim.Creating name)) k told.place told.why)) new
 create-refused who k old new name schema grid None told mine shut found =
-    rest-refused who k old new true (creation_fault name) (λ at. create_refusal at name) (λ at. what.Create name schema grid) created told mine
+    rest-refused who k old new true (fault_of (aim.Creating name)) (λ at. create_refusal at name) (λ at. what.Create name schema grid) created told mine
     shut found
 create-refused who k old new name schema grid (Some priority) told mine shut found =
-    rest-refused who k old new false (creation_fault name) (λ at. create_refusal at name) (λ at. what.Create name schema grid)
+    rest-refused who k old new false (fault_of (aim.Creating name)) (λ at. create_refusal at name) (λ at. what.Create name schema grid)
     (λ at. join_memory at priority) told mine shut found
 
 module _ (who k : ℕ) (old middle : Known) (name : List ℕ) (schema : List Column) (grid : Grid) (made : Made) where
@@ -50,7 +51,7 @@ module _ (who k : ℕ) (old middle : Known) (name : List ℕ) (schema : List Col
   pub create-done : Added old middle who (λ at. what.Create name schema grid) IsMade
       → IsRest who k old (create_table name schema grid None) (said (created_reply made)) middle
   create-done added =
-      decide-done who k old middle (creation_fault name) (λ at. create_refusal at name) (λ at. what.Create name schema grid) IsMade created
+      decide-done who k old middle (fault_of (aim.Creating name)) (λ at. create_refusal at name) (λ at. what.Create name schema grid) IsMade created
       (said (created_reply made)) added (λ at fact. fact.0) (λ at fact. ap (λ (m : Made). End (said (created_reply m))) (sym fact.1))
 
   -- it is still to join
@@ -58,7 +59,7 @@ module _ (who k : ℕ) (old middle : Known) (name : List ℕ) (schema : List Col
       → IsRest who (k + 1) middle (decide_by (λ here. what.Memory made.table (Some priority)) (λ here. End (said (created_reply made)))) outcome new
       → IsRest who k old (create_table name schema grid (Some priority)) outcome new
   create-joins priority outcome new added rest =
-      attempt-done who k old middle new (creation_fault name) (λ at. create_refusal at name) (λ at. what.Create name schema grid) IsMade
+      attempt-done who k old middle new (fault_of (aim.Creating name)) (λ at. create_refusal at name) (λ at. what.Create name schema grid) IsMade
       (λ at. join_memory at priority) outcome added (λ at fact. fact.0)
       (λ at o.
       subst (λ (p : Plan Outcome). IsRest who (k + 1) middle p outcome new)

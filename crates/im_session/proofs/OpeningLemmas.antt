@@ -1,8 +1,7 @@
 -- The opening of a cursor over a side of a store, and what it sees.
-use Rattle.std.proofs.Common.{◌≡◌, ℕ, zero, suc, ◌+◌, ◌≤◌, ◌==◌, ◌||◌, Bool, true, false, if◌then◌else◌, List, [], ◌∷◌, ◌++◌, length, take, drop, Option, Some, None, refl, sym, ap, ◌∙◌, subst, inl, inr, arith}
+use Rattle.std.proofs.Common.{◌≡◌, ℕ, zero, suc, ◌+◌, ◌≤◌, ◌||◌, Bool, true, false, if◌then◌else◌, List, [], ◌∷◌, ◌++◌, length, take, drop, Option, Some, None, refl, sym, ap, ◌∙◌, subst, inl, inr, arith}
 use Rattle.std.specs.List.{cons_option, find, list_any}
 use Rattle.std.specs.Option.{option_map}
-use Rattle.std.proofs.lemmas.Bool.Decides.{nat_tests}
 use Rattle.std.proofs.lemmas.List.{take-append-drop}
 use Rattle.im_values.specs.declared.limits.TheConstants.{MOST_ROWS}
 use Rattle.im_values.specs.declared.value.Value.{Value}
@@ -29,6 +28,7 @@ use Rattle.im_plan.specs.Plan.{Plan, Turn}
 use Rattle.im_reach.specs.Sides.{Added, AreOthers, Known, speaks}
 use Rattle.im_replies.specs.declared.fault.Fault.{Fault}
 use Rattle.im_replies.specs.declared.served.Served.{Served}
+use Rattle.im_replies.specs.declared.aim.Aim.TheVariants as aim
 use Rattle.im_replies.specs.Causes.{fault_of}
 use Rattle.im_scan.specs.Pinned.{seen_all}
 use Rattle.im_scan.proofs.ForCallers.{seen_by-later}
@@ -196,7 +196,8 @@ pub scan-opened : (who k table : ℕ) (old middle new : Known) (view : View) (fi
     → IsRest who (k + 1) middle (serve_from view filter 0 (tail view.place view (seen_all middle.log view))) outcome new
     → IsRest who k old (scan who table filter (λ at view. tail (length at) view (rows_seen at view))) outcome new
 scan-opened who k table old middle new view filter tail outcome added rest =
-    attempt-done who k old middle new fault_of (λ at. open_refusal at who 0) (λ at. Open 0 table) (HasOpened who 0 table view) on outcome added
+    attempt-done who k old middle new (fault_of (aim.Opening 0)) (λ at. open_refusal at who 0) (λ at. Open 0 table)
+    (HasOpened who 0 table view) on outcome added
     (λ at fact. fact.0) (λ at o. subst (λ (p : Plan Outcome). IsRest who (k + 1) middle p outcome new) (same at o) rest)
   where
     on : History → Plan Outcome

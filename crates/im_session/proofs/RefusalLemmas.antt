@@ -4,6 +4,7 @@ use Rattle.im_history.specs.declared.refused.Why.{Why}
 use Rattle.im_history.specs.declared.refused.Why.TheVariants as why
 use Rattle.im_replies.specs.declared.fault.Fault.{Fault}
 use Rattle.im_replies.specs.declared.served.Served.{Served}
+use Rattle.im_replies.specs.declared.aim.Aim.TheVariants as aim
 use Rattle.im_replies.specs.Causes.{fault_of}
 use Rattle.im_session.specs.inner.Refusals.{refused_so}
 use Rattle.im_session.specs.inner.Writes.{write_reply}
@@ -14,7 +15,8 @@ pub refused-told : (tells : Why → Fault) (k place : ℕ) (cause : Why) → ref
 refused-told tells k place why.NoMemory = refl
 refused-told tells k place _ = refl
 
-pub write-refused : (k place : ℕ) (marks : List Served) (cause : Why) → refused_so k place marks (fault_of cause) cause ≡ write_reply k place marks cause
+pub write-refused : (k place : ℕ) (marks : List Served) (cause : Why)
+    → refused_so k place marks (fault_of aim.Plain cause) cause ≡ write_reply k place marks cause
 write-refused k place marks why.NoMemory = refl
 write-refused k place marks _ = refl
 

@@ -1,5 +1,5 @@
 -- How a line that rewrites rows ends: with its write, refused or not, or with none.
-use Rattle.std.proofs.Common.{◌⊎◌, ◌≡◌, ℕ, ◌≤◌, ◌==◌, Bool, true, false, if◌then◌else◌, List, [], ◌∷◌, ◌++◌, length, Option, Some, None, refl, sym, ap, ◌∙◌, subst, inl, inr, arith}
+use Rattle.std.proofs.Common.{◌⊎◌, ◌≡◌, ℕ, ◌≤◌, true, List, [], ◌∷◌, ◌++◌, length, Option, Some, None, refl, sym, ap, ◌∙◌, subst, inl, inr, arith}
 use Rattle.std.specs.List.{list_any}
 use Rattle.im_core.specs.Answers.{IsRefusal, cursor_view}
 use Rattle.im_history.specs.declared.change.Change.{Change}
@@ -9,7 +9,7 @@ use Rattle.im_history.specs.declared.refused.Refused.{Refused}
 use Rattle.im_history.specs.declared.refused.Why.{Why}
 use Rattle.im_history.specs.declared.refused.Why.TheVariants as why
 use Rattle.im_history.specs.declared.view.View.{View}
-use Rattle.im_history.specs.Cursors.{is_cursor, is_cursor_open, opened}
+use Rattle.im_history.specs.Cursors.{is_cursor, is_cursor_open}
 use Rattle.im_history.specs.History.{History}
 use Rattle.im_history.specs.Refusals.{write_refusal}
 use Rattle.im_plan.specs.Goes.{After}
@@ -19,6 +19,7 @@ use Rattle.im_replies.specs.declared.body.Body.{Body}
 use Rattle.im_replies.specs.declared.body.Body.TheVariants.{Error}
 use Rattle.im_replies.specs.declared.reply.Reply.{Reply}
 use Rattle.im_replies.specs.declared.served.Served.{Served}
+use Rattle.im_replies.specs.declared.aim.Aim.TheVariants as aim
 use Rattle.im_replies.specs.Causes.{fault_of}
 use Rattle.im_session.specs.inner.Rests.{IsDecided, IsRest}
 use Rattle.im_session.specs.inner.Scans.{IsScan, IsShut, Went}
@@ -55,7 +56,7 @@ open-wrote who old new changes P mine is_open added =
 
 -- the reply for a cause: that memory ran out, or its fault
 write_reply-either : (k place : ℕ) (marks : List Served) (cause : Why)
-    → (write_reply k place marks cause ≡ memory_reply k) ⊎ (write_reply k place marks cause ≡ served_reply place marks (Error (fault_of cause)))
+    → (write_reply k place marks cause ≡ memory_reply k) ⊎ (write_reply k place marks cause ≡ served_reply place marks (Error (fault_of aim.Plain cause)))
 write_reply-either k place marks why.NoMemory = inl refl
 write_reply-either k place marks _ = inr refl
 
@@ -106,19 +107,19 @@ module _ (who k : ℕ) (old new late : Known) (view : View) (marks : List Served
           (scan-lacks who k new late plan (speaks-went who old new went mine) (open-went who 0 old new mine went scan.is_open) shut)
 
       faulty : write_refusal old.limits found.at who view.scn changes ≡ Some told.why
-          → IsRest who k old plan (said (served_reply told.place marks (Error (fault_of told.why)))) late
+          → IsRest who k old plan (said (served_reply told.place marks (Error (fault_of aim.Plain told.why)))) late
       faulty cause =
           rest-nothing who k old new late true (λ at. unless_refused (write_refusal old.limits at who view.scn changes) (Write changes)) _
           (λ at. end_scan (served_reply (length at) marks (or_fault (write_refusal old.limits at who view.scn changes) body)))
-          (said (served_reply told.place marks (Error (fault_of told.why)))) found
+          (said (served_reply told.place marks (Error (fault_of aim.Plain told.why)))) found
           (ap (λ (o : Option Why). unless_refused o (Write changes)) cause)
-          (subst (λ (p : Plan Outcome). IsRest who k new p (said (served_reply told.place marks (Error (fault_of told.why)))) late)
+          (subst (λ (p : Plan Outcome). IsRest who k new p (said (served_reply told.place marks (Error (fault_of aim.Plain told.why)))) late)
           (sym (ap (λ (o : Option Why). end_scan (served_reply (length found.at) marks (or_fault o body))) cause
-          ∙ ap (λ (n : ℕ). end_scan (served_reply n marks (Error (fault_of told.why)))) (sym found.fact.place)))
-          (scan-ended who k new late (served_reply told.place marks (Error (fault_of told.why))) shut))
+          ∙ ap (λ (n : ℕ). end_scan (served_reply n marks (Error (fault_of aim.Plain told.why)))) (sym found.fact.place)))
+          (scan-ended who k new late (served_reply told.place marks (Error (fault_of aim.Plain told.why))) shut))
 
       by : (write_reply k told.place marks told.why ≡ memory_reply k)
-          ⊎ (write_reply k told.place marks told.why ≡ served_reply told.place marks (Error (fault_of told.why)))
+          ⊎ (write_reply k told.place marks told.why ≡ served_reply told.place marks (Error (fault_of aim.Plain told.why)))
           → IsRest who k old plan (said (write_reply k told.place marks told.why)) late
       by (inl e) = subst (λ (reply : Reply). IsRest who k old plan (said reply) late) (sym e) lacking
       by (inr e) = elim found.fact.why [

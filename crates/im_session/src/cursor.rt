@@ -17,13 +17,13 @@ ghost use Rattle.im_statements.specs.Cursors as plan;
 ghost use Rattle.im_statements.specs.Outcomes.{Closes, Replied};
 
 use crate::context::Context;
-use crate::refusals::{opening_refused, out_of_memory};
+use crate::refusals::{out_of_memory, refused_reply};
 use crate::serving::{ServedPart, Wanted, answer_scan, served_part};
 use im_edge::Gate;
 use im_group::Partial;
 use im_history::{Look, Refused, View, Why};
 use im_reach::Reach;
-use im_replies::{Body, Reply, Served};
+use im_replies::{Aim, Body, Reply, Served};
 use im_syntax::Bound;
 use im_unit::ColumnUnit;
 use im_values::limits::NUMBERS;
@@ -118,7 +118,7 @@ pub fn open_query<R: Wait, H: Reach<ColumnUnit>, G: Gate>(
             cursor: Some(cursor),
         },
         Err(refused) => OpenOutcome {
-            reply: opening_refused(context.alloc, number, 0, refused),
+            reply: refused_reply(context.alloc, Aim::Opening { cursor: number }, 0, refused),
             cursor: None,
         },
     }

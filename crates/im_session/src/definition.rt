@@ -12,12 +12,12 @@ ghost use Rattle.im_statements.specs.Outcomes.{said};
 ghost use Rattle.im_statements.specs.Turns.{decide_by};
 
 use crate::context::Context;
-use crate::refusals::{creation_refused, out_of_memory};
+use crate::refusals::{out_of_memory, refused_reply};
 use im_core::Made;
 use im_edge::Gate;
 use im_history::{Priority, Shape};
 use im_reach::Reach;
-use im_replies::{Body, Reply};
+use im_replies::{Aim, Body, Reply};
 use im_unit::ColumnUnit;
 use im_values::limits::NUMBERS;
 use im_values::{Name, Schema};
@@ -102,7 +102,12 @@ pub fn create<R: Wait, H: Reach<ColumnUnit>, G: Gate>(
             None => created(context.alloc, made),
             Some(priority) => join_memory(context, reach, made, priority, entries + 1),
         },
-        Err(refused) => creation_refused(context.alloc, told, entries, refused),
+        Err(refused) => refused_reply(
+            context.alloc,
+            Aim::Creating { name: told },
+            entries,
+            refused,
+        ),
     }
 }
 

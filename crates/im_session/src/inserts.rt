@@ -10,7 +10,7 @@ use crate::context::Context;
 use crate::refusals::refused_reply;
 use im_edge::Gate;
 use im_reach::Reach;
-use im_replies::{Body, Reply};
+use im_replies::{Aim, Body, Reply};
 use im_unit::ColumnUnit;
 use im_values::Row;
 use im_values::limits::NUMBERS;
@@ -40,6 +40,6 @@ pub fn insert<R: Wait, H: Reach<ColumnUnit>, G: Gate>(
                 first: wrote.first,
             },
         ),
-        Err(refused) => refused_reply(context.alloc, 0, refused),
+        Err(refused) => refused_reply(context.alloc, Aim::Plain, 0, refused),
     }
 }

@@ -7,8 +7,8 @@ ghost use Rattle.im_statements.specs.Turns as turns;
 
 use im_history::{Refused, Why};
 use im_names::NameFault;
-use im_replies::{Body, Fault, Reply, Served};
-use im_values::{List, Name};
+use im_replies::{Aim, Body, Fault, Reply, Served};
+use im_values::List;
 use std::alloc::Global;
 
 /// The reply of a line that ran out of memory once it had made so many entries.
@@ -40,26 +40,11 @@ fn none(alloc: Global) -> List<Served>
     List::of(Vec::new(alloc))
 }
 
-/// The reply of a line whose call was refused once the line had made so many entries.
-pub fn refused_reply(alloc: Global, k: u64, refused: Refused) -> Reply
-    ensures { result ≡ turns.refused_reply causes.fault_of k refused.place refused.why }
+/// The reply of a line whose call was to do this, and was refused once the line had made so many entries.
+pub fn refused_reply(alloc: Global, aim: Aim, k: u64, refused: Refused) -> Reply
+    ensures { result ≡ turns.refused_reply (causes.fault_of aim) k refused.place refused.why }
 {
-    refused_with(alloc, k, none(alloc), refused, Fault::from(refused.why))
-}
-
-/// The reply of a line that was to create a table of this name, and was refused once it had made so many entries.
-pub fn creation_refused(alloc: Global, name: Name, k: u64, refused: Refused) -> Reply
-    ensures { result ≡ turns.refused_reply (causes.creation_fault name) k refused.place refused.why }
-{
-    let fault = Fault::of_creation(name, refused.why);
-    refused_with(alloc, k, none(alloc), refused, fault)
-}
-
-/// The reply of a line that was to open this cursor, and was refused once it had made so many entries.
-pub fn opening_refused(alloc: Global, cursor: u32, k: u64, refused: Refused) -> Reply
-    ensures { result ≡ turns.refused_reply (causes.opening_fault cursor) k refused.place refused.why }
-{
-    let fault = Fault::of_opening(cursor, refused.why);
+    let fault = Fault::of(aim, refused.why);
     refused_with(alloc, k, none(alloc), refused, fault)
 }
 
@@ -67,7 +52,8 @@ pub fn opening_refused(alloc: Global, cursor: u32, k: u64, refused: Refused) -> 
 pub fn write_refused(alloc: Global, marks: List<Served>, refused: Refused) -> Reply
     ensures { result ≡ write_reply 1 refused.place marks refused.why }
 {
-    refused_with(alloc, 1, marks, refused, Fault::from(refused.why))
+    let fault = Fault::of(Aim::Plain, refused.why);
+    refused_with(alloc, 1, marks, refused, fault)
 }
 
 /// The reply of a line whose names had a fault, at this place, once the line had made so many entries.

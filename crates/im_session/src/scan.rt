@@ -17,7 +17,7 @@ use crate::rewriting::rewrite_seen;
 use crate::serving::{Wanted, answer_scan, gather};
 use im_edge::Gate;
 use im_reach::Reach;
-use im_replies::{Body, How, Reply, Served};
+use im_replies::{Aim, Body, How, Reply, Served};
 use im_statements::Rewriting;
 use im_syntax::Bound;
 use im_unit::ColumnUnit;
@@ -64,7 +64,7 @@ pub fn scan<R: Wait, H: Reach<ColumnUnit>, G: Gate, L: Ledger>(
             reach.shut(context.rt, context.who, 0);
             reply
         }
-        Err(refused) => refused_reply(context.alloc, 0, refused),
+        Err(refused) => refused_reply(context.alloc, Aim::Opening { cursor: 0 }, 0, refused),
     }
 }
 

@@ -13,7 +13,7 @@ use crate::statement::is_definition;
 use im_edge::Gate;
 use im_history::{Look, Mode};
 use im_reach::Reach;
-use im_replies::{Body, Fault, Reply};
+use im_replies::{Aim, Body, Fault, Reply};
 use im_syntax::Stmt;
 use im_unit::ColumnUnit;
 use im_values::limits::NUMBERS;
@@ -32,7 +32,7 @@ pub fn set_mode<R: Wait, H: Reach<ColumnUnit>, G: Gate>(
 {
     match reach.begin(context.rt, context.who, mode) {
         Ok(begun) => Reply::settled(context.alloc, begun.place, Body::Begun { scn: begun.scn }),
-        Err(refused) => refused_reply(context.alloc, 0, refused),
+        Err(refused) => refused_reply(context.alloc, Aim::Plain, 0, refused),
     }
 }
 

@@ -36,7 +36,8 @@ use Rattle.im_replies.specs.declared.reply.Reply.{Reply}
 use Rattle.im_replies.specs.declared.body.Body.{Body}
 use Rattle.im_replies.specs.declared.body.Body.TheVariants as body
 use Rattle.im_replies.specs.declared.served.Served.{Served}
-use Rattle.im_replies.specs.Causes.{creation_fault, fault_of, opening_fault}
+use Rattle.im_replies.specs.declared.aim.Aim.TheVariants as aim
+use Rattle.im_replies.specs.Causes.{fault_of}
 use Rattle.im_syntax.specs.declared.bound.Bound.{Bound}
 use Rattle.im_syntax.specs.declared.statement.Stmt.{Stmt}
 use Rattle.im_syntax.specs.declared.statement.Stmt.TheVariants as stmt
@@ -82,7 +83,7 @@ plain-scan : (who table : ℕ) (filter : Option (CondOf ℕ Value)) (on : Histor
 plain-scan who table filter on rest = λ at. by at (open_refusal at who 0)
   where
     by : (at : History) (o : Option Why) → (after : Bool) × Moves false (unless_refused o (what.Open 0 table)) after
-        × Plain after (or_refused fault_of at o (serve_from (view_at at who table) filter 0 (on at (view_at at who table))))
+        × Plain after (or_refused (fault_of (aim.Opening 0)) at o (serve_from (view_at at who table) filter 0 (on at (view_at at who table))))
     by at None = (
       true,
       opens table,
@@ -129,12 +130,12 @@ plain-explain who bound =
 
 plain-insert : (limits : Limits) (who table : ℕ) (rows : List Row) → Plain false (insert limits who table rows)
 plain-insert limits who table rows =
-    plain-attempt true fault_of (λ at. insert_refusal limits at who (inserts table rows at)) (λ at. what.Write (inserts table rows at))
+    plain-attempt true (fault_of aim.Plain) (λ at. insert_refusal limits at who (inserts table rows at)) (λ at. what.Write (inserts table rows at))
     (λ at. answer_at at (body.Inserted (length rows) (given at table))) (λ at h w cs. refl) (λ at. (refl, refl))
 
 plain-set_mode : (who : ℕ) (mode : Mode) → Plain false (set_mode who mode)
 plain-set_mode who mode =
-    plain-attempt true fault_of (λ at. begin_refusal at who) (λ at. what.Begin mode) (λ at. answer_at at (body.Begun (scn at)))
+    plain-attempt true (fault_of aim.Plain) (λ at. begin_refusal at who) (λ at. what.Begin mode) (λ at. answer_at at (body.Begun (scn at)))
     (λ at h w cs. refl) (λ at. (refl, refl))
 
 plain-if : (b : Bool) (first second : Plan Outcome) → Plain false first → Plain false second → Plain false (if b then first else second)
@@ -143,10 +144,10 @@ plain-if false first second one other = other
 
 plain-create : (name : List ℕ) (schema : List Column) (grid : Grid) (memory : Option Priority) → Plain false (create_table name schema grid memory)
 plain-create name schema grid None =
-    plain-attempt true (creation_fault name) (λ at. create_refusal at name) (λ at. what.Create name schema grid) created
+    plain-attempt true (fault_of (aim.Creating name)) (λ at. create_refusal at name) (λ at. what.Create name schema grid) created
     (λ at h w cs. refl) (λ at. (refl, refl))
 plain-create name schema grid (Some priority) =
-    plain-attempt false (creation_fault name) (λ at. create_refusal at name) (λ at. what.Create name schema grid) (λ at. join_memory at priority)
+    plain-attempt false (fault_of (aim.Creating name)) (λ at. create_refusal at name) (λ at. what.Create name schema grid) (λ at. join_memory at priority)
     (λ at h w cs. refl)
     (λ at here. (false, stays false (what.Memory (length (tables at) + 1) (Some priority)) (λ h w cs. refl), (refl, refl)))
 
@@ -289,7 +290,8 @@ module _ (who : ℕ) (state : State) (cursors : List Opened) (steady : Steady st
       other = grind (arith, nat_tests, some)
 
       keeps : (at : History) (o : Option Why)
-          → Keeps who state (moved who cursors at (unless_refused o (what.Open cursor bound.table))) (or_refused (opening_fault cursor) at o (opening at))
+          → Keeps who state (moved who cursors at (unless_refused o (what.Open cursor bound.table)))
+          (or_refused (fault_of (aim.Opening cursor)) at o (opening at))
       keeps at None = (
         any-append (is_cursor 0) cursors _ steady.0 other,
         queries-append state.queries cursors (query at) _ steady.1 (record { same = refl; view = refl }),
@@ -297,7 +299,8 @@ module _ (who : ℕ) (state : State) (cursors : List Opened) (steady : Steady st
       keeps at (Some cause) = steady
 
       stops : (at : History) (o : Option Why) → (true && is_some (unless_refused o (what.Open cursor bound.table))) ≡ false
-          → Stops who state (moved who cursors at (unless_refused o (what.Open cursor bound.table))) (or_refused (opening_fault cursor) at o (opening at))
+          → Stops who state (moved who cursors at (unless_refused o (what.Open cursor bound.table)))
+          (or_refused (fault_of (aim.Opening cursor)) at o (opening at))
       stops at None free = absurd cc
       stops at (Some cause) free = closes
 

@@ -42,7 +42,8 @@ use Rattle.im_replies.specs.declared.fault.Fault.{Fault}
 use Rattle.im_replies.specs.declared.fault.Fault.TheVariants as fault
 use Rattle.im_replies.specs.declared.reply.Reply.{Reply}
 use Rattle.im_replies.specs.declared.served.Served.{Served}
-use Rattle.im_replies.specs.Causes.{creation_fault, fault_of, name_fault, opening_fault}
+use Rattle.im_replies.specs.declared.aim.Aim.TheVariants as aim
+use Rattle.im_replies.specs.Causes.{fault_of, name_fault}
 use Rattle.im_syntax.specs.declared.bound.Bound.{Bound}
 use Rattle.im_syntax.specs.declared.statement.Stmt.{Stmt}
 use Rattle.im_syntax.specs.declared.statement.Stmt.TheVariants as stmt
@@ -220,7 +221,7 @@ module _ (who : ℕ) (before : Bool) where
   says-scan : (k table : ℕ) (filter : Option (CondOf ℕ Value)) (on : History → View → List Served → Plan Outcome)
       → ((at : History) (view : View) (marks : List Served) → Says (suc k) (on at view marks)) → Says k (scan who table filter on)
   says-scan k table filter on rest =
-      says-turn false k fault_of (λ at. open_refusal at who 0) (λ at. what.Open 0 table)
+      says-turn false k (fault_of (aim.Opening 0)) (λ at. open_refusal at who 0) (λ at. what.Open 0 table)
       (λ at. serve_from (view_at at who table) filter 0 (on at (view_at at who table)))
       (λ at. says-serve (suc k) (view_at at who table) filter _ 0 [] (on at (view_at at who table)) (rest at (view_at at who table)))
 
@@ -255,7 +256,7 @@ module _ (who : ℕ) (before : Bool) where
           (counted (unless_refused o (what.Write (change ∷ changes))) k) (turned before (unless_refused o (what.Write (change ∷ changes))))
           (end_scan (served_reply (length at) marks (or_fault o body_is)))
       by at None = says-end false (suc k) true (served_reply (length at) marks body_is) (λ f. absurd cc) (written-some rewriting (length changes))
-      by at (Some cause) = says-end true k before (served_reply (length at) marks (body.Error (fault_of cause))) (λ f. refl) refl
+      by at (Some cause) = says-end true k before (served_reply (length at) marks (body.Error (fault_of aim.Plain cause))) (λ f. refl) refl
 
   says-rewrite : (k : ℕ) (limits : Limits) (table : ℕ) (filter : Option (CondOf ℕ Value)) (rewriting : Rewriting)
       → Says k (rewrite limits who table filter rewriting)
@@ -285,19 +286,20 @@ module _ (who : ℕ) (before : Bool) where
 
   says-insert : (k : ℕ) (limits : Limits) (table : ℕ) (rows : List Row) → Says k (insert limits who table rows)
   says-insert k limits table rows =
-      says-turn true k fault_of (λ at. insert_refusal limits at who (inserts table rows at)) (λ at. what.Write (inserts table rows at))
+      says-turn true k (fault_of aim.Plain) (λ at. insert_refusal limits at who (inserts table rows at)) (λ at. what.Write (inserts table rows at))
       (λ at. answer_at at (body.Inserted (length rows) (given at table))) (λ at. (λ f. absurd cc, refl))
 
   says-set_mode : (k : ℕ) (mode : Mode) → Says k (set_mode who mode)
   says-set_mode k mode =
-      says-turn true k fault_of (λ at. begin_refusal at who) (λ at. what.Begin mode) (λ at. answer_at at (body.Begun (scn at)))
+      says-turn true k (fault_of aim.Plain) (λ at. begin_refusal at who) (λ at. what.Begin mode) (λ at. answer_at at (body.Begun (scn at)))
       (λ at. (λ f. absurd cc, refl))
 
   says-create : (k : ℕ) (name : List ℕ) (schema : List Column) (grid : Grid) (memory : Option Priority) → Says k (create_table name schema grid memory)
   says-create k name schema grid None =
-      says-turn true k (creation_fault name) (λ at. create_refusal at name) (λ at. what.Create name schema grid) created (λ at. (λ f. absurd cc, refl))
+      says-turn true k (fault_of (aim.Creating name)) (λ at. create_refusal at name) (λ at. what.Create name schema grid) created
+      (λ at. (λ f. absurd cc, refl))
   says-create k name schema grid (Some priority) =
-      says-turn false k (creation_fault name) (λ at. create_refusal at name) (λ at. what.Create name schema grid) (λ at. join_memory at priority)
+      says-turn false k (fault_of (aim.Creating name)) (λ at. create_refusal at name) (λ at. what.Create name schema grid) (λ at. join_memory at priority)
       (λ at. (λ f. refl, λ here is. (λ f. absurd cc, refl)))
 
   says-roll_back : (k : ℕ) (at : History) → is_open at who ≡ before → Says k (roll_back who at)
@@ -312,7 +314,7 @@ module _ (who : ℕ) (before : Bool) where
 
   says-open : (k cursor : ℕ) (bound : Bound) → Says k (open_query who cursor bound)
   says-open k cursor bound =
-      says-turn true k (opening_fault cursor) (λ at. open_refusal at who cursor) (λ at. what.Open cursor bound.table) _ (λ at. (λ f. absurd cc, refl))
+      says-turn true k (fault_of (aim.Opening cursor)) (λ at. open_refusal at who cursor) (λ at. what.Open cursor bound.table) _ (λ at. (λ f. absurd cc, refl))
 
   says-with : (k cursor : ℕ) (at : History) (query : Option Query) (on : Query → Plan Outcome) → ((query : Query) → Says k (on query))
       → Says k (with_query cursor at query on)
@@ -391,7 +393,7 @@ IsNamed before (Some fault) = false ≡ open_by_definition (body.Error (name_fau
 -- and a cause that refuses a creation
 abbrev IsRefused : Bool → List ℕ → Option Why → Type 0
 IsRefused before name None = ⊤
-IsRefused before name (Some cause) = false ≡ open_by_definition (body.Error (creation_fault name cause)) before
+IsRefused before name (Some cause) = false ≡ open_by_definition (body.Error (fault_of (aim.Creating name) cause)) before
 
 repeated-named : (before : Bool) (earlier names : List (List ℕ)) → IsNamed before (first_fault (with_earlier repeated earlier names))
 repeated-named before earlier [] = tt
@@ -423,7 +425,7 @@ module _ (who : ℕ) (before : Bool) (k : ℕ) (lost : IsLost before k) (later :
       by : (at : History) (o : Option Why) → IsRefused before name o
           → Tells open_by_definition who before (not (true && is_some (unless_refused o (what.Create name schema grid))) && true)
           (counted (unless_refused o (what.Create name schema grid)) k) (turned false (unless_refused o (what.Create name schema grid)))
-          (or_refused (creation_fault name) at o (created at))
+          (or_refused (fault_of (aim.Creating name)) at o (created at))
       by at None refused = (λ f. absurd cc, refl)
       by at (Some cause) refused = (λ f. lost, refused)
   defines-create name schema grid (Some priority) = (λ f. lost, λ at is. by at (create_refusal at name) (creation-refused before name at))
@@ -431,7 +433,7 @@ module _ (who : ℕ) (before : Bool) (k : ℕ) (lost : IsLost before k) (later :
       by : (at : History) (o : Option Why) → IsRefused before name o
           → Tells open_by_definition who before (not (false && is_some (unless_refused o (what.Create name schema grid))) && true)
           (counted (unless_refused o (what.Create name schema grid)) k) (turned false (unless_refused o (what.Create name schema grid)))
-          (or_refused (creation_fault name) at o (join_memory at priority))
+          (or_refused (fault_of (aim.Creating name)) at o (join_memory at priority))
       by at None refused = (λ f. later, λ here is. (λ f. absurd cc, refl))
       by at (Some cause) refused = (λ f. lost, refused)
 

@@ -26,7 +26,8 @@ use Rattle.im_replies.specs.declared.reply.Reply.{Reply}
 use Rattle.im_replies.specs.declared.task.Built.{Built}
 use Rattle.im_replies.specs.declared.task.Ending.{Ending}
 use Rattle.im_replies.specs.declared.task.Ending.TheVariants as ending
-use Rattle.im_replies.specs.Causes.{eviction_fault, name_fault}
+use Rattle.im_replies.specs.declared.aim.Aim.TheVariants as aim
+use Rattle.im_replies.specs.Causes.{fault_of, name_fault}
 use Rattle.im_syntax.specs.declared.statement.Stmt.{Stmt}
 use Rattle.im_syntax.specs.declared.statement.Stmt.TheVariants as stmt
 use Rattle.im_statements.specs.Turns.{memory_reply, unless_refused}
@@ -116,7 +117,7 @@ trickle who builds count =
 -- EVICT of an extent of a table, unless it has no unit
 abbrev pub evicted : ℕ → List Task → ℕ → ℕ → History → Option Why → Plan Outcome
 evicted who builds table extent at None = answer_with builds (body.Evicted table extent (used (behind at who (what.Evict table extent))))
-evicted who builds table extent at (Some cause) = answer_with builds (body.Error (eviction_fault table extent cause))
+evicted who builds table extent at (Some cause) = answer_with builds (body.Error (fault_of (aim.Evicting table extent) cause))
 
 abbrev pub evict : ℕ → List Task → ℕ → ℕ → Plan Outcome
 evict who builds table extent =

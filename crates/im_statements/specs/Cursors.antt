@@ -11,7 +11,8 @@ use Rattle.im_replies.specs.declared.body.Body.TheVariants.{Opened, Step, End as
 use Rattle.im_replies.specs.declared.fault.Fault.TheVariants as fault
 use Rattle.im_replies.specs.declared.reply.Reply.{Reply}
 use Rattle.im_replies.specs.declared.served.Served.{Served}
-use Rattle.im_replies.specs.Causes.{opening_fault}
+use Rattle.im_replies.specs.declared.aim.Aim.TheVariants as aim
+use Rattle.im_replies.specs.Causes.{fault_of}
 use Rattle.im_statements.specs.Outcomes.{Outcome, Query, State, query_at, Replied, Opens, Steps, Closes}
 use Rattle.im_statements.specs.Scans.{mark_at, rows_seen, serve_from}
 use Rattle.im_statements.specs.Turns.{answer_at, decide, decide_by, look, served_reply, settled_reply}
@@ -19,7 +20,7 @@ use Rattle.im_statements.specs.Turns.{answer_at, decide, decide_by, look, served
 -- OPEN
 abbrev pub open_query : ℕ → ℕ → Bound → Plan Outcome
 open_query who cursor bound =
-    decide (opening_fault cursor) (λ at. open_refusal at who cursor) (λ at. Open cursor bound.table) (λ at.
+    decide (fault_of (aim.Opening cursor)) (λ at. open_refusal at who cursor) (λ at. Open cursor bound.table) (λ at.
     End (Replied
     (settled_reply (length at) (Opened cursor (view_at at who bound.table).scn (view_at at who bound.table).extents))
     (Opens (record { cursor = cursor; bound = bound; view = view_at at who bound.table; next = 0 }))))

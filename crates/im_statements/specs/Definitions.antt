@@ -12,7 +12,8 @@ use Rattle.im_history.specs.Tables.{tables}
 use Rattle.im_history.specs.Transactions.{is_open}
 use Rattle.im_plan.specs.Plan.{Plan}
 use Rattle.im_replies.specs.declared.body.Body.TheVariants.{Created, Altered, Begun, Committed, RolledBack}
-use Rattle.im_replies.specs.Causes.{creation_fault, fault_of}
+use Rattle.im_replies.specs.declared.aim.Aim.TheVariants as aim
+use Rattle.im_replies.specs.Causes.{fault_of}
 use Rattle.im_statements.specs.Outcomes.{Outcome}
 use Rattle.im_statements.specs.Turns.{answer_at, attempt, decide, decide_by}
 
@@ -29,9 +30,9 @@ join_memory at priority = decide_by (λ here. what.Memory (length (tables at) + 
 -- CREATE TABLE, once no transaction is open
 abbrev pub create_table : List ℕ → List Column → Grid → Option Priority → Plan Outcome
 create_table name schema grid None =
-    decide (creation_fault name) (λ at. create_refusal at name) (λ at. what.Create name schema grid) created
+    decide (fault_of (aim.Creating name)) (λ at. create_refusal at name) (λ at. what.Create name schema grid) created
 create_table name schema grid (Some priority) =
-    attempt (creation_fault name) (λ at. create_refusal at name) (λ at. what.Create name schema grid) (λ at. join_memory at priority)
+    attempt (fault_of (aim.Creating name)) (λ at. create_refusal at name) (λ at. what.Create name schema grid) (λ at. join_memory at priority)
 
 -- ALTER TABLE, once no transaction is open
 abbrev pub alter_table : ℕ → Option Priority → Plan Outcome
@@ -41,7 +42,7 @@ alter_table table priority = decide_by (λ at. what.Memory table priority) (λ a
 
 -- SET TRANSACTION
 abbrev pub set_mode : ℕ → Mode → Plan Outcome
-set_mode who mode = decide fault_of (λ at. begin_refusal at who) (λ at. what.Begin mode) (λ at. answer_at at (Begun (scn at)))
+set_mode who mode = decide (fault_of aim.Plain) (λ at. begin_refusal at who) (λ at. what.Begin mode) (λ at. answer_at at (Begun (scn at)))
 
 -- COMMIT
 abbrev pub commit : Plan Outcome

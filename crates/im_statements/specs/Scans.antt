@@ -15,6 +15,7 @@ use Rattle.im_replies.specs.declared.body.Body.TheVariants.{Answer, Plan as Expl
 use Rattle.im_replies.specs.declared.reply.Reply.{Reply}
 use Rattle.im_replies.specs.declared.served.How.{How}
 use Rattle.im_replies.specs.declared.served.Served.{Served}
+use Rattle.im_replies.specs.declared.aim.Aim.TheVariants as aim
 use Rattle.im_replies.specs.Causes.{fault_of}
 use Rattle.im_replies.specs.Mixes.{mix}
 use Rattle.im_statements.specs.Outcomes.{Outcome, said}
@@ -46,7 +47,7 @@ serve_from view filter extent on = serve view filter (view.extents - extent) ext
 -- at the opening, the view, and the marks
 abbrev pub scan : ℕ → ℕ → Option (CondOf ℕ Value) → (History → View → List Served → Plan Outcome) → Plan Outcome
 scan who table filter on =
-    attempt fault_of (λ at. open_refusal at who 0) (λ at. Open 0 table) (λ at.
+    attempt (fault_of (aim.Opening 0)) (λ at. open_refusal at who 0) (λ at. Open 0 table) (λ at.
     serve_from (view_at at who table) filter 0 (on at (view_at at who table)))
 
 -- the scan ends, and the line with this reply

@@ -18,6 +18,7 @@ use Rattle.im_replies.specs.declared.body.Body.{Body}
 use Rattle.im_replies.specs.declared.body.Body.TheVariants.{Inserted, Updated, Deleted, Error}
 use Rattle.im_replies.specs.declared.fault.Fault.TheVariants as fault
 use Rattle.im_replies.specs.declared.served.Served.{Served}
+use Rattle.im_replies.specs.declared.aim.Aim.TheVariants as aim
 use Rattle.im_replies.specs.Causes.{fault_of}
 use Rattle.im_statements.specs.declared.rewriting.Rewriting.{Rewriting}
 use Rattle.im_statements.specs.declared.rewriting.Rewriting.TheVariants.{Updating, Deleting}
@@ -35,7 +36,7 @@ inserts table rows at = put_from table (given at table) rows
 -- INSERT
 abbrev pub insert : Limits → ℕ → ℕ → List Row → Plan Outcome
 insert limits who table rows =
-    decide fault_of (λ at. insert_refusal limits at who (inserts table rows at)) (λ at. Write (inserts table rows at))
+    decide (fault_of aim.Plain) (λ at. insert_refusal limits at who (inserts table rows at)) (λ at. Write (inserts table rows at))
     (λ at. answer_at at (Inserted (length rows) (given at table)))
 
 -- ---- rewriting
@@ -61,7 +62,7 @@ changes_to table rewriting rows = map (λ row. record { table = table; rid = row
 -- the body, unless the write was refused
 abbrev pub or_fault : Option Why → Body → Body
 or_fault None body = body
-or_fault (Some cause) body = Error (fault_of cause)
+or_fault (Some cause) body = Error (fault_of aim.Plain cause)
 
 -- changes are written to rows that were seen at an SCN, unless it is refused; then the scan ends
 abbrev pub write_seen : Limits → ℕ → ℕ → List Served → List Change → Body → Plan Outcome

@@ -26,7 +26,8 @@ use Rattle.im_replies.specs.declared.reply.Reply.{Reply}
 use Rattle.im_replies.specs.declared.task.Built.{Built}
 use Rattle.im_replies.specs.declared.task.Ending.{Ending}
 use Rattle.im_replies.specs.declared.task.Ending.TheVariants as ending
-use Rattle.im_replies.specs.Causes.{eviction_fault}
+use Rattle.im_replies.specs.declared.aim.Aim.TheVariants as aim
+use Rattle.im_replies.specs.Causes.{fault_of}
 use Rattle.im_statements.specs.Background.{Answered, Outcome, answer_with, begin, built_of, cancel, command_plan, drop_all, end_by, ending_by, evict, evicted, finish, fits, run, said, switch, trickle}
 use Rattle.im_statements.specs.Turns.{memory_reply, unless_refused}
 use Rattle.im_worker.specs.Background.{Agrees, IsPlayed, Kept, Ready, tasks_of}
@@ -128,9 +129,9 @@ evicted-run who table extent left content builds old new place mine lawful stand
 
 pub evicted-not : (who table extent : ℕ) (builds : List Ready) (old new : Known) (refused : Refused) → speaks old.side who ≡ true
     → IsLawful new.limits new.log → Stands who builds [] old.log → Found old new (λ at. IsRefusal at (evict_refusal at table extent) refused)
-    → IsRun who (evict who (tasks_of builds) table extent) builds old (said (body.Error (eviction_fault table extent refused.why))) builds new
+    → IsRun who (evict who (tasks_of builds) table extent) builds old (said (body.Error (fault_of (aim.Evicting table extent) refused.why))) builds new
 evicted-not who table extent builds old new refused mine lawful stands found = elim found.fact.why [
-  | inl lacks ↦ subst (λ (w : Why). IsRun who plan builds old (said (body.Error (eviction_fault table extent w))) builds new) (sym lacks)
+  | inl lacks ↦ subst (λ (w : Why). IsRun who plan builds old (said (body.Error (fault_of (aim.Evicting table extent) w))) builds new) (sym lacks)
       (run-lacks who builds old new _ plan mine lawful stands found)
   | inr cause ↦ record {
     rest = rest-nothing who 0 (tasks_of builds) old new new true (λ at. unless_refused (evict_refusal at table extent) (what.Evict table extent))
@@ -146,7 +147,7 @@ evicted-not who table extent builds old new refused mine lawful stands found = e
     plan = evict who (tasks_of builds) table extent
 
     outcome : Outcome
-    outcome = told (body.Error (eviction_fault table extent refused.why)) builds
+    outcome = told (body.Error (fault_of (aim.Evicting table extent) refused.why)) builds
 
     went : Went old new
     went = went-found old new _ found

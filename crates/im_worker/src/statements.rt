@@ -16,7 +16,7 @@ use crate::replies::{built_of, out_of_memory};
 use im_edge::{Gate, Outside};
 use im_names::{Resolved, resolve};
 use im_reach::Reach;
-use im_replies::{Body, Ending, Fault, Reply};
+use im_replies::{Aim, Body, Ending, Fault, Reply};
 use im_syntax::Stmt;
 use im_unit::ColumnUnit;
 use im_values::Steps;
@@ -149,7 +149,7 @@ fn evict_extent<R: Wait, H: Reach<ColumnUnit>, G>(
         }
         Err(refused) => Reply::refusal(
             outside.alloc,
-            Fault::of_eviction(table, extent, refused.why),
+            Fault::of(Aim::Evicting { table, extent }, refused.why),
         ),
     }
 }

@@ -16,6 +16,7 @@ use Rattle.im_reach.specs.Sides.{Known}
 use Rattle.im_replies.specs.declared.body.Body.TheVariants.{Error}
 use Rattle.im_replies.specs.declared.reply.Reply.{Reply}
 use Rattle.im_replies.specs.declared.served.Served.{Served}
+use Rattle.im_replies.specs.declared.aim.Aim.TheVariants as aim
 use Rattle.im_replies.specs.Causes.{fault_of}
 use Rattle.im_statements.specs.declared.rewriting.Rewriting.{Rewriting}
 use Rattle.im_statements.specs.declared.rewriting.Rewriting.TheVariants.{Updating, Deleting}
@@ -58,4 +59,4 @@ pub record AreRows (history : History) (view : View) (rows : List (ℕ × Row)) 
 -- the reply of a line whose write was refused once it had made k entries and was served so
 abbrev pub write_reply : ℕ → ℕ → List Served → Why → Reply
 write_reply k place marks why.NoMemory = memory_reply k
-write_reply k place marks cause = served_reply place marks (Error (fault_of cause))
+write_reply k place marks cause = served_reply place marks (Error (fault_of aim.Plain cause))

@@ -7,7 +7,8 @@ use Rattle.im_history.specs.Views.{view_at}
 use Rattle.im_plan.specs.Plan.{End}
 use Rattle.im_replies.specs.declared.body.Body.TheVariants.{Opened}
 use Rattle.im_replies.specs.declared.reply.Reply.{Reply}
-use Rattle.im_replies.specs.Causes.{opening_fault}
+use Rattle.im_replies.specs.declared.aim.Aim.TheVariants as aim
+use Rattle.im_replies.specs.Causes.{fault_of}
 use Rattle.im_session.specs.declared.cursor.Cursor.{Cursor}
 use Rattle.im_session.specs.Cursors.{query_of}
 use Rattle.im_session.specs.inner.Rests.{IsRest}
@@ -25,7 +26,7 @@ returns-in-Ok-clause-rest g c =
     let who = c.args.context.now.who in
     subst (λ (k : Cursor). IsRest who 0 (g.H.Reach.known c.args.reach.now) (open_query who number bound)
     (Replied c.settled.result (Opens (query_of k))) (g.H.Reach.known c.open_cursor.new.reach)) (sym c.in-Ok.ensures.opened.is)
-    (decide-done who 0 (g.H.Reach.known c.args.reach.now) (g.H.Reach.known c.open_cursor.new.reach) (opening_fault number)
+    (decide-done who 0 (g.H.Reach.known c.args.reach.now) (g.H.Reach.known c.open_cursor.new.reach) (fault_of (aim.Opening number))
     (λ at. open_refusal at who number) (λ at. Open number bound.table) _
     (λ at. End (Replied (settled_reply (length at) (Opened number (view_at at who bound.table).scn (view_at at who bound.table).extents))
     (Opens (record { cursor = number; bound = bound; view = view_at at who bound.table; next = 0 })))) _
@@ -50,8 +51,8 @@ returns-in-Err-clause-rest g c =
     let number = c.args.number in
     let bound = c.args.bound in
     let who = c.args.context.now.who in
-    rw c.opening_refused.ensures
-    (unopened-rest who 0 number bound.table (g.H.Reach.known c.args.reach.now) (g.H.Reach.known c.open_cursor.new.reach) true (opening_fault number)
+    rw c.refused_reply.ensures
+    (unopened-rest who 0 number bound.table (g.H.Reach.known c.args.reach.now) (g.H.Reach.known c.open_cursor.new.reach) true (fault_of (aim.Opening number))
     (λ at. End (Replied (settled_reply (length at) (Opened number (view_at at who bound.table).scn (view_at at who bound.table).extents))
     (Opens (record { cursor = number; bound = bound; view = view_at at who bound.table; next = 0 }))))
     c.in-Err.refused c.requires.speaks c.requires.shut c.in-Err.ensures.err)

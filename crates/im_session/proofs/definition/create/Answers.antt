@@ -33,6 +33,6 @@ returns-in-Ok-create g c =
 
 pub returns : goal.returns
 returns g c =
-    rw (c.creation_refused.ensures, c.in-Ok.ensures)
+    rw (c.refused_reply.ensures, c.in-Ok.ensures)
     (create-refused c.args.context.now.who c.args.entries (g.H.Reach.known c.args.reach.now) _ c.args.table.name c.args.table.schema c.args.table.shape
     c.args.table.memory c.in-Err.refused c.requires.speaks c.requires.shut c.in-Err.ensures.err)

@@ -1,4 +1,5 @@
 use Rattle.std.proofs.Common.{◌∙◌, false, ap, arith, length}
+use Rattle.im_replies.specs.declared.aim.Aim.TheVariants as aim
 use Rattle.im_replies.specs.Causes.{fault_of}
 use Rattle.im_reach.specs.Sides.{Known, speaks}
 use Rattle.im_session.specs.inner.Purposes.{behind_scan}
@@ -41,7 +42,7 @@ returns-clause-rest g c =
     let bound = c.args.bound in
     let limits = (g.H.Reach.known c.args.reach.now).limits in
     rw c.refused_reply.ensures
-    (unopened-rest who 0 0 bound.table (g.H.Reach.known c.args.reach.now) (g.H.Reach.known c.open_cursor.new.reach) false fault_of
+    (unopened-rest who 0 0 bound.table (g.H.Reach.known c.args.reach.now) (g.H.Reach.known c.open_cursor.new.reach) false (fault_of (aim.Opening 0))
     (λ at.
     serve_from (view_at at who bound.table) bound.filter 0
     (behind_scan limits who bound c.args.purpose (length at) (view_at at who bound.table) (rows_seen at (view_at at who bound.table))))

@@ -1,7 +1,8 @@
 use Rattle.std.proofs.Common.{◌∙◌, ap}
 use Rattle.im_replies.specs.declared.body.Body.TheVariants as body
 use Rattle.im_replies.specs.declared.fault.Fault.{Fault}
-use Rattle.im_replies.specs.Causes.{eviction_fault}
+use Rattle.im_replies.specs.declared.aim.Aim.TheVariants as aim
+use Rattle.im_replies.specs.Causes.{fault_of}
 use Rattle.im_statements.specs.Background.{evict, said}
 use Rattle.im_worker.specs.Background.{tasks_of}
 use Rattle.im_worker.proofs.RunLemmas.{evicted-not, evicted-run, run-told}
@@ -27,8 +28,8 @@ returns-in-Err g c =
     let new = g.H.Reach.known c.evict.new.self in
     record {
       run = run-told c.args.who (evict c.args.who (tasks_of builds) c.args.table c.args.extent) builds old
-          (said (body.Error (eviction_fault c.args.table c.args.extent c.in-Err.refused.why))) c.refusal.result builds new
-          (c.refusal.ensures ∙ ap (λ (fault : Fault). said (body.Error fault)) c.of_eviction.ensures)
+          (said (body.Error (fault_of (aim.Evicting c.args.table c.args.extent) c.in-Err.refused.why))) c.refusal.result builds new
+          (c.refusal.ensures ∙ ap (λ (fault : Fault). said (body.Error fault)) c.of.ensures)
           (evicted-not c.args.who c.args.table c.args.extent builds old new c.in-Err.refused c.requires.speaks c.in-Err.ensures.lawful c.requires.stands
           c.in-Err.ensures.err);
     }
