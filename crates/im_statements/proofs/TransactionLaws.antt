@@ -68,16 +68,7 @@ open_behind (what.Begin mode) now = true
 open_behind (what.Write changes) now = true
 open_behind what.Commit now = false
 open_behind what.Rollback now = false
-open_behind (what.Create name schema grid) now = now
-open_behind (what.Memory table priority) now = now
-open_behind (what.Open cursor table) now = now
-open_behind (what.Shut cursor) now = now
-open_behind (what.Build id table extent trickle) now = now
-open_behind (what.Switch id) now = now
-open_behind (what.Cancel id full) now = now
-open_behind (what.Trickle count) now = now
-open_behind (what.Evict table extent) now = now
-open_behind what.Leave now = now
+open_behind entry now = now
 
 -- and after a turn
 abbrev turned : Bool → Option What → Bool
@@ -93,16 +84,7 @@ open-behind place began (what.Begin mode) = some-here place began
 open-behind place began (what.Write changes) = some-here place began
 open-behind place began what.Commit = refl
 open-behind place began what.Rollback = refl
-open-behind place began (what.Create name schema grid) = refl
-open-behind place began (what.Memory table priority) = refl
-open-behind place began (what.Open cursor table) = refl
-open-behind place began (what.Shut cursor) = refl
-open-behind place began (what.Build id table extent trickle) = refl
-open-behind place began (what.Switch id) = refl
-open-behind place began (what.Cancel id full) = refl
-open-behind place began (what.Trickle count) = refl
-open-behind place began (what.Evict table extent) = refl
-open-behind place began what.Leave = refl
+open-behind place began _ = refl
 
 open-turned : (h : History) (who : ℕ) (added : Option What) → is_open (h ++ made who added) who ≡ turned (is_open h who) added
 open-turned h who None = ap (λ (log : History). is_open log who) (append-nil h)
