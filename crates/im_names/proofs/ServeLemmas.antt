@@ -206,19 +206,7 @@ serves tables (stmt.Insert name names tuples) r good e = insert_serves tables na
 serves tables (stmt.Update name sets where_) r good e = update_serves tables name sets where_ r e
 serves tables (stmt.Delete name where_) r good e = delete_serves tables name where_ r e
 serves tables (stmt.Evict name extent) r good e = evict_serves tables name extent r e
-serves tables stmt.SetReadOnly r good e = plain_serves tables (resolved.SetMode mode.ReadOnly) r tt e
-serves tables stmt.SetSerializable r good e = plain_serves tables (resolved.SetMode mode.Serializable) r tt e
-serves tables stmt.SetCommitted r good e = plain_serves tables (resolved.SetMode mode.Committed) r tt e
-serves tables stmt.Commit r good e = plain_serves tables resolved.Commit r tt e
-serves tables stmt.Rollback r good e = plain_serves tables resolved.Rollback r tt e
-serves tables (stmt.Step cursor) r good e = plain_serves tables (resolved.Step cursor) r tt e
-serves tables (stmt.Fetch cursor) r good e = plain_serves tables (resolved.Fetch cursor) r tt e
-serves tables (stmt.Close cursor) r good e = plain_serves tables (resolved.Close cursor) r tt e
-serves tables stmt.Run r good e = plain_serves tables resolved.Run r tt e
-serves tables stmt.Begin r good e = plain_serves tables resolved.Begin r tt e
-serves tables stmt.Switch r good e = plain_serves tables resolved.Switch r tt e
-serves tables stmt.Cancel r good e = plain_serves tables resolved.Cancel r tt e
-serves tables (stmt.Trickle n) r good e = plain_serves tables (resolved.Trickle n) r tt e
+serves tables _ r good e = plain_serves tables _ r tt e
 
 -- the same of a result
 pub result_serves : (tables : List TableInfo) (s : Stmt) (r : Result Resolved NameFault) → IsStmt s → IfOk r (λ x. answer tables s ≡ Ok x)

@@ -327,12 +327,7 @@ module _ (who : ℕ) (state : State) (cursors : List Opened) (steady : Steady st
   good-resolved limits at (resolved.Step cursor) fine = good-step at cursor
   good-resolved limits at (resolved.Fetch cursor) fine = good-fetch at cursor
   good-resolved limits at (resolved.Close cursor) fine = good-close at cursor
-  good-resolved limits at resolved.Run fine = plain-good who state cursors steady _ (refl, refl)
-  good-resolved limits at resolved.Begin fine = plain-good who state cursors steady _ (refl, refl)
-  good-resolved limits at resolved.Switch fine = plain-good who state cursors steady _ (refl, refl)
-  good-resolved limits at resolved.Cancel fine = plain-good who state cursors steady _ (refl, refl)
-  good-resolved limits at (resolved.Trickle credits) fine = plain-good who state cursors steady _ (refl, refl)
-  good-resolved limits at (resolved.Evict table extent) fine = plain-good who state cursors steady _ (refl, refl)
+  good-resolved limits at _ fine = plain-good who state cursors steady _ (refl, refl)
 
   good-found : (limits : Limits) (at : History) (r : Result Resolved NameFault) → IfOk r IsFine → IsGood who state cursors (found_plan limits who state at r)
   good-found limits at (Ok r) fine = good-resolved limits at r fine

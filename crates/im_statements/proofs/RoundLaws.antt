@@ -66,23 +66,7 @@ command-extends limits who builds fewer more stmt.Switch few = extends-self (com
 command-extends limits who builds fewer more stmt.Cancel few = extends-self (command_plan limits who fewer builds stmt.Cancel)
 command-extends limits who builds fewer more (stmt.Trickle count) few = extends-self (command_plan limits who fewer builds (stmt.Trickle count))
 command-extends limits who builds fewer more (stmt.Evict name extent) few = extends-self (command_plan limits who fewer builds (stmt.Evict name extent))
-command-extends limits who builds fewer more (stmt.Select query) few = refl
-command-extends limits who builds fewer more (stmt.Explain query) few = refl
-command-extends limits who builds fewer more (stmt.Create name columns block extent memory) few = refl
-command-extends limits who builds fewer more (stmt.AlterMemory name memory) few = refl
-command-extends limits who builds fewer more (stmt.AlterNoMemory name) few = refl
-command-extends limits who builds fewer more (stmt.Insert name names tuples) few = refl
-command-extends limits who builds fewer more (stmt.Update name sets cond) few = refl
-command-extends limits who builds fewer more (stmt.Delete name cond) few = refl
-command-extends limits who builds fewer more stmt.SetReadOnly few = refl
-command-extends limits who builds fewer more stmt.SetSerializable few = refl
-command-extends limits who builds fewer more stmt.SetCommitted few = refl
-command-extends limits who builds fewer more stmt.Commit few = refl
-command-extends limits who builds fewer more stmt.Rollback few = refl
-command-extends limits who builds fewer more (stmt.OpenFor cursor query) few = refl
-command-extends limits who builds fewer more (stmt.Step cursor) few = refl
-command-extends limits who builds fewer more (stmt.Fetch cursor) few = refl
-command-extends limits who builds fewer more (stmt.Close cursor) few = refl
+command-extends limits who builds fewer more _ few = refl
 
 -- ---- nobody else there
 

@@ -344,12 +344,7 @@ module _ (who : ℕ) (before : Bool) where
   says-resolved k limits state at (resolved.Step cursor) is = says-step k state at cursor
   says-resolved k limits state at (resolved.Fetch cursor) is = says-fetch k state at cursor
   says-resolved k limits state at (resolved.Close cursor) is = says-close k state at cursor
-  says-resolved k limits state at resolved.Run is = (λ f. refl, refl)
-  says-resolved k limits state at resolved.Begin is = (λ f. refl, refl)
-  says-resolved k limits state at resolved.Switch is = (λ f. refl, refl)
-  says-resolved k limits state at resolved.Cancel is = (λ f. refl, refl)
-  says-resolved k limits state at (resolved.Trickle credits) is = (λ f. refl, refl)
-  says-resolved k limits state at (resolved.Evict table extent) is = (λ f. refl, refl)
+  says-resolved k limits state at _ is = (λ f. refl, refl)
 
   says-found : (k : ℕ) (limits : Limits) (state : State) (at : History) (r : Result Resolved NameFault) → is_open at who ≡ before
       → Says k (found_plan limits who state at r)
@@ -435,26 +430,7 @@ module _ (who : ℕ) (before : Bool) (k : ℕ) (lost : IsLost before k) (later :
     defines-named (stmt.Create name columns block extent memory) is = defines-unless _ name _ _ _ (repeated-named before [] (map column_name columns))
     defines-named (stmt.AlterMemory name memory) is = defines-of_table (table_called (tables at) name) name _ _
     defines-named (stmt.AlterNoMemory name) is = defines-of_table (table_called (tables at) name) name _ _
-    defines-named (stmt.Select query) is = absurd cc
-    defines-named (stmt.Explain query) is = absurd cc
-    defines-named (stmt.Insert name names tuples) is = absurd cc
-    defines-named (stmt.Update name sets cond) is = absurd cc
-    defines-named (stmt.Delete name cond) is = absurd cc
-    defines-named stmt.SetReadOnly is = absurd cc
-    defines-named stmt.SetSerializable is = absurd cc
-    defines-named stmt.SetCommitted is = absurd cc
-    defines-named stmt.Commit is = absurd cc
-    defines-named stmt.Rollback is = absurd cc
-    defines-named (stmt.OpenFor cursor query) is = absurd cc
-    defines-named (stmt.Step cursor) is = absurd cc
-    defines-named (stmt.Fetch cursor) is = absurd cc
-    defines-named (stmt.Close cursor) is = absurd cc
-    defines-named stmt.Run is = absurd cc
-    defines-named stmt.Begin is = absurd cc
-    defines-named stmt.Switch is = absurd cc
-    defines-named stmt.Cancel is = absurd cc
-    defines-named (stmt.Trickle credits) is = absurd cc
-    defines-named (stmt.Evict name extent) is = absurd cc
+    defines-named _ is = absurd cc
 
 -- a definition commits an open transaction first
 defines-first : (who : ℕ) (before : Bool) (limits : Limits) (state : State) (s : Stmt) → is_definition s ≡ true

@@ -142,23 +142,7 @@ command_plan limits who rounds builds stmt.Cancel = cancel builds
 command_plan limits who rounds builds (stmt.Trickle count) = trickle who builds count
 command_plan limits who rounds builds (stmt.Evict name extent) =
     Turn false (λ at. None) (λ at. evict_found who builds (answer (tables at) (stmt.Evict name extent)))
-command_plan limits who rounds builds (stmt.Select query) = nothing builds
-command_plan limits who rounds builds (stmt.Explain query) = nothing builds
-command_plan limits who rounds builds (stmt.Create name columns block extent memory) = nothing builds
-command_plan limits who rounds builds (stmt.AlterMemory name memory) = nothing builds
-command_plan limits who rounds builds (stmt.AlterNoMemory name) = nothing builds
-command_plan limits who rounds builds (stmt.Insert name names tuples) = nothing builds
-command_plan limits who rounds builds (stmt.Update name sets cond) = nothing builds
-command_plan limits who rounds builds (stmt.Delete name cond) = nothing builds
-command_plan limits who rounds builds stmt.SetReadOnly = nothing builds
-command_plan limits who rounds builds stmt.SetSerializable = nothing builds
-command_plan limits who rounds builds stmt.SetCommitted = nothing builds
-command_plan limits who rounds builds stmt.Commit = nothing builds
-command_plan limits who rounds builds stmt.Rollback = nothing builds
-command_plan limits who rounds builds (stmt.OpenFor cursor query) = nothing builds
-command_plan limits who rounds builds (stmt.Step cursor) = nothing builds
-command_plan limits who rounds builds (stmt.Fetch cursor) = nothing builds
-command_plan limits who rounds builds (stmt.Close cursor) = nothing builds
+command_plan limits who rounds builds statement = nothing builds
 
 -- ---- out of memory
 
