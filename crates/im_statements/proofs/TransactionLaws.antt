@@ -25,7 +25,7 @@ use Rattle.im_history.specs.Tables.{given, table_named, tables}
 use Rattle.im_history.specs.Transactions.{begun, begun_after, is_open, mode, or_here}
 use Rattle.im_history.specs.Views.{view_at}
 use Rattle.im_history.proofs.Laws.{begun-push}
-use Rattle.im_group.specs.Answers.{answer as answer_of}
+use Rattle.im_group.specs.Answers.{resolution as answer_of}
 use Rattle.im_names.specs.declared.fault.NameFault.{NameFault}
 use Rattle.im_names.specs.declared.fault.NameFault.TheVariants.{RepeatedColumn}
 use Rattle.im_names.specs.declared.resolved.Resolved.{Resolved}
@@ -33,8 +33,8 @@ use Rattle.im_names.specs.declared.resolved.Resolved.TheVariants as resolved
 use Rattle.im_names.specs.Definitions.{column_name}
 use Rattle.im_names.specs.Faults.{first_fault, unless, with_earlier}
 use Rattle.im_names.specs.Lookups.{is_among, of_table, repeated, table_called}
-use Rattle.im_names.specs.Statements.{answer}
-use Rattle.im_plan.specs.Goes.{After, Goes, Lacks, Line, Others}
+use Rattle.im_names.specs.Statements.{resolution}
+use Rattle.im_plan.specs.Goes.{After, Goes, Lacks, PlayedLine, Others}
 use Rattle.im_plan.specs.Plan.{Plan, End, Turn, made, counted}
 use Rattle.im_replies.specs.declared.body.Body.{Body}
 use Rattle.im_replies.specs.declared.body.Body.TheVariants as body
@@ -161,7 +161,7 @@ module _ (says : Body → Bool → Bool) (mine : ℕ → Bool) (who : ℕ) (is_m
   ]
 
   line-tells : (old : History) (plan : Plan Outcome) (new : History) → is_open old who ≡ before → Tells says who before true 0 before plan
-      → Line (Others mine) who (amends who) old plan (Replied reply effect) new → is_open new who ≡ says reply.body before
+      → PlayedLine (Others mine) who (amends who) old plan (Replied reply effect) new → is_open new who ≡ says reply.body before
   line-tells old plan new is tells line = elim line.whole.played [
     | inl goes ↦ goes-tells true 0 before old plan new is tells goes
     | inr lacks ↦ lacks-tells 0 before old plan new is tells lacks
@@ -352,7 +352,7 @@ module _ (who : ℕ) (before : Bool) where
   says-found k limits state at (Err fault) is = (λ f. refl, refl)
 
   says-looked_up : (limits : Limits) (state : State) (s : Stmt) → Says 0 (looked_up limits who state s)
-  says-looked_up limits state s = says-look 0 _ (λ at is. says-found 0 limits state at (answer (tables at) s) is)
+  says-looked_up limits state s = says-look 0 _ (λ at is. says-found 0 limits state at (resolution (tables at) s) is)
 
 -- ---- definitions
 
@@ -455,7 +455,7 @@ pub keep-transaction : KeepTransaction
 keep-transaction mine limits who state s old reply effect new is_mine = by (is_definition s) refl
   where
     by : (b : Bool) → is_definition s ≡ b
-        → Line (Others mine) who (amends who) old (if b then definition_plan limits who state s else looked_up limits who state s)
+        → PlayedLine (Others mine) who (amends who) old (if b then definition_plan limits who state s else looked_up limits who state s)
         (Replied reply effect) new
         → is_open new who ≡ (if b then open_by_definition reply.body (is_open old who) else open_by reply.body (is_open old who))
     by true is =

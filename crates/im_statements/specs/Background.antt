@@ -18,7 +18,7 @@ use Rattle.im_history.specs.Units.{held, held_at, killed_of}
 use Rattle.im_names.specs.declared.fault.NameFault.{NameFault}
 use Rattle.im_names.specs.declared.resolved.Resolved.{Resolved}
 use Rattle.im_names.specs.declared.resolved.Resolved.TheVariants as resolved
-use Rattle.im_names.specs.Statements.{answer}
+use Rattle.im_names.specs.Statements.{resolution}
 use Rattle.im_plan.specs.Plan.{Plan, End, Turn}
 use Rattle.im_replies.specs.declared.body.Body.{Body}
 use Rattle.im_replies.specs.declared.body.Body.TheVariants as body
@@ -141,7 +141,7 @@ command_plan limits who rounds builds stmt.Switch = switch limits who builds
 command_plan limits who rounds builds stmt.Cancel = cancel builds
 command_plan limits who rounds builds (stmt.Trickle count) = trickle who builds count
 command_plan limits who rounds builds (stmt.Evict name extent) =
-    Turn false (λ at. None) (λ at. evict_found who builds (answer (tables at) (stmt.Evict name extent)))
+    Turn false (λ at. None) (λ at. evict_found who builds (resolution (tables at) (stmt.Evict name extent)))
 command_plan limits who rounds builds statement = nothing builds
 
 -- ---- out of memory

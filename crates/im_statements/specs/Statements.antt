@@ -9,7 +9,7 @@ use Rattle.im_names.specs.declared.fault.NameFault.{NameFault}
 use Rattle.im_names.specs.declared.fault.NameFault.TheVariants as names
 use Rattle.im_names.specs.declared.resolved.Resolved.{Resolved}
 use Rattle.im_names.specs.declared.resolved.Resolved.TheVariants as resolved
-use Rattle.im_names.specs.Statements.{answer}
+use Rattle.im_names.specs.Statements.{resolution}
 use Rattle.im_plan.specs.Plan.{Plan, Turn}
 use Rattle.im_syntax.specs.declared.statement.Stmt.{Stmt}
 use Rattle.im_syntax.specs.declared.statement.Stmt.TheVariants as stmt
@@ -62,7 +62,7 @@ found_plan limits who state at (Err fault) = answer_at at (Error (name_fault fau
 
 -- a statement whose names are looked up at this history
 abbrev pub named_plan : Limits → ℕ → State → Stmt → History → Plan Outcome
-named_plan limits who state statement at = found_plan limits who state at (answer (tables at) statement)
+named_plan limits who state statement at = found_plan limits who state at (resolution (tables at) statement)
 
 -- a statement whose names are looked up when its turn comes
 abbrev pub looked_up : Limits → ℕ → State → Stmt → Plan Outcome
