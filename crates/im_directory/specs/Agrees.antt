@@ -1,12 +1,12 @@
 -- What it means that a directory is that of a history.
-use Rattle.std.specs.Prelude.{◌≡◌, ℕ, ◌/◌, ◌≤◌, ◌==◌, ◌&&◌, Bool, true, false, List, length, All, Option, Some, None}
+use Rattle.std.specs.Prelude.{◌≡◌, ℕ, ◌/◌, ◌≤◌, ◌==◌, ◌&&◌, ◌||◌, Bool, not, List, length, All, Option, Some}
 use Rattle.std.specs.Option.{option_map}
 use Rattle.im_journal.specs.Stale.{Note, is_noted, notes_to}
 use Rattle.im_history.specs.declared.entry.What.{What}
-use Rattle.im_history.specs.declared.entry.What.TheVariants.{Create, Memory, Begin, Open, Shut, Write, Commit, Rollback, Build, Switch, Cancel, Trickle, Evict, Leave}
 use Rattle.im_history.specs.declared.task.Held.{Held}
 use Rattle.im_history.specs.Commits.{scn}
 use Rattle.im_history.specs.History.{History}
+use Rattle.im_history.specs.Kinds.{marks_of}
 use Rattle.im_history.specs.Legal.{Exists}
 use Rattle.im_history.specs.Queue.{waits}
 use Rattle.im_history.specs.Units.{Content, builds, content_at, held_at, living, touched_between, unit}
@@ -50,36 +50,8 @@ module _ {U : Type 0} (content : U → Content) where
 
 -- an entry of this kind takes extents out of the column store
 abbrev pub takes_out : What → Bool
-takes_out (Evict table extent) = true
-takes_out (Memory table None) = true
-takes_out (Memory table (Some priority)) = false
-takes_out (Create name schema shape) = false
-takes_out (Begin mode) = false
-takes_out (Open cursor table) = false
-takes_out (Shut cursor) = false
-takes_out (Write changes) = false
-takes_out Commit = false
-takes_out Rollback = false
-takes_out (Build id table extent trickle) = false
-takes_out (Switch id) = false
-takes_out (Cancel id full) = false
-takes_out (Trickle n) = false
-takes_out Leave = false
+takes_out what = (marks_of what).takes_out
 
 -- an entry of this kind changes no build, no unit and no journal
 abbrev pub is_apart : What → Bool
-is_apart Commit = false
-is_apart (Build id table extent trickle) = false
-is_apart (Switch id) = false
-is_apart (Cancel id full) = false
-is_apart (Evict table extent) = false
-is_apart (Memory table None) = false
-is_apart (Memory table (Some priority)) = true
-is_apart (Create name schema shape) = true
-is_apart (Begin mode) = true
-is_apart (Open cursor table) = true
-is_apart (Shut cursor) = true
-is_apart (Write changes) = true
-is_apart Rollback = true
-is_apart (Trickle n) = true
-is_apart Leave = true
+is_apart what = not ((marks_of what).rows || ((marks_of what).builds || (marks_of what).takes_out))

@@ -14,7 +14,7 @@ use Rattle.im_history.specs.declared.look.TableInfo.{TableInfo}
 use Rattle.im_history.specs.Commits.{commits, committed_by}
 use Rattle.im_history.specs.History.{History, replay}
 use Rattle.im_history.specs.Legal.{IsAllowed, IsInsert, IsLegal, IsRewrite, put_from, row_fits}
-use Rattle.im_history.specs.Rows.{Row, changes_to, own_changes, row_after, rows, seen, snapshot}
+use Rattle.im_history.specs.Rows.{Row, changes_until, own_changes, row_after, rows, seen, snapshot}
 use Rattle.im_history.specs.Tables.{created, table_at, tables, with_memory}
 use Rattle.im_history.specs.Transactions.{pending, pending_after}
 use Rattle.im_history.specs.Views.{seen_by, view_at}
@@ -182,7 +182,7 @@ committed-fit : (limits : Limits) (h : History) (table scn rid : ℕ) (made : Ta
     → IsTrue (row_fits made.schema (rows h table scn rid))
 unfolding rows
 committed-fit limits h table scn rid made legal is =
-    fold-fits h table rid made None (changes_to h scn) is refl
+    fold-fits h table rid made None (changes_until h scn) is refl
     (each-flat_map (Fits h) (take scn (commits h)) (All-take (All (Fits h)) scn (commits h) (all_fits limits h legal).done))
 
 -- each row that was committed to a table that stands fits it

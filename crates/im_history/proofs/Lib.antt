@@ -8,6 +8,7 @@ pub mod GivenLaws
 pub mod GridLaws
 pub mod HeldLaws
 pub mod LastLaws
+pub mod KindLaws
 pub mod Laws
 pub mod LeaveLaws
 pub mod NextLaws

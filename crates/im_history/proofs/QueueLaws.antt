@@ -9,7 +9,7 @@ use Rattle.im_history.specs.declared.entry.What.TheVariants.{Memory, Build, Canc
 use Rattle.im_history.specs.declared.limits.Limits.{Limits}
 use Rattle.im_history.specs.History.{History, replay}
 use Rattle.im_history.specs.Legal.{IsAllowed, IsLegal}
-use Rattle.im_history.specs.Queue.{is_opened, opened_after, spent, spent_after, trickled, trickled_after, waits, waits_after}
+use Rattle.im_history.specs.Queue.{is_opened, table_opened_after, spent, spent_after, trickled, trickled_after, waits, waits_after}
 use Rattle.im_history.proofs.Laws.{IsLegal-pop}
 use Rattle.im_history.proofs.NextLaws.{next-is}
 use Rattle.im_history.proofs.Replay.{replay-push}
@@ -20,9 +20,9 @@ pub waits-push : (h : History) (entry : Entry) (table extent : ℕ)
 unfolding waits
 waits-push h entry table extent = replay-push (λ before so_far e. waits_after table extent before so_far e.what) false h entry
 
-pub is_opened-push : (h : History) (entry : Entry) (table : ℕ) → is_opened (h ++ entry ∷ []) table ≡ opened_after table (is_opened h table) entry.what
+pub is_opened-push : (h : History) (entry : Entry) (table : ℕ) → is_opened (h ++ entry ∷ []) table ≡ table_opened_after table (is_opened h table) entry.what
 unfolding is_opened
-is_opened-push h entry table = replay-push (λ before so_far e. opened_after table so_far e.what) false h entry
+is_opened-push h entry table = replay-push (λ before so_far e. table_opened_after table so_far e.what) false h entry
 
 pub trickled-push : (h : History) (entry : Entry) → trickled (h ++ entry ∷ []) ≡ trickled_after (trickled h) entry.what
 unfolding trickled

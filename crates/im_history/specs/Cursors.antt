@@ -2,7 +2,7 @@
 use Rattle.std.specs.Prelude.{ℕ, ◌==◌, Bool, not, List, [], ◌∷◌, ◌++◌, filter, count_by, Option, if◌then◌else◌}
 use Rattle.std.specs.List.{find, list_any}
 use Rattle.im_history.specs.declared.entry.What.{What}
-use Rattle.im_history.specs.declared.entry.What.TheVariants.{Create, Memory, Begin, Open, Shut, Write, Commit, Rollback, Build, Switch, Cancel, Trickle, Evict, Leave}
+use Rattle.im_history.specs.declared.entry.What.TheVariants.{Open, Shut}
 use Rattle.im_history.specs.declared.view.View.{View}
 use Rattle.im_history.specs.History.{History, replay}
 use Rattle.im_history.specs.Views.{view_at}
@@ -20,18 +20,7 @@ is_cursor cursor opened = opened.cursor == cursor
 abbrev pub opened_after : History → ℕ → List Opened → What → List Opened
 opened_after before who so_far (Open cursor table) = so_far ++ record { cursor = cursor; view = view_at before who table } ∷ []
 opened_after before who so_far (Shut cursor) = filter (λ other. not (is_cursor cursor other)) so_far
-opened_after before who so_far (Create name schema grid) = so_far
-opened_after before who so_far (Memory table priority) = so_far
-opened_after before who so_far (Begin mode) = so_far
-opened_after before who so_far (Write changes) = so_far
-opened_after before who so_far Commit = so_far
-opened_after before who so_far Rollback = so_far
-opened_after before who so_far (Build id table extent trickle) = so_far
-opened_after before who so_far (Switch id) = so_far
-opened_after before who so_far (Cancel id full) = so_far
-opened_after before who so_far (Trickle count) = so_far
-opened_after before who so_far (Evict table extent) = so_far
-opened_after before who so_far Leave = so_far
+opened_after before who so_far what = so_far
 
 -- the cursors that the session opened and did not shut, in the order of their opening
 unfoldable pub opened : History → ℕ → List Opened

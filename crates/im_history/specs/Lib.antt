@@ -5,6 +5,7 @@ pub mod Cursors
 pub mod Extents
 pub mod Grid
 pub mod History
+pub mod Kinds
 pub mod Last
 pub mod Leaves
 pub mod Legal

@@ -5,7 +5,7 @@ use Rattle.std.specs.Option.{option_map, option_or}
 use Rattle.im_values.specs.declared.priority.Priority.{Priority}
 use Rattle.im_values.specs.declared.priority.Priority.TheVariants as priority
 use Rattle.im_history.specs.declared.entry.What.{What}
-use Rattle.im_history.specs.declared.entry.What.TheVariants.{Create, Memory, Begin, Open, Shut, Write, Commit, Rollback, Build, Switch, Cancel, Trickle, Evict, Leave}
+use Rattle.im_history.specs.declared.entry.What.TheVariants.{Memory, Open, Build, Cancel, Trickle, Evict}
 use Rattle.im_history.specs.declared.look.TableInfo.{TableInfo}
 use Rattle.im_history.specs.declared.task.Choice.{Choice}
 use Rattle.im_history.specs.declared.task.Held.{Held}
@@ -26,21 +26,10 @@ is_build_of table extent (Some held) = is_on table extent held
 
 -- whether an extent waits after one more entry
 abbrev pub waits_after : ℕ → ℕ → History → Bool → What → Bool
-waits_after table extent before so_far (Create name schema grid) = so_far
 waits_after table extent before so_far (Memory other None) = false
-waits_after table extent before so_far (Memory other (Some level)) = so_far
-waits_after table extent before so_far (Begin mode) = so_far
-waits_after table extent before so_far (Open cursor other) = so_far
-waits_after table extent before so_far (Shut cursor) = so_far
-waits_after table extent before so_far (Write changes) = so_far
-waits_after table extent before so_far Commit = so_far
-waits_after table extent before so_far Rollback = so_far
-waits_after table extent before so_far (Build id other place trickle) = so_far
-waits_after table extent before so_far (Switch id) = so_far
 waits_after table extent before so_far (Cancel id full) = if full then is_build_of table extent (held_at before id) || so_far else so_far
-waits_after table extent before so_far (Trickle count) = so_far
 waits_after table extent before so_far (Evict other place) = false
-waits_after table extent before so_far Leave = so_far
+waits_after table extent before so_far what = so_far
 
 -- the extent waits: a build of it was cancelled because its unit did not fit into the area, and since then no extent and no
 -- table was taken out of the column store
@@ -79,25 +68,14 @@ by_priority history extents =
 -- ---- extents without a unit
 
 -- whether a table was opened, after one more entry
-abbrev pub opened_after : ℕ → Bool → What → Bool
-opened_after table so_far (Create name schema grid) = so_far
-opened_after table so_far (Memory other priority) = if other == table then false else so_far
-opened_after table so_far (Begin mode) = so_far
-opened_after table so_far (Open cursor other) = if other == table then true else so_far
-opened_after table so_far (Shut cursor) = so_far
-opened_after table so_far (Write changes) = so_far
-opened_after table so_far Commit = so_far
-opened_after table so_far Rollback = so_far
-opened_after table so_far (Build id other place trickle) = so_far
-opened_after table so_far (Switch id) = so_far
-opened_after table so_far (Cancel id full) = so_far
-opened_after table so_far (Trickle count) = so_far
-opened_after table so_far (Evict other place) = so_far
-opened_after table so_far Leave = so_far
+abbrev pub table_opened_after : ℕ → Bool → What → Bool
+table_opened_after table so_far (Memory other priority) = if other == table then false else so_far
+table_opened_after table so_far (Open cursor other) = if other == table then true else so_far
+table_opened_after table so_far what = so_far
 
 -- a cursor was opened on the table after the last entry that let it join the column store, change its priority or leave
 unfoldable pub is_opened : History → ℕ → Bool
-is_opened history table = replay (λ before so_far entry. opened_after table so_far entry.what) false history
+is_opened history table = replay (λ before so_far entry. table_opened_after table so_far entry.what) false history
 
 -- extents of a table with this priority are populated: with the lowest one only once the table was opened
 abbrev pub is_wanted : Option Priority → Bool → Bool
@@ -149,20 +127,8 @@ is_stale history extent = is_free history extent && is_unit has_stale history ex
 
 -- the credits given, with those of one more entry
 abbrev pub trickled_after : ℕ → What → ℕ
-trickled_after so_far (Create name schema grid) = so_far
-trickled_after so_far (Memory other priority) = so_far
-trickled_after so_far (Begin mode) = so_far
-trickled_after so_far (Open cursor other) = so_far
-trickled_after so_far (Shut cursor) = so_far
-trickled_after so_far (Write changes) = so_far
-trickled_after so_far Commit = so_far
-trickled_after so_far Rollback = so_far
-trickled_after so_far (Build id other place trickle) = so_far
-trickled_after so_far (Switch id) = so_far
-trickled_after so_far (Cancel id full) = so_far
 trickled_after so_far (Trickle count) = so_far + count
-trickled_after so_far (Evict other place) = so_far
-trickled_after so_far Leave = so_far
+trickled_after so_far what = so_far
 
 -- the credits that were ever given
 unfoldable pub trickled : History → ℕ
@@ -170,20 +136,8 @@ trickled history = replay (λ before so_far entry. trickled_after so_far entry.w
 
 -- the builds that a credit was spent on, with one more entry
 abbrev pub spent_after : ℕ → What → ℕ
-spent_after so_far (Create name schema grid) = so_far
-spent_after so_far (Memory other priority) = so_far
-spent_after so_far (Begin mode) = so_far
-spent_after so_far (Open cursor other) = so_far
-spent_after so_far (Shut cursor) = so_far
-spent_after so_far (Write changes) = so_far
-spent_after so_far Commit = so_far
-spent_after so_far Rollback = so_far
 spent_after so_far (Build id other place trickle) = if trickle then so_far + 1 else so_far
-spent_after so_far (Switch id) = so_far
-spent_after so_far (Cancel id full) = so_far
-spent_after so_far (Trickle count) = so_far
-spent_after so_far (Evict other place) = so_far
-spent_after so_far Leave = so_far
+spent_after so_far what = so_far
 
 -- how many builds a credit was spent on
 unfoldable pub spent : History → ℕ

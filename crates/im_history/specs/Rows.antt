@@ -19,12 +19,12 @@ abbrev pub row_after : ℕ → ℕ → Option Row → Change → Option Row
 row_after table rid row change = if (change.table == table) && (change.rid == rid) then change.row else row
 
 -- the changes of the commits up to this SCN, in order
-abbrev pub changes_to : History → ℕ → List Change
-changes_to history scn = flat_map (λ changes. changes) (take scn (commits history))
+abbrev pub changes_until : History → ℕ → List Change
+changes_until history scn = flat_map (λ changes. changes) (take scn (commits history))
 
 -- the committed row at a row number of a table at an SCN
 unfoldable pub rows : History → ℕ → ℕ → ℕ → Option Row
-rows history table scn rid = fold (row_after table rid) None (changes_to history scn)
+rows history table scn rid = fold (row_after table rid) None (changes_until history scn)
 
 -- the committed row at an SCN, then changed by the changes of a session's own
 unfoldable pub seen : History → ℕ → ℕ → List Change → ℕ → Option Row

@@ -6,7 +6,7 @@ use Rattle.std.specs.Option.{option_map}
 use Rattle.im_history.specs.declared.change.Change.{Change}
 use Rattle.im_values.specs.declared.priority.Priority.{Priority}
 use Rattle.im_history.specs.declared.entry.What.{What}
-use Rattle.im_history.specs.declared.entry.What.TheVariants.{Create, Memory, Begin, Open, Shut, Write, Commit, Rollback, Build, Switch, Cancel, Trickle, Evict, Leave}
+use Rattle.im_history.specs.declared.entry.What.TheVariants.{Create, Memory, Write}
 use Rattle.im_history.specs.declared.look.TableInfo.{TableInfo}
 use Rattle.im_history.specs.History.{History, replay}
 
@@ -25,18 +25,7 @@ remembered (suc place) priority tables = with_memory place priority tables
 abbrev pub created : List TableInfo → What → List TableInfo
 created tables (Create name schema grid) = tables ++ record { name = name; schema = schema; shape = grid; memory = None } ∷ []
 created tables (Memory table priority) = remembered table priority tables
-created tables (Begin mode) = tables
-created tables (Open cursor table) = tables
-created tables (Shut cursor) = tables
-created tables (Write changes) = tables
-created tables Commit = tables
-created tables Rollback = tables
-created tables (Build id table extent trickle) = tables
-created tables (Switch id) = tables
-created tables (Cancel id full) = tables
-created tables (Trickle count) = tables
-created tables (Evict table extent) = tables
-created tables Leave = tables
+created tables what = tables
 
 -- the tables in the order of their creation: the first of them is table 1
 unfoldable pub tables : History → List TableInfo
@@ -74,19 +63,7 @@ given_by table so_far changes = fold (λ n change. if change.table == table then
 -- the row numbers given with those of one more entry
 abbrev pub given_after : ℕ → ℕ → What → ℕ
 given_after table so_far (Write changes) = given_by table so_far changes
-given_after table so_far (Create name schema grid) = so_far
-given_after table so_far (Memory other priority) = so_far
-given_after table so_far (Begin mode) = so_far
-given_after table so_far (Open cursor other) = so_far
-given_after table so_far (Shut cursor) = so_far
-given_after table so_far Commit = so_far
-given_after table so_far Rollback = so_far
-given_after table so_far (Build id other extent trickle) = so_far
-given_after table so_far (Switch id) = so_far
-given_after table so_far (Cancel id full) = so_far
-given_after table so_far (Trickle count) = so_far
-given_after table so_far (Evict other extent) = so_far
-given_after table so_far Leave = so_far
+given_after table so_far what = so_far
 
 -- how many row numbers of the table were ever given: they are never given again
 unfoldable pub given : History → ℕ → ℕ

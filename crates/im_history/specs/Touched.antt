@@ -4,7 +4,7 @@ use Rattle.std.specs.List.{list_any, find, range_with_len}
 use Rattle.im_values.specs.declared.limits.TheConstants.{NUMBERS}
 use Rattle.im_history.specs.declared.change.Change.{Change}
 use Rattle.im_history.specs.declared.entry.What.{What}
-use Rattle.im_history.specs.declared.entry.What.TheVariants.{Create, Memory, Begin, Open, Shut, Write, Commit, Rollback, Build, Switch, Cancel, Trickle, Evict, Leave}
+use Rattle.im_history.specs.declared.entry.What.TheVariants.{Commit}
 use Rattle.im_history.specs.Commits.{scn}
 use Rattle.im_history.specs.History.{History, replay}
 use Rattle.im_history.specs.Transactions.{pending}
@@ -25,19 +25,7 @@ holder history who table rid =
 -- the last commit that touched a row, after one more entry
 abbrev pub touched_after : ℕ → ℕ → History → ℕ → ℕ → What → ℕ
 touched_after table rid before so_far who Commit = if touches (pending before who) table rid then scn before + 1 else so_far
-touched_after table rid before so_far who (Create name schema grid) = so_far
-touched_after table rid before so_far who (Memory other priority) = so_far
-touched_after table rid before so_far who (Begin mode) = so_far
-touched_after table rid before so_far who (Open cursor other) = so_far
-touched_after table rid before so_far who (Shut cursor) = so_far
-touched_after table rid before so_far who (Write changes) = so_far
-touched_after table rid before so_far who Rollback = so_far
-touched_after table rid before so_far who (Build id other extent trickle) = so_far
-touched_after table rid before so_far who (Switch id) = so_far
-touched_after table rid before so_far who (Cancel id full) = so_far
-touched_after table rid before so_far who (Trickle count) = so_far
-touched_after table rid before so_far who (Evict other extent) = so_far
-touched_after table rid before so_far who Leave = so_far
+touched_after table rid before so_far who what = so_far
 
 -- the SCN of the last commit that touched a row, 0 where none did
 unfoldable pub last_touch : History → ℕ → ℕ → ℕ

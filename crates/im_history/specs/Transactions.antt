@@ -4,7 +4,7 @@ use Rattle.im_history.specs.declared.change.Change.{Change}
 use Rattle.im_history.specs.declared.entry.Mode.{Mode}
 use Rattle.im_history.specs.declared.entry.Mode.TheVariants.{Committed}
 use Rattle.im_history.specs.declared.entry.What.{What}
-use Rattle.im_history.specs.declared.entry.What.TheVariants.{Create, Memory, Begin, Open, Shut, Write, Commit, Rollback, Build, Switch, Cancel, Trickle, Evict, Leave}
+use Rattle.im_history.specs.declared.entry.What.TheVariants.{Begin, Write, Commit, Rollback}
 use Rattle.im_history.specs.History.{History, replay}
 
 -- a session's pending changes after one more entry of its own
@@ -12,17 +12,7 @@ abbrev pub pending_after : List Change → What → List Change
 pending_after so_far (Write changes) = so_far ++ changes
 pending_after so_far Commit = []
 pending_after so_far Rollback = []
-pending_after so_far (Create name schema grid) = so_far
-pending_after so_far (Memory table priority) = so_far
-pending_after so_far (Begin mode) = so_far
-pending_after so_far (Open cursor table) = so_far
-pending_after so_far (Shut cursor) = so_far
-pending_after so_far (Build id table extent trickle) = so_far
-pending_after so_far (Switch id) = so_far
-pending_after so_far (Cancel id full) = so_far
-pending_after so_far (Trickle count) = so_far
-pending_after so_far (Evict table extent) = so_far
-pending_after so_far Leave = so_far
+pending_after so_far what = so_far
 
 -- the changes that a session wrote after its last Commit or Rollback, in order
 unfoldable pub pending : History → ℕ → List Change
@@ -39,16 +29,7 @@ begun_after place so_far (Begin mode) = or_here place so_far
 begun_after place so_far (Write changes) = or_here place so_far
 begun_after place so_far Commit = None
 begun_after place so_far Rollback = None
-begun_after place so_far (Create name schema grid) = so_far
-begun_after place so_far (Memory table priority) = so_far
-begun_after place so_far (Open cursor table) = so_far
-begun_after place so_far (Shut cursor) = so_far
-begun_after place so_far (Build id table extent trickle) = so_far
-begun_after place so_far (Switch id) = so_far
-begun_after place so_far (Cancel id full) = so_far
-begun_after place so_far (Trickle count) = so_far
-begun_after place so_far (Evict table extent) = so_far
-begun_after place so_far Leave = so_far
+begun_after place so_far what = so_far
 
 -- the place of the first Begin or Write after the session's last Commit or Rollback: there its open transaction began
 unfoldable pub begun : History → ℕ → Option ℕ
@@ -63,17 +44,7 @@ abbrev pub mode_after : Mode → What → Mode
 mode_after so_far (Begin mode) = mode
 mode_after so_far Commit = Committed
 mode_after so_far Rollback = Committed
-mode_after so_far (Create name schema grid) = so_far
-mode_after so_far (Memory table priority) = so_far
-mode_after so_far (Open cursor table) = so_far
-mode_after so_far (Shut cursor) = so_far
-mode_after so_far (Write changes) = so_far
-mode_after so_far (Build id table extent trickle) = so_far
-mode_after so_far (Switch id) = so_far
-mode_after so_far (Cancel id full) = so_far
-mode_after so_far (Trickle count) = so_far
-mode_after so_far (Evict table extent) = so_far
-mode_after so_far Leave = so_far
+mode_after so_far what = so_far
 
 -- the mode of the session's open transaction: that of its Begin, else READ COMMITTED
 unfoldable pub mode : History → ℕ → Mode

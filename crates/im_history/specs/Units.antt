@@ -3,7 +3,7 @@ use Rattle.std.specs.Prelude.{◌≡◌, ℕ, ◌+◌, ◌*◌, ◌==◌, ◌&&�
 use Rattle.std.specs.List.{find, range_with_len}
 use Rattle.std.specs.Option.{option_map}
 use Rattle.im_history.specs.declared.entry.What.{What}
-use Rattle.im_history.specs.declared.entry.What.TheVariants.{Create, Memory, Begin, Open, Shut, Write, Commit, Rollback, Build, Switch, Cancel, Trickle, Evict, Leave}
+use Rattle.im_history.specs.declared.entry.What.TheVariants.{Memory, Commit, Build, Switch, Cancel, Evict}
 use Rattle.im_history.specs.declared.look.TableInfo.{TableInfo}
 use Rattle.im_history.specs.declared.task.Held.{Held}
 use Rattle.im_history.specs.declared.task.Task.{Task}
@@ -46,19 +46,7 @@ is_on table extent held = (held.task.table == table) && (held.task.extent == ext
 abbrev pub drops : ℕ → ℕ → What → Bool
 drops table extent (Evict other place) = (other == table) && (place == extent)
 drops table extent (Memory other None) = other == table
-drops table extent (Create name schema grid) = false
-drops table extent (Memory other (Some priority)) = false
-drops table extent (Begin mode) = false
-drops table extent (Open cursor other) = false
-drops table extent (Shut cursor) = false
-drops table extent (Write changes) = false
-drops table extent Commit = false
-drops table extent Rollback = false
-drops table extent (Build id other place trickle) = false
-drops table extent (Switch id) = false
-drops table extent (Cancel id full) = false
-drops table extent (Trickle count) = false
-drops table extent Leave = false
+drops table extent what = false
 
 -- a held build after an entry at this place, which kills it where it takes its extent out
 abbrev pub killed_by : ℕ → What → Held → Held
@@ -105,19 +93,7 @@ living history table extent = replay (λ before so_far entry. living_after table
 -- how many builds began, one more entry counted
 abbrev pub builds_after : ℕ → What → ℕ
 builds_after so_far (Build id table extent trickle) = so_far + 1
-builds_after so_far (Create name schema grid) = so_far
-builds_after so_far (Memory table priority) = so_far
-builds_after so_far (Begin mode) = so_far
-builds_after so_far (Open cursor table) = so_far
-builds_after so_far (Shut cursor) = so_far
-builds_after so_far (Write changes) = so_far
-builds_after so_far Commit = so_far
-builds_after so_far Rollback = so_far
-builds_after so_far (Switch id) = so_far
-builds_after so_far (Cancel id full) = so_far
-builds_after so_far (Trickle count) = so_far
-builds_after so_far (Evict table extent) = so_far
-builds_after so_far Leave = so_far
+builds_after so_far what = so_far
 
 -- how many builds began: the next one has one number more
 unfoldable pub builds : History → ℕ
@@ -146,19 +122,7 @@ unit history table extent = replay (λ before so_far entry. unit_after table ext
 abbrev pub touched_between_after : ℕ → ℕ → ℕ → ℕ → History → Bool → ℕ → What → Bool
 touched_between_after table rid after to before so_far who Commit =
     so_far || ((nat_le after (scn before) && nat_lt (scn before) to) && touches (pending before who) table rid)
-touched_between_after table rid after to before so_far who (Create name schema grid) = so_far
-touched_between_after table rid after to before so_far who (Memory other priority) = so_far
-touched_between_after table rid after to before so_far who (Begin mode) = so_far
-touched_between_after table rid after to before so_far who (Open cursor other) = so_far
-touched_between_after table rid after to before so_far who (Shut cursor) = so_far
-touched_between_after table rid after to before so_far who (Write changes) = so_far
-touched_between_after table rid after to before so_far who Rollback = so_far
-touched_between_after table rid after to before so_far who (Build id other extent trickle) = so_far
-touched_between_after table rid after to before so_far who (Switch id) = so_far
-touched_between_after table rid after to before so_far who (Cancel id full) = so_far
-touched_between_after table rid after to before so_far who (Trickle count) = so_far
-touched_between_after table rid after to before so_far who (Evict other extent) = so_far
-touched_between_after table rid after to before so_far who Leave = so_far
+touched_between_after table rid after to before so_far who what = so_far
 
 -- a commit behind the SCN `after` and up to the SCN `to` touched the row
 unfoldable pub touched_between : History → ℕ → ℕ → ℕ → ℕ → Bool

@@ -5,7 +5,7 @@ use Rattle.im_values.specs.declared.value.Value.{Value}
 use Rattle.im_values.specs.declared.value.Value.TheVariants.{Int, Text, Null}
 use Rattle.im_history.specs.declared.change.Change.{Change}
 use Rattle.im_history.specs.declared.entry.What.{What}
-use Rattle.im_history.specs.declared.entry.What.TheVariants.{Create, Memory, Begin, Open, Shut, Write, Commit, Rollback, Build, Switch, Cancel, Trickle, Evict, Leave}
+use Rattle.im_history.specs.declared.entry.What.TheVariants.{Write}
 use Rattle.im_history.specs.History.{History, replay}
 
 -- what a value weighs: a text its length more
@@ -32,19 +32,7 @@ changes_weight (change ∷ changes) = CHANGE_WEIGHT + put_weight change.row + ch
 -- the weight with that of one more entry
 abbrev pub weight_after : ℕ → What → ℕ
 weight_after so_far (Write changes) = so_far + changes_weight changes
-weight_after so_far (Create name schema grid) = so_far
-weight_after so_far (Memory table priority) = so_far
-weight_after so_far (Begin mode) = so_far
-weight_after so_far (Open cursor table) = so_far
-weight_after so_far (Shut cursor) = so_far
-weight_after so_far Commit = so_far
-weight_after so_far Rollback = so_far
-weight_after so_far (Build id table extent trickle) = so_far
-weight_after so_far (Switch id) = so_far
-weight_after so_far (Cancel id full) = so_far
-weight_after so_far (Trickle count) = so_far
-weight_after so_far (Evict table extent) = so_far
-weight_after so_far Leave = so_far
+weight_after so_far what = so_far
 
 -- the weight of all that was ever written, rolled back or not
 unfoldable pub weight : History → ℕ

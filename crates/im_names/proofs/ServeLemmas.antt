@@ -29,7 +29,7 @@ use Rattle.im_names.specs.Conditions.{where_names, where_values, values_fault, f
 use Rattle.im_names.specs.Rows.{insert_fault, rows_of, update_fault, delete_fault, set_name, set_of, set_fault}
 use Rattle.im_names.specs.Queries.{query_fault, bound_of}
 use Rattle.im_names.specs.Definitions.{column_of, column_name, shape_of, priority_of}
-use Rattle.im_names.specs.Statements.{answer, query_answer, create_answer, memory_answer}
+use Rattle.im_names.specs.Statements.{resolution, query_answer, create_answer, memory_answer}
 use Rattle.im_names.specs.Fitting.{columns_at, OfTable, QueryServes, Serves}
 use Rattle.im_names.proofs.FitLemmas.{neither, where_fits, query_fits}
 use Rattle.im_names.proofs.QueryLemmas.{is_query}
@@ -45,12 +45,12 @@ unless_value : {A : Type 0} (fault : Option NameFault) (value x : A) → unless 
 unless_value None value x e = record { free = refl; is = cc }
 unless_value (Some f) value x e = absurd cc
 
-record IsFormed {A B : Type 0} (form : A → B) (answer : Result A NameFault) (x : B) : Type 0 where
+record IsFormed {A B : Type 0} (form : A → B) (resolution : Result A NameFault) (x : B) : Type 0 where
   pub value : A
-  pub answered : answer ≡ Ok value
+  pub answered : resolution ≡ Ok value
   pub is : x ≡ form value
 
-formed_value : {A B : Type 0} (form : A → B) (answer : Result A NameFault) (x : B) → formed form answer ≡ Ok x → IsFormed form answer x
+formed_value : {A B : Type 0} (form : A → B) (resolution : Result A NameFault) (x : B) → formed form resolution ≡ Ok x → IsFormed form resolution x
 formed_value form (Ok a) x e = record { value = a; answered = refl; is = cc }
 formed_value form (Err f) x e = absurd cc
 
@@ -143,7 +143,7 @@ memory_serves tables name priority r e =
     let is : r ≡ resolved.Memory (table_number tables name) priority = cc (a.answered) in
     rw is (record { columns = a.columns; are_of = a.are_of; is = tt })
 
-evict_serves : (tables : List TableInfo) (name : List ℕ) (extent : ℕ) (r : Resolved) → answer tables (stmt.Evict name extent) ≡ Ok r → Serves tables r
+evict_serves : (tables : List TableInfo) (name : List ℕ) (extent : ℕ) (r : Resolved) → resolution tables (stmt.Evict name extent) ≡ Ok r → Serves tables r
 evict_serves tables name extent r e =
     let a = answered tables name (λ number columns. Ok (resolved.Evict number extent)) r e in
     let is : r ≡ resolved.Evict (table_number tables name) extent = cc (a.answered) in
@@ -154,14 +154,14 @@ some_tuples name names [] good = absurd good.tuples.0
 some_tuples name names (t ∷ ts) good = omega arith
 
 insert_serves : (tables : List TableInfo) (name : List ℕ) (names : List (List ℕ)) (tuples : List (List Lit)) (r : Resolved)
-    → IsInsert name names tuples → answer tables (stmt.Insert name names tuples) ≡ Ok r → Serves tables r
+    → IsInsert name names tuples → resolution tables (stmt.Insert name names tuples) ≡ Ok r → Serves tables r
 insert_serves tables name names tuples r good e =
     let a = answered tables name (λ number columns. unless (insert_fault columns names tuples) (resolved.Insert number (rows_of columns names tuples))) r e in
     let v = unless_value (insert_fault a.columns names tuples) (resolved.Insert (table_number tables name) (rows_of a.columns names tuples)) r a.answered in
     rw v.is (record { columns = a.columns; are_of = a.are_of; is = rows_serve a.columns names tuples (some_tuples name names tuples good) v.free })
 
 update_serves : (tables : List TableInfo) (name : List ℕ) (sets : List (List ℕ × Lit)) (where_ : Option (CondOf (List ℕ) Lit)) (r : Resolved)
-    → answer tables (stmt.Update name sets where_) ≡ Ok r → Serves tables r
+    → resolution tables (stmt.Update name sets where_) ≡ Ok r → Serves tables r
 update_serves tables name sets where_ r e =
     let a = answered tables name (λ number columns. unless (update_fault columns sets where_)
     (resolved.Update number (filter_of columns where_) (map (set_of columns) sets))) r e in
@@ -181,7 +181,7 @@ update_serves tables name sets where_ r e =
     })
 
 delete_serves : (tables : List TableInfo) (name : List ℕ) (where_ : Option (CondOf (List ℕ) Lit)) (r : Resolved)
-    → answer tables (stmt.Delete name where_) ≡ Ok r → Serves tables r
+    → resolution tables (stmt.Delete name where_) ≡ Ok r → Serves tables r
 delete_serves tables name where_ r e =
     let a = answered tables name (λ number columns. unless (delete_fault columns where_) (resolved.Delete number (filter_of columns where_))) r e in
     let v = unless_value (delete_fault a.columns where_) (resolved.Delete (table_number tables name) (filter_of a.columns where_)) r a.answered in
@@ -193,7 +193,7 @@ delete_serves tables name where_ r e =
 plain_serves : (tables : List TableInfo) (x r : Resolved) → Serves tables x → ◌≡◌ {A = Result Resolved NameFault} (Ok x) (Ok r) → Serves tables r
 plain_serves tables x r s e = let is : x ≡ r = cc in rw (← is) s
 
-pub serves : (tables : List TableInfo) (s : Stmt) (r : Resolved) → IsStmt s → answer tables s ≡ Ok r → Serves tables r
+pub serves : (tables : List TableInfo) (s : Stmt) (r : Resolved) → IsStmt s → resolution tables s ≡ Ok r → Serves tables r
 serves tables (stmt.Select q) r good e = let f = formed_value resolved.Select (query_answer tables q) r e in rw f.is (query_serves tables q f.value f.answered)
 serves tables (stmt.Explain q) r good e =
     let f = formed_value resolved.Explain (query_answer tables q) r e in rw f.is (query_serves tables q f.value f.answered)
@@ -206,22 +206,10 @@ serves tables (stmt.Insert name names tuples) r good e = insert_serves tables na
 serves tables (stmt.Update name sets where_) r good e = update_serves tables name sets where_ r e
 serves tables (stmt.Delete name where_) r good e = delete_serves tables name where_ r e
 serves tables (stmt.Evict name extent) r good e = evict_serves tables name extent r e
-serves tables stmt.SetReadOnly r good e = plain_serves tables (resolved.SetMode mode.ReadOnly) r tt e
-serves tables stmt.SetSerializable r good e = plain_serves tables (resolved.SetMode mode.Serializable) r tt e
-serves tables stmt.SetCommitted r good e = plain_serves tables (resolved.SetMode mode.Committed) r tt e
-serves tables stmt.Commit r good e = plain_serves tables resolved.Commit r tt e
-serves tables stmt.Rollback r good e = plain_serves tables resolved.Rollback r tt e
-serves tables (stmt.Step cursor) r good e = plain_serves tables (resolved.Step cursor) r tt e
-serves tables (stmt.Fetch cursor) r good e = plain_serves tables (resolved.Fetch cursor) r tt e
-serves tables (stmt.Close cursor) r good e = plain_serves tables (resolved.Close cursor) r tt e
-serves tables stmt.Run r good e = plain_serves tables resolved.Run r tt e
-serves tables stmt.Begin r good e = plain_serves tables resolved.Begin r tt e
-serves tables stmt.Switch r good e = plain_serves tables resolved.Switch r tt e
-serves tables stmt.Cancel r good e = plain_serves tables resolved.Cancel r tt e
-serves tables (stmt.Trickle n) r good e = plain_serves tables (resolved.Trickle n) r tt e
+serves tables _ r good e = plain_serves tables _ r tt e
 
 -- the same of a result
-pub result_serves : (tables : List TableInfo) (s : Stmt) (r : Result Resolved NameFault) → IsStmt s → IfOk r (λ x. answer tables s ≡ Ok x)
+pub result_serves : (tables : List TableInfo) (s : Stmt) (r : Result Resolved NameFault) → IsStmt s → IfOk r (λ x. resolution tables s ≡ Ok x)
     → IfOk r (Serves tables)
 result_serves tables s (Ok x) good e = serves tables s x good e
 result_serves tables s (Err f) good e = tt

@@ -35,30 +35,30 @@ abbrev pub memory_answer : List TableInfo → List ℕ → Option Priority → R
 memory_answer tables name priority = in_table tables name (λ number columns. Ok (resolved.Memory number priority))
 
 -- The table is looked up first. What else may be wrong, in the order of the checks, stands beside what the statement resolves to.
-abbrev pub answer : List TableInfo → Stmt → Result Resolved NameFault
-answer tables (stmt.Select q) = formed resolved.Select (query_answer tables q)
-answer tables (stmt.Explain q) = formed resolved.Explain (query_answer tables q)
-answer tables (stmt.OpenFor cursor q) = formed (resolved.OpenFor cursor) (query_answer tables q)
-answer tables (stmt.Create name columns block extent memory) = create_answer name columns block extent memory
-answer tables (stmt.AlterMemory name memory) = memory_answer tables name (Some (priority_of memory))
-answer tables (stmt.AlterNoMemory name) = memory_answer tables name None
-answer tables (stmt.Insert name names tuples) = in_table tables name (λ number columns.
+abbrev pub resolution : List TableInfo → Stmt → Result Resolved NameFault
+resolution tables (stmt.Select q) = formed resolved.Select (query_answer tables q)
+resolution tables (stmt.Explain q) = formed resolved.Explain (query_answer tables q)
+resolution tables (stmt.OpenFor cursor q) = formed (resolved.OpenFor cursor) (query_answer tables q)
+resolution tables (stmt.Create name columns block extent memory) = create_answer name columns block extent memory
+resolution tables (stmt.AlterMemory name memory) = memory_answer tables name (Some (priority_of memory))
+resolution tables (stmt.AlterNoMemory name) = memory_answer tables name None
+resolution tables (stmt.Insert name names tuples) = in_table tables name (λ number columns.
     unless (insert_fault columns names tuples) (resolved.Insert number (rows_of columns names tuples)))
-answer tables (stmt.Update name sets cond) = in_table tables name (λ number columns.
+resolution tables (stmt.Update name sets cond) = in_table tables name (λ number columns.
     unless (update_fault columns sets cond) (resolved.Update number (filter_of columns cond) (map (set_of columns) sets)))
-answer tables (stmt.Delete name cond) = in_table tables name (λ number columns.
+resolution tables (stmt.Delete name cond) = in_table tables name (λ number columns.
     unless (delete_fault columns cond) (resolved.Delete number (filter_of columns cond)))
-answer tables stmt.SetReadOnly = Ok (resolved.SetMode mode.ReadOnly)
-answer tables stmt.SetSerializable = Ok (resolved.SetMode mode.Serializable)
-answer tables stmt.SetCommitted = Ok (resolved.SetMode mode.Committed)
-answer tables stmt.Commit = Ok resolved.Commit
-answer tables stmt.Rollback = Ok resolved.Rollback
-answer tables (stmt.Step cursor) = Ok (resolved.Step cursor)
-answer tables (stmt.Fetch cursor) = Ok (resolved.Fetch cursor)
-answer tables (stmt.Close cursor) = Ok (resolved.Close cursor)
-answer tables stmt.Run = Ok resolved.Run
-answer tables stmt.Begin = Ok resolved.Begin
-answer tables stmt.Switch = Ok resolved.Switch
-answer tables stmt.Cancel = Ok resolved.Cancel
-answer tables (stmt.Trickle n) = Ok (resolved.Trickle n)
-answer tables (stmt.Evict name extent) = in_table tables name (λ number columns. Ok (resolved.Evict number extent))
+resolution tables stmt.SetReadOnly = Ok (resolved.SetMode mode.ReadOnly)
+resolution tables stmt.SetSerializable = Ok (resolved.SetMode mode.Serializable)
+resolution tables stmt.SetCommitted = Ok (resolved.SetMode mode.Committed)
+resolution tables stmt.Commit = Ok resolved.Commit
+resolution tables stmt.Rollback = Ok resolved.Rollback
+resolution tables (stmt.Step cursor) = Ok (resolved.Step cursor)
+resolution tables (stmt.Fetch cursor) = Ok (resolved.Fetch cursor)
+resolution tables (stmt.Close cursor) = Ok (resolved.Close cursor)
+resolution tables stmt.Run = Ok resolved.Run
+resolution tables stmt.Begin = Ok resolved.Begin
+resolution tables stmt.Switch = Ok resolved.Switch
+resolution tables stmt.Cancel = Ok resolved.Cancel
+resolution tables (stmt.Trickle n) = Ok (resolved.Trickle n)
+resolution tables (stmt.Evict name extent) = in_table tables name (λ number columns. Ok (resolved.Evict number extent))

@@ -74,7 +74,7 @@ fn check_kind_and_length(alloc: Global, column: &Column, lit: &Lit) -> Result<()
 
 /// Whether a literal fits a column of a kind.
 fn fits(kind: Kind, lit: &Lit) -> bool
-    ensures { result ≡ fitting.fits kind lit.now }
+    ensures { result ≡ fitting.literal_fits kind lit.now }
 {
     match (kind, lit) {
         (Kind::Int, Lit::Int(_) | Lit::Null) | (Kind::Text(_), Lit::Null) => true,

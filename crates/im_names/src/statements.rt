@@ -7,7 +7,7 @@ ghost use Rattle.im_names.specs.Fitting.{Serves};
 ghost use Rattle.im_names.specs.Faults.{Passes, IsCause, IsErr};
 ghost use Rattle.im_names.specs.Conditions.{filter_of};
 ghost use Rattle.im_names.specs.Rows.{insert_fault, rows_of as all_rows, update_fault, set_of, delete_fault};
-ghost use Rattle.im_names.specs.Statements.{answer, query_answer, create_answer, memory_answer};
+ghost use Rattle.im_names.specs.Statements.{resolution, query_answer, create_answer, memory_answer};
 
 use crate::columns::{check_distinct, check_listed};
 use crate::conditions::{bind_where, check_where};
@@ -91,8 +91,8 @@ fn resolve_insert(
     names: &[Name],
     tuples: &[List<Lit>],
 ) -> Result<Resolved, NameFault>
-    ensures ok { IfOk result (λ r. answer tables.now (form.Insert name.now names.now tuples.now) ≡ Ok r) }
-    ensures err { IfErr result (IsErr (answer tables.now (form.Insert name.now names.now tuples.now))) }
+    ensures ok { IfOk result (λ r. resolution tables.now (form.Insert name.now names.now tuples.now) ≡ Ok r) }
+    ensures err { IfErr result (IsErr (resolution tables.now (form.Insert name.now names.now tuples.now))) }
 {
     let (number, schema) = table_called(alloc, tables, name)?;
     bind_insert(alloc, number, schema, names, tuples)
@@ -128,8 +128,8 @@ fn resolve_update(
     sets: &[(Name, Lit)],
     cond: &Option<Cond>,
 ) -> Result<Resolved, NameFault>
-    ensures ok { IfOk result (λ r. answer tables.now (form.Update name.now sets.now cond.now) ≡ Ok r) }
-    ensures err { IfErr result (IsErr (answer tables.now (form.Update name.now sets.now cond.now))) }
+    ensures ok { IfOk result (λ r. resolution tables.now (form.Update name.now sets.now cond.now) ≡ Ok r) }
+    ensures err { IfErr result (IsErr (resolution tables.now (form.Update name.now sets.now cond.now))) }
 {
     let (number, schema) = table_called(alloc, tables, name)?;
     bind_update(alloc, number, schema, sets, cond)
@@ -157,8 +157,8 @@ fn resolve_delete(
     name: &Name,
     cond: &Option<Cond>,
 ) -> Result<Resolved, NameFault>
-    ensures ok { IfOk result (λ r. answer tables.now (form.Delete name.now cond.now) ≡ Ok r) }
-    ensures err { IfErr result (IsErr (answer tables.now (form.Delete name.now cond.now))) }
+    ensures ok { IfOk result (λ r. resolution tables.now (form.Delete name.now cond.now) ≡ Ok r) }
+    ensures err { IfErr result (IsErr (resolution tables.now (form.Delete name.now cond.now))) }
 {
     let (number, schema) = table_called(alloc, tables, name)?;
     bind_delete(alloc, number, schema, cond)
@@ -170,8 +170,8 @@ fn resolve_evict(
     name: &Name,
     extent: u64,
 ) -> Result<Resolved, NameFault>
-    ensures ok { IfOk result (λ r. answer tables.now (form.Evict name.now extent) ≡ Ok r) }
-    ensures err { IfErr result (IsErr (answer tables.now (form.Evict name.now extent))) }
+    ensures ok { IfOk result (λ r. resolution tables.now (form.Evict name.now extent) ≡ Ok r) }
+    ensures err { IfErr result (IsErr (resolution tables.now (form.Evict name.now extent))) }
 {
     let (table, _) = table_called(alloc, tables, name)?;
     Ok(Resolved::Evict { table, extent })
@@ -179,8 +179,8 @@ fn resolve_evict(
 
 fn resolve_among(alloc: Global, stmt: &Stmt, tables: &[TableInfo]) -> Result<Resolved, NameFault>
     requires { IsStmt stmt.now }
-    ensures ok { IfOk result (λ resolved. answer tables.now stmt.now ≡ Ok resolved) }
-    ensures err { IfErr result (IsErr (answer tables.now stmt.now)) }
+    ensures ok { IfOk result (λ resolved. resolution tables.now stmt.now ≡ Ok resolved) }
+    ensures err { IfErr result (IsErr (resolution tables.now stmt.now)) }
 {
     match stmt {
         Stmt::Select(query) => Ok(Resolved::Select(resolve_query(alloc, tables, query)?)),
@@ -229,9 +229,9 @@ fn resolve_among(alloc: Global, stmt: &Stmt, tables: &[TableInfo]) -> Result<Res
 /// A statement with numbers for its names, as the tables of a look have them, or its first fault.
 pub fn resolve(alloc: Global, stmt: &Stmt, look: &Look) -> Result<Resolved, NameFault>
     requires { IsStmt stmt.now }
-    ensures ok { IfOk result (λ resolved. answer look.now.tables stmt.now ≡ Ok resolved) }
+    ensures ok { IfOk result (λ resolved. resolution look.now.tables stmt.now ≡ Ok resolved) }
     ensures err { IfErr result
-        (λ why. (why ≡ Lacks) ⊎ (answer look.now.tables stmt.now ≡ Err why)) }
+        (λ why. (why ≡ Lacks) ⊎ (resolution look.now.tables stmt.now ≡ Err why)) }
     ensures serves { IfOk result (Serves look.now.tables) }
 {
     resolve_among(alloc, stmt, look.tables.tables())

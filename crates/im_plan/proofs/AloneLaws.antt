@@ -4,7 +4,7 @@ use Rattle.std.proofs.lemmas.Bool.Decides.{nat_tests}
 use Rattle.im_history.specs.declared.entry.What.{What}
 use Rattle.im_history.specs.History.{History}
 use Rattle.im_plan.specs.Alone.{Played, play, cut, still, undecided, IsMachine}
-use Rattle.im_plan.specs.Goes.{After, Nobody, Goes, Lacks, Line}
+use Rattle.im_plan.specs.Goes.{After, Nobody, Goes, Lacks, PlayedLine}
 use Rattle.im_plan.specs.Plan.{Plan, End, Turn, made, counted}
 
 -- nobody adds anything
@@ -82,7 +82,7 @@ lacks-cut {R} who amends k old (Turn decides adds on) result new lacks = elim la
 
 -- a line that is played with nobody between is the machine's
 pub line_alone : {R : Type 0} (who : ℕ) (amends : ℕ → Plan R) (old : History) (plan : Plan R) (result : R) (new : History)
-    → Line Nobody who amends old plan result new → IsMachine who amends old plan result new
+    → PlayedLine Nobody who amends old plan result new → IsMachine who amends old plan result new
 line_alone who amends old plan result new line = elim line.whole.played [
   | inl goes ↦ record { lacked = None; lawful = refl; same = play-goes who old plan result new goes }
   | inr lacks ↦ lacked_so (lacks-cut who amends 0 old plan result new lacks)

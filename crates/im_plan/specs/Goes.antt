@@ -48,6 +48,6 @@ pub record Rest {R : Type 0} (others : History → Type 0) (who : ℕ) (amends :
   pub played : Goes others who old plan result new ⊎ Lacks others who amends k old plan result new
 
 -- a line of a script, played
-pub record Line {R : Type 0} (others : History → Type 0) (who : ℕ) (amends : ℕ → Plan R) (old : History) (plan : Plan R) (result : R)
+pub record PlayedLine {R : Type 0} (others : History → Type 0) (who : ℕ) (amends : ℕ → Plan R) (old : History) (plan : Plan R) (result : R)
     (new : History) : Type 0 where
   pub whole : Rest others who amends 0 old plan result new

@@ -11,14 +11,14 @@
 ghost use Rattle.std.specs.Prelude.{◌≡◌, ℕ, Bool, false};
 ghost use Rattle.im_history.specs.History.{History};
 ghost use Rattle.im_plan.specs.Alone.{IsMachine};
-ghost use Rattle.im_plan.specs.Goes.{After, Line, Nobody, Others, Rest};
+ghost use Rattle.im_plan.specs.Goes.{After, PlayedLine, Nobody, Others, Rest};
 ghost use Rattle.im_plan.specs.Plan.{Plan};
 
 /// A law, for contracts alone: where nobody comes between its turns, a line goes exactly as the machine plays it, whole
 /// or cut where memory ran out.
 pub fn a_line_alone_is_the_machine<R>()
     ensures { (who : ℕ) (amends : ℕ → Plan R) (old : History) (plan : Plan R) (result : R) (new : History) →
-        Line Nobody who amends old plan result new → IsMachine who amends old plan result new }
+        PlayedLine Nobody who amends old plan result new → IsMachine who amends old plan result new }
 {}
 
 /// A law, for contracts alone: whatever numbers are a side's own, what is left of a line may also go where others came before

@@ -219,12 +219,7 @@ keeps-resolved limits who state at (resolved.Fetch cursor) =
     (λ marks here. (refl, tt)))
 keeps-resolved limits who state at (resolved.Close cursor) = keeps-with cursor at (query_at state cursor) (λ query. close_query query.cursor)
     (λ query here. (refl, tt))
-keeps-resolved limits who state at resolved.Run = tt
-keeps-resolved limits who state at resolved.Begin = tt
-keeps-resolved limits who state at resolved.Switch = tt
-keeps-resolved limits who state at resolved.Cancel = tt
-keeps-resolved limits who state at (resolved.Trickle credits) = tt
-keeps-resolved limits who state at (resolved.Evict table extent) = tt
+keeps-resolved limits who state at _ = tt
 
 keeps-found : (limits : Limits) (who : ℕ) (state : State) (at : History) (r : Result Resolved NameFault) → Keeps (found_plan limits who state at r)
 keeps-found limits who state at (Ok r) = keeps-resolved limits who state at r

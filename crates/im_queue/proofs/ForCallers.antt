@@ -10,7 +10,7 @@ use Rattle.im_history.specs.declared.limits.Limits.{Limits}
 use Rattle.im_history.specs.History.{History}
 use Rattle.im_history.specs.Leaves.{is_leave}
 use Rattle.im_history.specs.Legal.{IsLegal}
-use Rattle.im_history.specs.Queue.{opened_after, spent, spent_after, trickled, trickled_after}
+use Rattle.im_history.specs.Queue.{table_opened_after, spent, spent_after, trickled, trickled_after}
 use Rattle.im_history.specs.Units.{Content}
 use Rattle.im_history.proofs.ExtentLaws.{extents-of-units}
 use Rattle.im_history.proofs.LeaveLaws.{leaves-few, leaves-nil, leaves-push}
@@ -75,7 +75,7 @@ marked marks other table mark within =
     (λ (apart : other ≡ table → ⊥). rw (ne_eqb other table apart) (get_or-set_other marks other table mark false (λ is. apart (sym is)))) (cases_eq other table)
 
 opened_after-is : (what : What) (demand : Demand) (table : ℕ) → table < length demand.opened
-    → get_or (demand_after what demand).opened table false ≡ opened_after table (get_or demand.opened table false) what
+    → get_or (demand_after what demand).opened table false ≡ table_opened_after table (get_or demand.opened table false) what
 opened_after-is (Memory other priority) demand table within = marked demand.opened other table false within
 opened_after-is (Open cursor other) demand table within = marked demand.opened other table true within
 opened_after-is (Build id other extent true) demand table within = refl
@@ -96,7 +96,7 @@ IsDemand-push h entry demand is small paid = record {
   opened = λ table within.
       let size = is.sized in
       opened_after-is entry.what demand table (omega (arith, within, size))
-      ∙ (ap (λ (b : Bool). opened_after table b entry.what) (is.opened table within) ∙ sym (is_opened-push h entry table));
+      ∙ (ap (λ (b : Bool). table_opened_after table b entry.what) (is.opened table within) ∙ sym (is_opened-push h entry table));
 }
 
 -- ---- what may be counted

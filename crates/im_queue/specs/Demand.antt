@@ -2,7 +2,7 @@
 use Rattle.std.specs.Prelude.{◌≡◌, ℕ, ◌+◌, ◌-◌, ◌*◌, ◌^◌, ◌<◌, ◌≤◌, true, false, length, set, slice_index_or, if◌then◌else◌}
 use Rattle.im_values.specs.declared.limits.TheConstants.{MOST_TABLES}
 use Rattle.im_history.specs.declared.entry.What.{What}
-use Rattle.im_history.specs.declared.entry.What.TheVariants.{Create, Memory, Begin, Open, Shut, Write, Commit, Rollback, Build, Switch, Cancel, Trickle, Evict, Leave}
+use Rattle.im_history.specs.declared.entry.What.TheVariants.{Memory, Open, Build, Trickle, Leave}
 use Rattle.im_history.specs.History.{History}
 use Rattle.im_history.specs.Leaves.{leaves}
 use Rattle.im_history.specs.Queue.{credits, is_opened, spent, trickled, trickled_after}
@@ -10,20 +10,12 @@ use Rattle.im_queue.specs.declared.demand.Demand.{Demand}
 
 -- what is kept after one more entry
 abbrev pub demand_after : What → Demand → Demand
-demand_after (Create name schema grid) demand = demand
 demand_after (Memory table priority) demand = record demand { opened = set demand.opened table false }
-demand_after (Begin mode) demand = demand
 demand_after (Open cursor table) demand = record demand { opened = set demand.opened table true }
-demand_after (Shut cursor) demand = demand
-demand_after (Write changes) demand = demand
-demand_after Commit demand = demand
-demand_after Rollback demand = demand
 demand_after (Build id table extent trickle) demand = if trickle then record demand { credits = demand.credits - 1 } else demand
-demand_after (Switch id) demand = demand
-demand_after (Cancel id full) demand = demand
 demand_after (Trickle count) demand = record demand { credits = demand.credits + count }
-demand_after (Evict table extent) demand = demand
 demand_after Leave demand = record demand { left = demand.left + 1 }
+demand_after what demand = demand
 
 -- it is what this history comes to: the credits that are left, how many sessions left, and which tables were opened, as far as
 -- tables are numbered
@@ -41,19 +33,7 @@ pub record IsSmall (what : What) : Type 0 where
 -- a build that a credit is spent on begins only where one is left; other entries need none
 abbrev pub IsPaid : History → What → Type 0
 IsPaid history (Build id table extent trickle) = trickle ≡ true → 1 ≤ credits history
-IsPaid history (Create name schema grid) = Unit {0}
-IsPaid history (Memory table priority) = Unit {0}
-IsPaid history (Begin mode) = Unit {0}
-IsPaid history (Open cursor table) = Unit {0}
-IsPaid history (Shut cursor) = Unit {0}
-IsPaid history (Write changes) = Unit {0}
-IsPaid history Commit = Unit {0}
-IsPaid history Rollback = Unit {0}
-IsPaid history (Switch id) = Unit {0}
-IsPaid history (Cancel id full) = Unit {0}
-IsPaid history (Trickle count) = Unit {0}
-IsPaid history (Evict table extent) = Unit {0}
-IsPaid history Leave = Unit {0}
+IsPaid history what = Unit {0}
 
 -- one more entry can be counted
 pub record HasDemandRoom (demand : Demand) : Type 0 where

@@ -26,27 +26,11 @@ pub data Reading : Type 0 where
 abbrev pub reading_of : Stmt → Reading
 reading_of (stmt.Select query) = Own
 reading_of (stmt.Explain query) = Own
-reading_of (stmt.Create name columns block extent memory) = Nothing
-reading_of (stmt.AlterMemory name memory) = Nothing
-reading_of (stmt.AlterNoMemory name) = Nothing
-reading_of (stmt.Insert name names tuples) = Nothing
 reading_of (stmt.Update name sets cond) = Own
 reading_of (stmt.Delete name cond) = Own
-reading_of stmt.SetReadOnly = Nothing
-reading_of stmt.SetSerializable = Nothing
-reading_of stmt.SetCommitted = Nothing
-reading_of stmt.Commit = Nothing
-reading_of stmt.Rollback = Nothing
-reading_of (stmt.OpenFor cursor query) = Nothing
 reading_of (stmt.Step cursor) = Next cursor
 reading_of (stmt.Fetch cursor) = Left cursor
-reading_of (stmt.Close cursor) = Nothing
-reading_of stmt.Run = Nothing
-reading_of stmt.Begin = Nothing
-reading_of stmt.Switch = Nothing
-reading_of stmt.Cancel = Nothing
-reading_of (stmt.Trickle credits) = Nothing
-reading_of (stmt.Evict name extent) = Nothing
+reading_of statement = Nothing
 
 -- extents that are read by a cursor with a view, from one on and below another
 pub record Span : Type 0 where

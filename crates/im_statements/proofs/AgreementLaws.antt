@@ -22,14 +22,14 @@ use Rattle.im_history.specs.Refusals.{begin_refusal, create_refusal, forbids_wri
 use Rattle.im_history.specs.Rows.{Row}
 use Rattle.im_history.specs.Commits.{scn}
 use Rattle.im_history.specs.Tables.{given, tables}
-use Rattle.im_group.specs.Answers.{answer as answer_of}
+use Rattle.im_group.specs.Answers.{resolution as answer_of}
 use Rattle.im_history.specs.Transactions.{is_open, mode}
 use Rattle.im_history.specs.Views.{view_at}
 use Rattle.im_names.specs.declared.fault.NameFault.{NameFault}
 use Rattle.im_names.specs.declared.resolved.Resolved.{Resolved}
 use Rattle.im_names.specs.declared.resolved.Resolved.TheVariants as resolved
 use Rattle.im_names.specs.Lookups.{table_called}
-use Rattle.im_names.specs.Statements.{answer, query_answer}
+use Rattle.im_names.specs.Statements.{resolution, query_answer}
 use Rattle.im_plan.specs.Plan.{Plan, End, Turn}
 use Rattle.im_replies.specs.declared.fault.Fault.{Fault}
 use Rattle.im_replies.specs.declared.reply.Reply.{Reply}
@@ -330,18 +330,13 @@ module _ (who : ℕ) (state : State) (cursors : List Opened) (steady : Steady st
   good-resolved limits at (resolved.Step cursor) fine = good-step at cursor
   good-resolved limits at (resolved.Fetch cursor) fine = good-fetch at cursor
   good-resolved limits at (resolved.Close cursor) fine = good-close at cursor
-  good-resolved limits at resolved.Run fine = plain-good who state cursors steady _ (refl, refl)
-  good-resolved limits at resolved.Begin fine = plain-good who state cursors steady _ (refl, refl)
-  good-resolved limits at resolved.Switch fine = plain-good who state cursors steady _ (refl, refl)
-  good-resolved limits at resolved.Cancel fine = plain-good who state cursors steady _ (refl, refl)
-  good-resolved limits at (resolved.Trickle credits) fine = plain-good who state cursors steady _ (refl, refl)
-  good-resolved limits at (resolved.Evict table extent) fine = plain-good who state cursors steady _ (refl, refl)
+  good-resolved limits at _ fine = plain-good who state cursors steady _ (refl, refl)
 
   good-found : (limits : Limits) (at : History) (r : Result Resolved NameFault) → IfOk r IsFine → IsGood who state cursors (found_plan limits who state at r)
   good-found limits at (Ok r) fine = good-resolved limits at r fine
   good-found limits at (Err fault) fine = plain-good who state cursors steady _ (refl, refl)
 
-  fine-answer : (known : List TableInfo) (s : Stmt) → IsStmt s → IfOk (answer known s) IsFine
+  fine-answer : (known : List TableInfo) (s : Stmt) → IsStmt s → IfOk (resolution known s) IsFine
   fine-answer known (stmt.Select q) is = formed-each IsFine resolved.Select (λ bound. tt) (query_answer known q)
   fine-answer known (stmt.Explain q) is = formed-each IsFine resolved.Explain (λ bound. tt) (query_answer known q)
   fine-answer known (stmt.OpenFor cursor q) is = formed-each IsFine (resolved.OpenFor cursor) (λ bound. is.0.low_end) (query_answer known q)
@@ -355,7 +350,7 @@ module _ (who : ℕ) (state : State) (cursors : List Opened) (steady : Steady st
   fine-answer known _ is = tt
 
   good-named : (limits : Limits) (s : Stmt) → IsStmt s → (at : History) → IsGood who state cursors (named_plan limits who state s at)
-  good-named limits s is at = good-found limits at (answer (tables at) s) (fine-answer (tables at) s is)
+  good-named limits s is at = good-found limits at (resolution (tables at) s) (fine-answer (tables at) s is)
 
   good-looked_up : (limits : Limits) (s : Stmt) → IsStmt s → IsGood who state cursors (looked_up limits who state s)
   good-looked_up limits s is = good-look _ (good-named limits s is)

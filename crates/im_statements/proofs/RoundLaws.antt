@@ -10,7 +10,7 @@ use Rattle.im_history.specs.declared.task.Task.{Task}
 use Rattle.im_history.specs.History.{History}
 use Rattle.im_history.specs.Queue.{next, task_of}
 use Rattle.im_plan.specs.Alone.{Played, cut, may_lack, play, play_or_cut, still, undecided}
-use Rattle.im_plan.specs.Goes.{Goes, Lacks, Line, Others}
+use Rattle.im_plan.specs.Goes.{Goes, Lacks, PlayedLine, Others}
 use Rattle.im_plan.specs.Plan.{Plan, End, Turn, counted, made}
 use Rattle.im_replies.specs.declared.body.Body.TheVariants as body
 use Rattle.im_replies.specs.declared.reply.Reply.{Reply}
@@ -66,23 +66,7 @@ command-extends limits who builds fewer more stmt.Switch few = extends-self (com
 command-extends limits who builds fewer more stmt.Cancel few = extends-self (command_plan limits who fewer builds stmt.Cancel)
 command-extends limits who builds fewer more (stmt.Trickle count) few = extends-self (command_plan limits who fewer builds (stmt.Trickle count))
 command-extends limits who builds fewer more (stmt.Evict name extent) few = extends-self (command_plan limits who fewer builds (stmt.Evict name extent))
-command-extends limits who builds fewer more (stmt.Select query) few = refl
-command-extends limits who builds fewer more (stmt.Explain query) few = refl
-command-extends limits who builds fewer more (stmt.Create name columns block extent memory) few = refl
-command-extends limits who builds fewer more (stmt.AlterMemory name memory) few = refl
-command-extends limits who builds fewer more (stmt.AlterNoMemory name) few = refl
-command-extends limits who builds fewer more (stmt.Insert name names tuples) few = refl
-command-extends limits who builds fewer more (stmt.Update name sets cond) few = refl
-command-extends limits who builds fewer more (stmt.Delete name cond) few = refl
-command-extends limits who builds fewer more stmt.SetReadOnly few = refl
-command-extends limits who builds fewer more stmt.SetSerializable few = refl
-command-extends limits who builds fewer more stmt.SetCommitted few = refl
-command-extends limits who builds fewer more stmt.Commit few = refl
-command-extends limits who builds fewer more stmt.Rollback few = refl
-command-extends limits who builds fewer more (stmt.OpenFor cursor query) few = refl
-command-extends limits who builds fewer more (stmt.Step cursor) few = refl
-command-extends limits who builds fewer more (stmt.Fetch cursor) few = refl
-command-extends limits who builds fewer more (stmt.Close cursor) few = refl
+command-extends limits who builds fewer more _ few = refl
 
 -- ---- nobody else there
 
@@ -174,7 +158,7 @@ module _ (others : History → Type 0) (who : ℕ) (reply : Reply) (after : List
         ])
 
     pub line-extends : (old : History) (plan longer : Plan Outcome) (new : History) → Extends plan longer
-        → Line others who amends old plan (Answered reply after) new → Line others who amends old longer (Answered reply after) new
+        → PlayedLine others who amends old plan (Answered reply after) new → PlayedLine others who amends old longer (Answered reply after) new
     line-extends old plan longer new further line = record {
       whole = record {
         played = elim line.whole.played [
@@ -226,8 +210,8 @@ stay-enough order fewer more few enough = record {
 
 pub stay-among_others : (mine : ℕ → Bool) (limits : Limits) (who : ℕ) (builds after : List Task) (statement : Stmt) (fewer more : ℕ) (old : History)
     (reply : Reply) (new : History) → fewer ≤ more
-    → Line (Others mine) who (command_amends who builds) old (command_plan limits who fewer builds statement) (Answered reply after) new
-    → Line (Others mine) who (command_amends who builds) old (command_plan limits who more builds statement) (Answered reply after) new
+    → PlayedLine (Others mine) who (command_amends who builds) old (command_plan limits who fewer builds statement) (Answered reply after) new
+    → PlayedLine (Others mine) who (command_amends who builds) old (command_plan limits who more builds statement) (Answered reply after) new
 stay-among_others mine limits who builds after statement fewer more old reply new few line =
     line-extends (Others mine) who reply after (command_amends who builds) old (command_plan limits who fewer builds statement)
     (command_plan limits who more builds statement) new (command-extends limits who builds fewer more statement few) line

@@ -25,7 +25,7 @@ use Rattle.im_history.specs.Tables.{given, table_named, tables}
 use Rattle.im_history.specs.Transactions.{begun, begun_after, is_open, mode, or_here}
 use Rattle.im_history.specs.Views.{view_at}
 use Rattle.im_history.proofs.Laws.{begun-push}
-use Rattle.im_group.specs.Answers.{answer as answer_of}
+use Rattle.im_group.specs.Answers.{resolution as answer_of}
 use Rattle.im_names.specs.declared.fault.NameFault.{NameFault}
 use Rattle.im_names.specs.declared.fault.NameFault.TheVariants.{RepeatedColumn}
 use Rattle.im_names.specs.declared.resolved.Resolved.{Resolved}
@@ -33,8 +33,8 @@ use Rattle.im_names.specs.declared.resolved.Resolved.TheVariants as resolved
 use Rattle.im_names.specs.Definitions.{column_name}
 use Rattle.im_names.specs.Faults.{first_fault, unless, with_earlier}
 use Rattle.im_names.specs.Lookups.{is_among, of_table, repeated, table_called}
-use Rattle.im_names.specs.Statements.{answer}
-use Rattle.im_plan.specs.Goes.{After, Goes, Lacks, Line, Others}
+use Rattle.im_names.specs.Statements.{resolution}
+use Rattle.im_plan.specs.Goes.{After, Goes, Lacks, PlayedLine, Others}
 use Rattle.im_plan.specs.Plan.{Plan, End, Turn, made, counted}
 use Rattle.im_replies.specs.declared.body.Body.{Body}
 use Rattle.im_replies.specs.declared.body.Body.TheVariants as body
@@ -69,16 +69,7 @@ open_behind (what.Begin mode) now = true
 open_behind (what.Write changes) now = true
 open_behind what.Commit now = false
 open_behind what.Rollback now = false
-open_behind (what.Create name schema grid) now = now
-open_behind (what.Memory table priority) now = now
-open_behind (what.Open cursor table) now = now
-open_behind (what.Shut cursor) now = now
-open_behind (what.Build id table extent trickle) now = now
-open_behind (what.Switch id) now = now
-open_behind (what.Cancel id full) now = now
-open_behind (what.Trickle count) now = now
-open_behind (what.Evict table extent) now = now
-open_behind what.Leave now = now
+open_behind entry now = now
 
 -- and after a turn
 abbrev turned : Bool → Option What → Bool
@@ -94,16 +85,7 @@ open-behind place began (what.Begin mode) = some-here place began
 open-behind place began (what.Write changes) = some-here place began
 open-behind place began what.Commit = refl
 open-behind place began what.Rollback = refl
-open-behind place began (what.Create name schema grid) = refl
-open-behind place began (what.Memory table priority) = refl
-open-behind place began (what.Open cursor table) = refl
-open-behind place began (what.Shut cursor) = refl
-open-behind place began (what.Build id table extent trickle) = refl
-open-behind place began (what.Switch id) = refl
-open-behind place began (what.Cancel id full) = refl
-open-behind place began (what.Trickle count) = refl
-open-behind place began (what.Evict table extent) = refl
-open-behind place began what.Leave = refl
+open-behind place began _ = refl
 
 open-turned : (h : History) (who : ℕ) (added : Option What) → is_open (h ++ made who added) who ≡ turned (is_open h who) added
 open-turned h who None = ap (λ (log : History). is_open log who) (append-nil h)
@@ -180,7 +162,7 @@ module _ (says : Body → Bool → Bool) (mine : ℕ → Bool) (who : ℕ) (is_m
   ]
 
   line-tells : (old : History) (plan : Plan Outcome) (new : History) → is_open old who ≡ before → Tells says who before true 0 before plan
-      → Line (Others mine) who (amends who) old plan (Replied reply effect) new → is_open new who ≡ says reply.body before
+      → PlayedLine (Others mine) who (amends who) old plan (Replied reply effect) new → is_open new who ≡ says reply.body before
   line-tells old plan new is tells line = elim line.whole.played [
     | inl goes ↦ goes-tells true 0 before old plan new is tells goes
     | inr lacks ↦ lacks-tells 0 before old plan new is tells lacks
@@ -364,12 +346,7 @@ module _ (who : ℕ) (before : Bool) where
   says-resolved k limits state at (resolved.Step cursor) is = says-step k state at cursor
   says-resolved k limits state at (resolved.Fetch cursor) is = says-fetch k state at cursor
   says-resolved k limits state at (resolved.Close cursor) is = says-close k state at cursor
-  says-resolved k limits state at resolved.Run is = (λ f. refl, refl)
-  says-resolved k limits state at resolved.Begin is = (λ f. refl, refl)
-  says-resolved k limits state at resolved.Switch is = (λ f. refl, refl)
-  says-resolved k limits state at resolved.Cancel is = (λ f. refl, refl)
-  says-resolved k limits state at (resolved.Trickle credits) is = (λ f. refl, refl)
-  says-resolved k limits state at (resolved.Evict table extent) is = (λ f. refl, refl)
+  says-resolved k limits state at _ is = (λ f. refl, refl)
 
   says-found : (k : ℕ) (limits : Limits) (state : State) (at : History) (r : Result Resolved NameFault) → is_open at who ≡ before
       → Says k (found_plan limits who state at r)
@@ -377,7 +354,7 @@ module _ (who : ℕ) (before : Bool) where
   says-found k limits state at (Err fault) is = (λ f. refl, refl)
 
   says-looked_up : (limits : Limits) (state : State) (s : Stmt) → Says 0 (looked_up limits who state s)
-  says-looked_up limits state s = says-look 0 _ (λ at is. says-found 0 limits state at (answer (tables at) s) is)
+  says-looked_up limits state s = says-look 0 _ (λ at is. says-found 0 limits state at (resolution (tables at) s) is)
 
 -- ---- definitions
 
@@ -455,26 +432,7 @@ module _ (who : ℕ) (before : Bool) (k : ℕ) (lost : IsLost before k) (later :
     defines-named (stmt.Create name columns block extent memory) is = defines-unless _ name _ _ _ (repeated-named before [] (map column_name columns))
     defines-named (stmt.AlterMemory name memory) is = defines-of_table (table_called (tables at) name) name _ _
     defines-named (stmt.AlterNoMemory name) is = defines-of_table (table_called (tables at) name) name _ _
-    defines-named (stmt.Select query) is = absurd cc
-    defines-named (stmt.Explain query) is = absurd cc
-    defines-named (stmt.Insert name names tuples) is = absurd cc
-    defines-named (stmt.Update name sets cond) is = absurd cc
-    defines-named (stmt.Delete name cond) is = absurd cc
-    defines-named stmt.SetReadOnly is = absurd cc
-    defines-named stmt.SetSerializable is = absurd cc
-    defines-named stmt.SetCommitted is = absurd cc
-    defines-named stmt.Commit is = absurd cc
-    defines-named stmt.Rollback is = absurd cc
-    defines-named (stmt.OpenFor cursor query) is = absurd cc
-    defines-named (stmt.Step cursor) is = absurd cc
-    defines-named (stmt.Fetch cursor) is = absurd cc
-    defines-named (stmt.Close cursor) is = absurd cc
-    defines-named stmt.Run is = absurd cc
-    defines-named stmt.Begin is = absurd cc
-    defines-named stmt.Switch is = absurd cc
-    defines-named stmt.Cancel is = absurd cc
-    defines-named (stmt.Trickle credits) is = absurd cc
-    defines-named (stmt.Evict name extent) is = absurd cc
+    defines-named _ is = absurd cc
 
 -- a definition commits an open transaction first
 defines-first : (who : ℕ) (before : Bool) (limits : Limits) (state : State) (s : Stmt) → is_definition s ≡ true
@@ -499,7 +457,7 @@ pub keep-transaction : KeepTransaction
 keep-transaction mine limits who state s old reply effect new is_mine = by (is_definition s) refl
   where
     by : (b : Bool) → is_definition s ≡ b
-        → Line (Others mine) who (amends who) old (if b then definition_plan limits who state s else looked_up limits who state s)
+        → PlayedLine (Others mine) who (amends who) old (if b then definition_plan limits who state s else looked_up limits who state s)
         (Replied reply effect) new
         → is_open new who ≡ (if b then open_by_definition reply.body (is_open old who) else open_by reply.body (is_open old who))
     by true is =

@@ -3,7 +3,7 @@ use Rattle.std.specs.Prelude.{◌≡◌, ℕ, Bool, true, false, List, [], ◌�
 use Rattle.im_history.specs.Cursors.{Opened, is_cursor_open, opened}
 use Rattle.im_history.specs.History.{History}
 use Rattle.im_history.specs.declared.limits.Limits.{Limits}
-use Rattle.im_plan.specs.Goes.{Line, Others}
+use Rattle.im_plan.specs.Goes.{PlayedLine, Others}
 use Rattle.im_syntax.specs.Rules.{IsStmt}
 use Rattle.im_syntax.specs.declared.statement.Stmt.{Stmt}
 use Rattle.im_statements.specs.Outcomes.{Outcome, Query, Replied, State, Unfinished, kept_after}
@@ -37,5 +37,5 @@ abbrev pub KeepAgreement : Type 0
 KeepAgreement =
     (mine : ℕ → Bool) (limits : Limits) (who : ℕ) (state : State) (statement : Stmt) (old : History) (outcome : Outcome) (new : History)
     → mine who ≡ true → IsStmt statement → Agrees state old who
-    → Line (Others mine) who (amends who) old (statement_plan limits who state statement) outcome new
+    → PlayedLine (Others mine) who (amends who) old (statement_plan limits who state statement) outcome new
     → Agrees (kept_by outcome state) new who

@@ -18,7 +18,7 @@ use Rattle.im_history.specs.Units.{held, held_at, killed_of}
 use Rattle.im_names.specs.declared.fault.NameFault.{NameFault}
 use Rattle.im_names.specs.declared.resolved.Resolved.{Resolved}
 use Rattle.im_names.specs.declared.resolved.Resolved.TheVariants as resolved
-use Rattle.im_names.specs.Statements.{answer}
+use Rattle.im_names.specs.Statements.{resolution}
 use Rattle.im_plan.specs.Plan.{Plan, End, Turn}
 use Rattle.im_replies.specs.declared.body.Body.{Body}
 use Rattle.im_replies.specs.declared.body.Body.TheVariants as body
@@ -142,24 +142,8 @@ command_plan limits who rounds builds stmt.Switch = switch limits who builds
 command_plan limits who rounds builds stmt.Cancel = cancel builds
 command_plan limits who rounds builds (stmt.Trickle count) = trickle who builds count
 command_plan limits who rounds builds (stmt.Evict name extent) =
-    Turn false (λ at. None) (λ at. evict_found who builds (answer (tables at) (stmt.Evict name extent)))
-command_plan limits who rounds builds (stmt.Select query) = nothing builds
-command_plan limits who rounds builds (stmt.Explain query) = nothing builds
-command_plan limits who rounds builds (stmt.Create name columns block extent memory) = nothing builds
-command_plan limits who rounds builds (stmt.AlterMemory name memory) = nothing builds
-command_plan limits who rounds builds (stmt.AlterNoMemory name) = nothing builds
-command_plan limits who rounds builds (stmt.Insert name names tuples) = nothing builds
-command_plan limits who rounds builds (stmt.Update name sets cond) = nothing builds
-command_plan limits who rounds builds (stmt.Delete name cond) = nothing builds
-command_plan limits who rounds builds stmt.SetReadOnly = nothing builds
-command_plan limits who rounds builds stmt.SetSerializable = nothing builds
-command_plan limits who rounds builds stmt.SetCommitted = nothing builds
-command_plan limits who rounds builds stmt.Commit = nothing builds
-command_plan limits who rounds builds stmt.Rollback = nothing builds
-command_plan limits who rounds builds (stmt.OpenFor cursor query) = nothing builds
-command_plan limits who rounds builds (stmt.Step cursor) = nothing builds
-command_plan limits who rounds builds (stmt.Fetch cursor) = nothing builds
-command_plan limits who rounds builds (stmt.Close cursor) = nothing builds
+    Turn false (λ at. None) (λ at. evict_found who builds (resolution (tables at) (stmt.Evict name extent)))
+command_plan limits who rounds builds statement = nothing builds
 
 -- ---- out of memory
 

@@ -4,7 +4,7 @@ use Rattle.im_history.specs.declared.limits.Limits.{Limits}
 use Rattle.im_history.specs.declared.task.Task.{Task}
 use Rattle.im_history.specs.History.{History}
 use Rattle.im_plan.specs.Alone.{Played, may_lack, play_or_cut}
-use Rattle.im_plan.specs.Goes.{Line, Others}
+use Rattle.im_plan.specs.Goes.{PlayedLine, Others}
 use Rattle.im_replies.specs.declared.reply.Reply.{Reply}
 use Rattle.im_syntax.specs.declared.statement.Stmt.{Stmt}
 use Rattle.im_statements.specs.Background.{Answered, OutOfRounds, Outcome, command_amends, command_plan}
@@ -48,5 +48,5 @@ abbrev pub StayAmongOthers : Type 0
 StayAmongOthers =
     (mine : ℕ → Bool) (limits : Limits) (who : ℕ) (builds after : List Task) (statement : Stmt) (fewer more : ℕ) (old : History) (reply : Reply)
     (new : History) → fewer ≤ more
-    → Line (Others mine) who (command_amends who builds) old (command_plan limits who fewer builds statement) (Answered reply after) new
-    → Line (Others mine) who (command_amends who builds) old (command_plan limits who more builds statement) (Answered reply after) new
+    → PlayedLine (Others mine) who (command_amends who builds) old (command_plan limits who fewer builds statement) (Answered reply after) new
+    → PlayedLine (Others mine) who (command_amends who builds) old (command_plan limits who more builds statement) (Answered reply after) new

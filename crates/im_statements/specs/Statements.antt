@@ -9,7 +9,7 @@ use Rattle.im_names.specs.declared.fault.NameFault.{NameFault}
 use Rattle.im_names.specs.declared.fault.NameFault.TheVariants as names
 use Rattle.im_names.specs.declared.resolved.Resolved.{Resolved}
 use Rattle.im_names.specs.declared.resolved.Resolved.TheVariants as resolved
-use Rattle.im_names.specs.Statements.{answer}
+use Rattle.im_names.specs.Statements.{resolution}
 use Rattle.im_plan.specs.Plan.{Plan, Turn}
 use Rattle.im_syntax.specs.declared.statement.Stmt.{Stmt}
 use Rattle.im_syntax.specs.declared.statement.Stmt.TheVariants as stmt
@@ -62,7 +62,7 @@ found_plan limits who state at (Err fault) = answer_at at (Error (name_fault fau
 
 -- a statement whose names are looked up at this history
 abbrev pub named_plan : Limits → ℕ → State → Stmt → History → Plan Outcome
-named_plan limits who state statement at = found_plan limits who state at (answer (tables at) statement)
+named_plan limits who state statement at = found_plan limits who state at (resolution (tables at) statement)
 
 -- a statement whose names are looked up when its turn comes
 abbrev pub looked_up : Limits → ℕ → State → Stmt → Plan Outcome
@@ -77,29 +77,10 @@ definition_plan limits who state statement = look (λ at.
 
 -- the statement defines a table
 abbrev pub is_definition : Stmt → Bool
-is_definition (stmt.Select query) = false
-is_definition (stmt.Explain query) = false
 is_definition (stmt.Create name columns block extent memory) = true
 is_definition (stmt.AlterMemory name memory) = true
 is_definition (stmt.AlterNoMemory name) = true
-is_definition (stmt.Insert name names tuples) = false
-is_definition (stmt.Update name sets cond) = false
-is_definition (stmt.Delete name cond) = false
-is_definition stmt.SetReadOnly = false
-is_definition stmt.SetSerializable = false
-is_definition stmt.SetCommitted = false
-is_definition stmt.Commit = false
-is_definition stmt.Rollback = false
-is_definition (stmt.OpenFor cursor query) = false
-is_definition (stmt.Step cursor) = false
-is_definition (stmt.Fetch cursor) = false
-is_definition (stmt.Close cursor) = false
-is_definition stmt.Run = false
-is_definition stmt.Begin = false
-is_definition stmt.Switch = false
-is_definition stmt.Cancel = false
-is_definition (stmt.Trickle credits) = false
-is_definition (stmt.Evict name extent) = false
+is_definition statement = false
 
 -- the plan of a statement of a session that keeps this
 abbrev pub statement_plan : Limits → ℕ → State → Stmt → Plan Outcome

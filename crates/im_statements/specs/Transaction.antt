@@ -3,7 +3,7 @@ use Rattle.std.specs.Prelude.{◌≡◌, ℕ, ◌==◌, ◌&&◌, ◌||◌, nat_
 use Rattle.im_history.specs.declared.limits.Limits.{Limits}
 use Rattle.im_history.specs.History.{History}
 use Rattle.im_history.specs.Transactions.{is_open}
-use Rattle.im_plan.specs.Goes.{Line, Others}
+use Rattle.im_plan.specs.Goes.{PlayedLine, Others}
 use Rattle.im_replies.specs.declared.body.Body.{Body}
 use Rattle.im_replies.specs.declared.body.Body.TheVariants as body
 use Rattle.im_replies.specs.declared.fault.Fault.TheVariants as fault
@@ -51,5 +51,5 @@ open_after statement reply before = if is_definition statement then open_by_defi
 abbrev pub KeepTransaction : Type 0
 KeepTransaction =
     (mine : ℕ → Bool) (limits : Limits) (who : ℕ) (state : State) (statement : Stmt) (old : History) (reply : Reply) (effect : Effect) (new : History)
-    → mine who ≡ true → Line (Others mine) who (amends who) old (statement_plan limits who state statement) (Replied reply effect) new
+    → mine who ≡ true → PlayedLine (Others mine) who (amends who) old (statement_plan limits who state statement) (Replied reply effect) new
     → is_open new who ≡ open_after statement reply (is_open old who)

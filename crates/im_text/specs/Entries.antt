@@ -70,19 +70,7 @@ what_fields Leave = codes "leave" ∷ []
 -- the changes that were written
 abbrev pub changes_of : What → List Change
 changes_of (Write changes) = changes
-changes_of (Create name schema shape) = []
-changes_of (Memory table priority) = []
-changes_of (Begin mode) = []
-changes_of (Open cursor table) = []
-changes_of (Shut cursor) = []
-changes_of Commit = []
-changes_of Rollback = []
-changes_of (Build id table extent trickle) = []
-changes_of (Switch id) = []
-changes_of (Cancel id full) = []
-changes_of (Trickle n) = []
-changes_of (Evict table extent) = []
-changes_of Leave = []
+changes_of what = []
 
 -- a value: a number in decimal, a text as it is, NULL as nothing
 abbrev pub value_field : Value → List ℕ

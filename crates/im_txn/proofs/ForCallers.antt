@@ -1,5 +1,5 @@
 -- Each call keeps what is going on in agreement with the history, together with the entry that it goes with.
-use Rattle.std.proofs.Common.{◌≡◌, ℕ, suc, ◌+◌, ◌<◌, ◌≤◌, Bool, true, false, not, ◌==◌, ◌&&◌, List, [], ◌∷◌, ◌++◌, length, map, filter, count_by, All, get_or, Option, Some, None, is_some, ⊎_elim, refl, sym, ap, ◌∙◌, subst, arith, eq-eqb, ne_eqb, if◌then◌else◌, true≢false}
+use Rattle.std.proofs.Common.{◌≡◌, ℕ, suc, ◌+◌, ◌<◌, ◌≤◌, Bool, true, false, not, ◌==◌, ◌&&◌, ◌||◌, List, [], ◌∷◌, ◌++◌, length, map, filter, count_by, All, get_or, Option, Some, None, is_some, ⊎_elim, refl, sym, ap, ◌∙◌, subst, arith, eq-eqb, ne_eqb, if◌then◌else◌, true≢false}
 use Rattle.std.specs.List.{list_any, find}
 use Rattle.std.specs.Option.{option_map, option_or}
 use Rattle.std.proofs.lemmas.Bool.{cases_eq, false≢true}
@@ -10,9 +10,10 @@ use Rattle.im_values.specs.declared.limits.TheConstants.{NUMBERS}
 use Rattle.im_history.specs.declared.change.Change.{Change}
 use Rattle.im_history.specs.declared.entry.Mode.{Mode}
 use Rattle.im_history.specs.declared.entry.What.{What}
-use Rattle.im_history.specs.declared.entry.What.TheVariants.{Create, Memory, Begin, Open, Shut, Write, Commit, Rollback, Build, Switch, Cancel, Trickle, Evict, Leave}
+use Rattle.im_history.specs.declared.entry.What.TheVariants.{Begin, Open, Shut, Write, Commit, Rollback}
 use Rattle.im_history.specs.Cursors.{Opened, opened, is_cursor, cursor_at, is_cursor_open, cursors_open}
 use Rattle.im_history.specs.History.{History, replay}
+use Rattle.im_history.specs.Kinds.{marks_of}
 use Rattle.im_history.specs.declared.refused.Why.{Why}
 use Rattle.im_history.specs.declared.refused.Why.TheVariants.{RowLocked}
 use Rattle.im_history.specs.Refusals.{row_locked}
@@ -31,6 +32,7 @@ use Rattle.im_txn.proofs.AgreesLemmas.{Apart, Agrees-apart-by, Agrees-follows, L
 use Rattle.im_txn.proofs.CellLemmas.{HasCells-longer}
 use Rattle.im_txn.proofs.GivenLemmas.{pending-below}
 use Rattle.im_txn.proofs.LockLemmas.{Locked-write, Locked-end, holder-is}
+use Rattle.im_history.proofs.KindLaws.{begun-kept, cursors-kept, mode-kept, pending-kept}
 use Rattle.im_tables.proofs.Lists.{sum_by-part, find-none, find-map, is_some-find, list_any-map, count_by-map, filter-map, count_by-none, count_by-some, count_by-filter, length-filter-not}
 
 -- what a transaction that may begin here adds
@@ -53,6 +55,11 @@ opens-most (Some b) place old new n owed = omega (arith, owed)
 none-from : (o : Option ℕ) → is_some o ≡ false → o ≡ None
 none-from None free = refl
 none-from (Some n) free = absurd (true≢false free)
+
+neither : (a b : Bool) → not (a || b) ≡ true → (a ≡ false) × (b ≡ false)
+neither false false is = (refl, refl)
+neither false true is = absurd (false≢true is)
+neither true b is = absurd (false≢true is)
 
 and-false : (b : Bool) → b && false ≡ false
 and-false true = refl
@@ -177,19 +184,14 @@ Agrees-rollback h who old new agrees number ends =
     }) (Locked-end h who Rollback old new (λ so_far. refl) agrees number ends)
 
 apart-kinds : (what : What) → is_apart what ≡ true → Apart what
-apart-kinds (Create name schema shape) is =
-    record { changes = λ so_far. refl; began = λ place so_far. refl; modes = λ so_far. refl; cursors = λ before who so_far. refl }
-apart-kinds (Memory table priority) is =
-    record { changes = λ so_far. refl; began = λ place so_far. refl; modes = λ so_far. refl; cursors = λ before who so_far. refl }
-apart-kinds (Build id table extent trickle) is =
-    record { changes = λ so_far. refl; began = λ place so_far. refl; modes = λ so_far. refl; cursors = λ before who so_far. refl }
-apart-kinds (Switch id) is = record { changes = λ so_far. refl; began = λ place so_far. refl; modes = λ so_far. refl; cursors = λ before who so_far. refl }
-apart-kinds (Cancel id full) is = record { changes = λ so_far. refl; began = λ place so_far. refl; modes = λ so_far. refl; cursors = λ before who so_far. refl }
-apart-kinds (Trickle n) is = record { changes = λ so_far. refl; began = λ place so_far. refl; modes = λ so_far. refl; cursors = λ before who so_far. refl }
-apart-kinds (Evict table extent) is =
-    record { changes = λ so_far. refl; began = λ place so_far. refl; modes = λ so_far. refl; cursors = λ before who so_far. refl }
-apart-kinds Leave is = record { changes = λ so_far. refl; began = λ place so_far. refl; modes = λ so_far. refl; cursors = λ before who so_far. refl }
-apart-kinds _ is = absurd (false≢true is)
+apart-kinds what is =
+    let none = neither (marks_of what).transaction (marks_of what).cursors is
+    in record {
+      changes = λ so_far. pending-kept so_far what none.0;
+      began = λ place so_far. begun-kept place so_far what none.0;
+      modes = λ so_far. mode-kept so_far what none.0;
+      cursors = λ before who so_far. cursors-kept before who so_far what none.1;
+    }
 
 -- an entry of any other kind, with no call
 pub Agrees-apart : (h : History) (who : ℕ) (what : What) (standing : Standing) → is_apart what ≡ true → Agrees h standing →

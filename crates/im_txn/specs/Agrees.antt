@@ -1,11 +1,11 @@
 -- What is going on by a history.
-use Rattle.std.specs.Prelude.{◌≡◌, ℕ, suc, ◌+◌, ◌==◌, ◌≤◌, ◌<◌, Bool, true, false, length, map, count_by, if◌then◌else◌}
+use Rattle.std.specs.Prelude.{◌≡◌, ℕ, suc, ◌+◌, ◌==◌, ◌≤◌, ◌<◌, ◌||◌, not, Bool, length, map, count_by, if◌then◌else◌}
 use Rattle.std.specs.List.{range_with_len, sum_by}
 use Rattle.im_values.specs.declared.limits.TheConstants.{NUMBERS}
 use Rattle.im_history.specs.declared.entry.What.{What}
-use Rattle.im_history.specs.declared.entry.What.TheVariants.{Create, Memory, Begin, Open, Shut, Write, Commit, Rollback, Build, Switch, Cancel, Trickle, Evict, Leave}
 use Rattle.im_history.specs.Cursors.{Opened, opened}
 use Rattle.im_history.specs.History.{History}
+use Rattle.im_history.specs.Kinds.{marks_of}
 use Rattle.im_history.specs.Rows.{snapshot}
 use Rattle.im_history.specs.Tables.{given}
 use Rattle.im_history.specs.Touched.{touches}
@@ -45,17 +45,4 @@ pub record Agrees (history : History) (standing : Standing) : Type 0 where
 
 -- an entry of this kind changes nothing of what sessions have going on
 abbrev pub is_apart : What → Bool
-is_apart (Begin mode) = false
-is_apart (Open cursor table) = false
-is_apart (Shut cursor) = false
-is_apart (Write changes) = false
-is_apart Commit = false
-is_apart Rollback = false
-is_apart (Create name schema shape) = true
-is_apart (Memory table priority) = true
-is_apart (Build id table extent trickle) = true
-is_apart (Switch id) = true
-is_apart (Cancel id full) = true
-is_apart (Trickle n) = true
-is_apart (Evict table extent) = true
-is_apart Leave = true
+is_apart what = not ((marks_of what).transaction || (marks_of what).cursors)

@@ -7,6 +7,7 @@ use Rattle.im_history.specs.declared.limits.Limits.{Limits}
 use Rattle.im_history.specs.declared.task.Choice.{Choice}
 use Rattle.im_history.specs.declared.task.Task.{Task}
 use Rattle.im_history.specs.History.{History, behind}
+use Rattle.im_history.specs.Kinds.{marks_of}
 use Rattle.im_history.specs.Leaves.{leaves}
 use Rattle.im_history.specs.Queue.{build_of, next, task_of}
 use Rattle.im_history.specs.Units.{held_at, killed_of}
@@ -104,20 +105,8 @@ pub record HasWorked (who turns sessions : ℕ) (old : Known) (ended : Ended) (n
 
 -- the entry begins a build
 abbrev pub is_build : What → Bool
-is_build (Create name schema grid) = false
-is_build (Memory table priority) = false
-is_build (Begin mode) = false
-is_build (Open cursor table) = false
-is_build (Shut cursor) = false
-is_build (Write changes) = false
-is_build Commit = false
-is_build Rollback = false
 is_build (Build id table extent trickle) = true
-is_build (Switch id) = false
-is_build (Cancel id full) = false
-is_build (Trickle count) = false
-is_build (Evict table extent) = false
-is_build Leave = false
+is_build what = false
 
 -- how many builds a number began
 unfoldable pub builds_begun : History → ℕ → ℕ
@@ -159,20 +148,7 @@ IfSpent (ended.Over place) says = ⊤
 
 -- the entry begins a build or ends one
 abbrev pub is_building : What → Bool
-is_building (Create name schema grid) = false
-is_building (Memory table priority) = false
-is_building (Begin mode) = false
-is_building (Open cursor table) = false
-is_building (Shut cursor) = false
-is_building (Write changes) = false
-is_building Commit = false
-is_building Rollback = false
-is_building (Build id table extent trickle) = true
-is_building (Switch id) = true
-is_building (Cancel id full) = true
-is_building (Trickle count) = false
-is_building (Evict table extent) = false
-is_building Leave = false
+is_building what = (marks_of what).builds
 
 -- the history went on, by entries of others and by beginnings and ends of builds of this number
 pub record AddsBuilds (mine : ℕ → Bool) (who : ℕ) (old new : History) : Type 0 where

@@ -6,10 +6,10 @@ use Rattle.im_syntax.specs.declared.literal.Lit.{Lit}
 use Rattle.im_syntax.specs.declared.literal.Lit.TheVariants as lit
 
 -- a literal of the kind of a column, and no longer than it may be
-abbrev pub fits : Kind → Lit → Bool
-fits kind.Int (lit.Int n) = true
-fits kind.Int (lit.Text t) = false
-fits kind.Int lit.Null = true
-fits (kind.Text limit) (lit.Int n) = false
-fits (kind.Text limit) (lit.Text t) = nat_le (length t) limit
-fits (kind.Text limit) lit.Null = true
+abbrev pub literal_fits : Kind → Lit → Bool
+literal_fits kind.Int (lit.Int n) = true
+literal_fits kind.Int (lit.Text t) = false
+literal_fits kind.Int lit.Null = true
+literal_fits (kind.Text limit) (lit.Int n) = false
+literal_fits (kind.Text limit) (lit.Text t) = nat_le (length t) limit
+literal_fits (kind.Text limit) lit.Null = true
