@@ -1,5 +1,5 @@
 -- The creation of a table, and its joining of the column store.
-use Rattle.std.proofs.Common.{◌≡◌, ℕ, zero, suc, ◌+◌, ◌==◌, Bool, true, false, if◌then◌else◌, List, [], ◌∷◌, ◌++◌, length, Option, Some, None, is_some, refl, sym, ap, ◌∙◌, subst, arith}
+use Rattle.std.proofs.Common.{◌≡◌, ℕ, zero, suc, ◌+◌, true, false, List, [], ◌∷◌, ◌++◌, length, Option, Some, None, is_some, refl, sym, ap, ◌∙◌, subst, arith}
 use Rattle.std.specs.List.{list_any}
 use Rattle.std.specs.Prelude.{slice_get}
 use Rattle.im_core.specs.declared.answers.Made.{Made}
@@ -10,13 +10,13 @@ use Rattle.im_history.specs.declared.entry.What.TheVariants as what
 use Rattle.im_history.specs.declared.look.TableInfo.{TableInfo}
 use Rattle.im_history.specs.declared.refused.Refused.{Refused}
 use Rattle.im_history.specs.Commits.{scn}
-use Rattle.im_history.specs.Cursors.{is_cursor, is_cursor_open, opened}
+use Rattle.im_history.specs.Cursors.{is_cursor, is_cursor_open}
 use Rattle.im_history.specs.Grid.{Grid}
 use Rattle.im_history.specs.History.{History}
 use Rattle.im_history.specs.Legal.{MaySetMemory}
 use Rattle.im_history.specs.Refusals.{create_refusal}
 use Rattle.im_history.specs.Tables.{table_among, table_at, tables}
-use Rattle.im_history.specs.Transactions.{begun, is_open}
+use Rattle.im_history.specs.Transactions.{is_open}
 use Rattle.im_history.proofs.Laws.{tables-push}
 use Rattle.im_plan.specs.Plan.{Plan, End}
 use Rattle.im_reach.specs.Sides.{Added, Found, Known, speaks}

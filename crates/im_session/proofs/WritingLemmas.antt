@@ -1,5 +1,5 @@
 -- How a line that rewrites rows ends: with its write, refused or not, or with none.
-use Rattle.std.proofs.Common.{◌⊎◌, ◌≡◌, ℕ, ◌≤◌, ◌==◌, Bool, true, false, if◌then◌else◌, List, [], ◌∷◌, ◌++◌, length, Option, Some, None, refl, sym, ap, ◌∙◌, subst, inl, inr, arith}
+use Rattle.std.proofs.Common.{◌⊎◌, ◌≡◌, ℕ, ◌≤◌, true, List, [], ◌∷◌, ◌++◌, length, Option, Some, None, refl, sym, ap, ◌∙◌, subst, inl, inr, arith}
 use Rattle.std.specs.List.{list_any}
 use Rattle.im_core.specs.Answers.{IsRefusal, cursor_view}
 use Rattle.im_history.specs.declared.change.Change.{Change}
@@ -9,7 +9,7 @@ use Rattle.im_history.specs.declared.refused.Refused.{Refused}
 use Rattle.im_history.specs.declared.refused.Why.{Why}
 use Rattle.im_history.specs.declared.refused.Why.TheVariants as why
 use Rattle.im_history.specs.declared.view.View.{View}
-use Rattle.im_history.specs.Cursors.{is_cursor, is_cursor_open, opened}
+use Rattle.im_history.specs.Cursors.{is_cursor, is_cursor_open}
 use Rattle.im_history.specs.History.{History}
 use Rattle.im_history.specs.Refusals.{write_refusal}
 use Rattle.im_plan.specs.Goes.{After}
