@@ -16,6 +16,7 @@ use Rattle.im_history.specs.Serving.{fetched_by, fetched_in, serving, serving_co
 use Rattle.im_history.specs.Units.{Content, content_at, stale}
 use Rattle.im_plan.specs.Plan.{Plan}
 use Rattle.im_reach.specs.Sides.{Known, speaks}
+use Rattle.im_replies.specs.declared.served.How.{How}
 use Rattle.im_replies.specs.declared.served.How.TheVariants.{Unit as ByUnit}
 use Rattle.im_replies.specs.declared.served.Served.{Served}
 use Rattle.im_replies.specs.Mixes.{mix, mix_by, reads}
@@ -34,7 +35,7 @@ use Rattle.im_session.proofs.ReadsLemmas.{more-read, reads-read}
 use Rattle.im_session.proofs.ScanLemmas.{asks-went, longer-went, scan-went, stops-went, view-scan}
 use Rattle.im_session.proofs.TableLemmas.{asks-of}
 use Rattle.im_statements.specs.Outcomes.{Outcome}
-use Rattle.im_statements.specs.Scans.{serve, serve_from}
+use Rattle.im_statements.specs.Scans.{mark_at, serve, serve_from}
 use Rattle.im_syntax.specs.declared.bound.Bound.{Bound}
 use Rattle.im_syntax.specs.Condition.{CondOf}
 use Rattle.im_values.specs.declared.value.Value.{Value}
@@ -95,10 +96,23 @@ how-read h view extent filter = by (serving h view extent)
     by None = refl
     by (Some unit_scn) = ap (ByUnit unit_scn) (length-map (stale h view.table extent unit_scn view.scn) _)
 
+pub mark-read : (h : History) (view : View) (extent place : ℕ) (filter : Option (CondOf ℕ Value)) (unit : Option Content)
+    (fetched : List (ℕ × Option Row)) (mark : Served) → IsRead h view extent place unit fetched
+    → mark ≡ record { place = place; extent = extent; how = how_of unit fetched } → mark ≡ mark_at h view filter extent
+mark-read h view extent place filter unit fetched mark read is =
+    is
+    ∙ rw (read.place_is, read.unit_is, read.fetched_is)
+    (ap (λ (how : How). record { place = length h; extent = extent; how = how }) (how-read h view extent filter))
+
 -- and so many rows were read from the blocks for it
 pub rows-read : (h : History) (view : View) (extent place : ℕ) (unit : Option Content) (fetched : List (ℕ × Option Row))
     → IsRead h view extent place unit fetched → reads view extent (how_of unit fetched) ≡ length fetched
 rows-read h view extent place unit fetched read = rw (read.unit_is, read.fetched_is) (reads-read h view extent)
+
+pub rows-mark : (h : History) (view : View) (extent place before after : ℕ) (unit : Option Content) (fetched : List (ℕ × Option Row)) (mark : Served)
+    → IsRead h view extent place unit fetched → mark ≡ record { place = place; extent = extent; how = how_of unit fetched }
+    → after ≤ before + length fetched → after ≤ before + reads view extent mark.how
+rows-mark h view extent place before after unit fetched mark read is few = rw (is, rows-read h view extent place unit fetched read) few
 
 -- ---- parts
 

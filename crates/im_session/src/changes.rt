@@ -19,10 +19,12 @@ pub fn changes_to(
 {
     let mut changes = Vec::with_capacity(alloc, rows.len())?;
     for (rid, row) in rows {
+        let made = rewritten(alloc, rewriting, &row);
+        drop(row);
         changes.push(Change {
             table,
             rid,
-            row: rewritten(alloc, rewriting, &row)?,
+            row: made?,
         })?;
     }
     Ok(changes)

@@ -1,12 +1,10 @@
-use std::alloc::Global;
+use im_edge::Outside;
 
 /// What a session plays its statements with.
 #[derive(Drop)]
 pub struct Context<'a, R, G> {
-    pub alloc: Global,
-    pub rt: &'a R,
-    /// It is called before and after each extent that a scan is served.
-    pub gate: &'a G,
+    /// What it has of the outside.
+    pub outside: &'a Outside<'a, R, G>,
     /// The number of the session.
     pub who: u32,
 }

@@ -70,13 +70,14 @@ pub fn open_cursor<R: Wait, H: Reach<ColumnUnit>, G: Gate>(
     ensures lawful { IfOk result (λ cursor. IsLawful (H.known reach.new).limits (H.known reach.new).log) }
     ensures err { IfErr result (λ refused. inner.IsUnopened context.now.who number refused (H.known reach.old) (H.known reach.new)) }
 {
-    let Ok(part) = Partial::of_lent(context.alloc, &bound, &[]) else {
+    let Ok(part) = Partial::of_lent(context.outside.alloc, &bound, &[]) else {
+        drop(bound);
         return Err(Refused {
             place: 0,
             why: Why::NoMemory,
         });
     };
-    match reach.open_cursor(context.rt, context.who, number, bound.table) {
+    match reach.open_cursor(context.outside.rt, context.who, number, bound.table) {
         Ok(view) => Ok(Cursor {
             number,
             bound,
@@ -84,7 +85,11 @@ pub fn open_cursor<R: Wait, H: Reach<ColumnUnit>, G: Gate>(
             next: 0,
             part,
         }),
-        Err(refused) => Err(refused),
+        Err(refused) => {
+            drop(bound);
+            drop(part);
+            Err(refused)
+        }
     }
 }
 
@@ -107,7 +112,7 @@ pub fn open_query<R: Wait, H: Reach<ColumnUnit>, G: Gate>(
     match open_cursor(context, reach, number, bound) {
         Ok(cursor) => OpenOutcome {
             reply: Reply::settled(
-                context.alloc,
+                context.outside.alloc,
                 cursor.view.place,
                 Body::Opened {
                     cursor: number,
@@ -118,7 +123,12 @@ pub fn open_query<R: Wait, H: Reach<ColumnUnit>, G: Gate>(
             cursor: Some(cursor),
         },
         Err(refused) => OpenOutcome {
-            reply: refused_reply(context.alloc, Aim::Opening { cursor: number }, 0, refused),
+            reply: refused_reply(
+                context.outside.alloc,
+                Aim::Opening { cursor: number },
+                0,
+                refused,
+            ),
             cursor: None,
         },
     }
@@ -135,9 +145,9 @@ pub fn close<R: Wait, H: Reach<ColumnUnit>, G: Gate>(
     requires agrees { inner.IsKept context.now.who kept.now (H.known reach.old) }
     ensures { IsRest context.now.who 0 (H.known reach.old) (plan.close_query kept.now.number) (Replied result (Closes kept.now.number)) (H.known reach.new) }
 {
-    let place = reach.shut(context.rt, context.who, kept.number);
+    let place = reach.shut(context.outside.rt, context.who, kept.number);
     Reply::settled(
-        context.alloc,
+        context.outside.alloc,
         place,
         Body::Closed {
             cursor: kept.number,
@@ -174,14 +184,14 @@ pub fn fetch<R: Wait, H: Reach<ColumnUnit>, G: Gate, L: Ledger>(
 {
     match answer_scan(context, reach, kept, steps) {
         Ok(answered) => {
-            reach.shut(context.rt, context.who, kept.number);
+            reach.shut(context.outside.rt, context.who, kept.number);
             FetchOutcome {
                 reply: answered.reply(look.place, kept.view.scn),
                 closed: true,
             }
         }
         Err(_) => FetchOutcome {
-            reply: out_of_memory(context.alloc, 0),
+            reply: out_of_memory(context.outside.alloc, 0),
             closed: false,
         },
     }
@@ -217,7 +227,7 @@ pub fn step<R: Wait, H: Reach<ColumnUnit>, G: Gate, L: Ledger>(
     if kept.next >= kept.view.extents {
         return StepOutcome {
             reply: Reply::settled(
-                context.alloc,
+                context.outside.alloc,
                 look.place,
                 Body::End {
                     cursor: kept.number,
@@ -228,9 +238,9 @@ pub fn step<R: Wait, H: Reach<ColumnUnit>, G: Gate, L: Ledger>(
     }
     let next = kept.next;
     match served_part(context, reach, kept, next, Wanted::Parts, steps) {
-        Ok(served) => take(context.alloc, kept, served, next + 1),
+        Ok(served) => take(context.outside.alloc, kept, served, next + 1),
         Err(_) => StepOutcome {
-            reply: out_of_memory(context.alloc, 0),
+            reply: out_of_memory(context.outside.alloc, 0),
             served: false,
         },
     }

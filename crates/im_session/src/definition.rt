@@ -64,9 +64,9 @@ fn join_memory<R: Wait, H: Reach<ColumnUnit>, G: Gate>(
         (decide_by (λ here. what.Memory made.table (Some priority)) (λ here. End (said (inner.created_reply made)))) (said result)
         (H.known reach.new) }
 {
-    match reach.set_memory(context.rt, context.who, made.table, Some(priority)) {
-        Ok(_) => created(context.alloc, made),
-        Err(_) => out_of_memory(context.alloc, entries),
+    match reach.set_memory(context.outside.rt, context.who, made.table, Some(priority)) {
+        Ok(_) => created(context.outside.alloc, made),
+        Err(_) => out_of_memory(context.outside.alloc, entries),
     }
 }
 
@@ -94,16 +94,16 @@ pub fn create<R: Wait, H: Reach<ColumnUnit>, G: Gate>(
         shape,
         memory,
     } = table;
-    let Ok(told) = name.copy(context.alloc) else {
-        return out_of_memory(context.alloc, entries);
+    let Ok(told) = name.copy(context.outside.alloc) else {
+        return out_of_memory(context.outside.alloc, entries);
     };
-    match reach.create(context.rt, context.who, name, schema, shape) {
+    match reach.create(context.outside.rt, context.who, name, schema, shape) {
         Ok(made) => match memory {
-            None => created(context.alloc, made),
+            None => created(context.outside.alloc, made),
             Some(priority) => join_memory(context, reach, made, priority, entries + 1),
         },
         Err(refused) => refused_reply(
-            context.alloc,
+            context.outside.alloc,
             Aim::Creating { name: told },
             entries,
             refused,
@@ -126,8 +126,8 @@ pub fn alter<R: Wait, H: Reach<ColumnUnit>, G: Gate>(
     requires may { MaySetMemory (H.known reach.old).log context.now.who table }
     ensures { IsRest context.now.who entries (H.known reach.old) (plan.alter_table table priority) (said result) (H.known reach.new) }
 {
-    match reach.set_memory(context.rt, context.who, table, priority) {
-        Ok(place) => Reply::settled(context.alloc, place, Body::Altered { table }),
-        Err(_) => out_of_memory(context.alloc, entries),
+    match reach.set_memory(context.outside.rt, context.who, table, priority) {
+        Ok(place) => Reply::settled(context.outside.alloc, place, Body::Altered { table }),
+        Err(_) => out_of_memory(context.outside.alloc, entries),
     }
 }

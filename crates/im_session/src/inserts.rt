@@ -31,15 +31,15 @@ pub fn insert<R: Wait, H: Reach<ColumnUnit>, G: Gate>(
         (H.known reach.new) }
 {
     let count = rows.len() as u64;
-    match reach.insert(context.rt, context.who, table, rows) {
+    match reach.insert(context.outside.rt, context.who, table, rows) {
         Ok(wrote) => Reply::settled(
-            context.alloc,
+            context.outside.alloc,
             wrote.place,
             Body::Inserted {
                 rows: count,
                 first: wrote.first,
             },
         ),
-        Err(refused) => refused_reply(context.alloc, Aim::Plain, 0, refused),
+        Err(refused) => refused_reply(context.outside.alloc, Aim::Plain, 0, refused),
     }
 }

@@ -59,12 +59,20 @@ pub fn run<R: Wait, H: Reach<ColumnUnit>, G: Gate, L: Ledger>(
     if is_definition(statement) {
         return define(context, reach, statement);
     }
-    let Ok(look) = reach.look(context.rt, context.who) else {
-        return out_of_memory(context.alloc, 0);
+    let Ok(look) = reach.look(context.outside.rt, context.who) else {
+        return out_of_memory(context.outside.alloc, 0);
     };
-    match resolve(context.alloc, statement, &look) {
-        Ok(resolved) => play(context, reach, kept, &look, resolved, steps),
-        Err(fault) => name_reply(context.alloc, 0, look.place, fault),
+    match resolve(context.outside.alloc, statement, &look) {
+        Ok(resolved) => {
+            let reply = play(context, reach, kept, &look, resolved, steps);
+            drop(look);
+            reply
+        }
+        Err(fault) => {
+            let place = look.place;
+            drop(look);
+            name_reply(context.outside.alloc, 0, place, fault)
+        }
     }
 }
 
@@ -118,7 +126,11 @@ fn play<R: Wait, H: Reach<ColumnUnit>, G: Gate, L: Ledger>(
         | Resolved::Switch
         | Resolved::Cancel
         | Resolved::Trickle(_)
-        | Resolved::Evict { .. } => Reply::settled(context.alloc, look.place, Body::Nothing),
+        | Resolved::Evict { .. } => Reply::settled(
+            context.outside.alloc,
+            look.place,
+            Body::Nothing,
+        ),
         Resolved::Create { .. } | Resolved::Memory { .. } => unreachable!(),
     }
 }
@@ -139,7 +151,7 @@ fn open<R: Wait, H: Reach<ColumnUnit>, G: Gate>(
         kept.new.items (H.known reach.new) }
 {
     if kept.reserve(1).is_err() {
-        return out_of_memory(context.alloc, 0);
+        return out_of_memory(context.outside.alloc, 0);
     }
     let OpenOutcome { reply, cursor } = open_query(context, reach, number, bound);
     match cursor {
@@ -182,7 +194,7 @@ fn on_cursor<R: Wait, H: Reach<ColumnUnit>, G: Gate, L: Ledger>(
         (H.known reach.new).log }
 {
     let Some(at) = place_of(kept.as_slice(), number) else {
-        return unknown(context.alloc, look, number);
+        return unknown(context.outside.alloc, look, number);
     };
     match usage {
         Use::Step => step(context, reach, look, &mut kept[at], steps).reply,

@@ -24,7 +24,11 @@ fn refused_with(alloc: Global, k: u64, marks: List<Served>, refused: Refused, fa
     ensures { result ≡ refused_so k refused.place marks fault refused.why }
 {
     match refused.why {
-        Why::NoMemory => out_of_memory(alloc, k),
+        Why::NoMemory => {
+            drop(marks);
+            drop(fault);
+            out_of_memory(alloc, k)
+        }
         _ => Reply {
             place: Some(refused.place),
             marks,

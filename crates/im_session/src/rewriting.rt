@@ -55,7 +55,15 @@ pub fn rewrite<R: Wait, H: Reach<ColumnUnit>, G: Gate, L: Ledger>(
     ensures ticks { (state : State) → IsCounted Own state context.now.who result steps.old steps.new (H.known reach.old).log (H.known reach.new).log }
 {
     match look.mode {
-        Mode::ReadOnly => Reply::settled(context.alloc, look.place, Body::Error(Fault::ReadOnly)),
+        Mode::ReadOnly => {
+            drop(filter);
+            drop(rewriting);
+            Reply::settled(
+                context.outside.alloc,
+                look.place,
+                Body::Error(Fault::ReadOnly),
+            )
+        }
         Mode::Committed | Mode::Serializable => {
             rewrite_rows(context, reach, table, filter, rewriting, steps)
         }
@@ -79,7 +87,7 @@ fn rewrite_rows<R: Wait, H: Reach<ColumnUnit>, G: Gate, L: Ledger>(
         (plan.rewrite (H.known reach.old).limits context.now.who table filter rewriting) (said result) (H.known reach.new) }
     ensures ticks { (state : State) → IsCounted Own state context.now.who result steps.old steps.new (H.known reach.old).log (H.known reach.new).log }
 {
-    let bound = condition_query(context.alloc, table, filter);
+    let bound = condition_query(context.outside.alloc, table, filter);
     scan(context, reach, bound, Purpose::Rewrite(rewriting), steps)
 }
 
@@ -117,7 +125,7 @@ pub fn rewrite_seen<R: Wait, H: Reach<ColumnUnit>, G: Gate, L: Ledger>(
             let rows = gathered.part.into_rows();
             rewrite_kept(context, reach, &cursor.view, marks, rows, rewriting)
         }
-        Err(_) => out_of_memory(context.alloc, 1),
+        Err(_) => out_of_memory(context.outside.alloc, 1),
     }
 }
 
@@ -143,9 +151,9 @@ fn rewrite_kept<R: Wait, H: Reach<ColumnUnit>, G: Gate>(
     ensures longer { Longer (H.known reach.old) (H.known reach.new) }
     ensures marks { (result.marks ≡ marks) ⊎ IsOutOfMemory result }
 {
-    match changes_to(context.alloc, view.table, rewriting, rows) {
+    match changes_to(context.outside.alloc, view.table, rewriting, rows) {
         Ok(changes) => write_changes(context, reach, view, marks, changes, rewriting),
-        Err(_) => out_of_memory(context.alloc, 1),
+        Err(_) => out_of_memory(context.outside.alloc, 1),
     }
 }
 
@@ -178,12 +186,12 @@ fn write_changes<R: Wait, H: Reach<ColumnUnit>, G: Gate>(
         };
     }
     let rows = changes.len() as u64;
-    match reach.write(context.rt, context.who, 0, changes) {
+    match reach.write(context.outside.rt, context.who, 0, changes) {
         Ok(place) => Reply {
             place: Some(place),
             marks,
             body: rewriting.written(rows),
         },
-        Err(refused) => write_refused(context.alloc, marks, refused),
+        Err(refused) => write_refused(context.outside.alloc, marks, refused),
     }
 }

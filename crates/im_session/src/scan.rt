@@ -14,7 +14,7 @@ use crate::context::Context;
 use crate::cursor::{Cursor, open_cursor};
 use crate::refusals::{out_of_memory, refused_reply};
 use crate::rewriting::rewrite_seen;
-use crate::serving::{Wanted, answer_scan, gather};
+use crate::serving::{Gathered, Wanted, answer_scan, gather};
 use im_edge::Gate;
 use im_reach::Reach;
 use im_replies::{Aim, Body, How, Reply, Served};
@@ -61,10 +61,20 @@ pub fn scan<R: Wait, H: Reach<ColumnUnit>, G: Gate, L: Ledger>(
     match open_cursor(context, reach, 0, bound) {
         Ok(cursor) => {
             let reply = use_scan(context, reach, &cursor, &purpose, steps);
-            reach.shut(context.rt, context.who, 0);
+            drop(cursor);
+            drop(purpose);
+            reach.shut(context.outside.rt, context.who, 0);
             reply
         }
-        Err(refused) => refused_reply(context.alloc, Aim::Opening { cursor: 0 }, 0, refused),
+        Err(refused) => {
+            drop(purpose);
+            refused_reply(
+                context.outside.alloc,
+                Aim::Opening { cursor: 0 },
+                0,
+                refused,
+            )
+        }
     }
 }
 
@@ -104,7 +114,7 @@ fn answer_seen<R: Wait, H: Reach<ColumnUnit>, G: Gate, L: Ledger>(
 {
     match answer_scan(context, reach, cursor, steps) {
         Ok(answered) => answered.reply(cursor.view.place, cursor.view.scn),
-        Err(_) => out_of_memory(context.alloc, 1),
+        Err(_) => out_of_memory(context.outside.alloc, 1),
     }
 }
 
@@ -122,18 +132,20 @@ fn explain_seen<R: Wait, H: Reach<ColumnUnit>, G: Gate, L: Ledger>(
     ensures ticks { (state : State) → IsCounted Own state context.now.who result steps.old steps.new (H.known reach.old).log (H.known reach.new).log }
 {
     let Ok(gathered) = gather(context, reach, cursor, Wanted::Marks, steps) else {
-        return out_of_memory(context.alloc, 1);
+        return out_of_memory(context.outside.alloc, 1);
     };
-    match explanation(context.alloc, gathered.marks.as_slice()) {
+    let Gathered { marks, part } = gathered;
+    drop(part);
+    match explanation(context.outside.alloc, marks.as_slice()) {
         Ok(served) => Reply {
             place: Some(cursor.view.place),
-            marks: List::of(gathered.marks),
+            marks: List::of(marks),
             body: Body::Plan {
                 scn: cursor.view.scn,
                 served,
             },
         },
-        Err(_) => out_of_memory(context.alloc, 1),
+        Err(_) => out_of_memory(context.outside.alloc, 1),
     }
 }
 

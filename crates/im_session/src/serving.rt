@@ -68,9 +68,10 @@ fn read<R: Wait, H: Reach<ColumnUnit>, G: Gate, L: Ledger>(
         cursor: cursor.number,
         extent,
     };
-    context.gate.before(context.rt, context.who, at);
-    let pinned = reach.pin(context.rt, context.who, cursor.number, extent, steps);
-    context.gate.after(context.who, at);
+    let (outside, who) = (context.outside, context.who);
+    outside.gate.before(outside.rt, who, at);
+    let pinned = reach.pin(outside.rt, who, cursor.number, extent, steps);
+    outside.gate.after(who, at);
     match pinned {
         Ok(pin) => Ok(pin),
         Err(_) => Err(NoMemory),
@@ -120,15 +121,18 @@ pub fn served_part<R: Wait, H: Reach<ColumnUnit>, G: Gate, L: Ledger>(
     ensures rows { IfOk result (λ served. steps.new ≤ steps.old + reads cursor.now.view extent served.mark.how) }
 {
     let pin = read(context, reach, cursor, extent, steps)?;
-    let (alloc, view, bound) = (context.alloc, &cursor.view, &cursor.bound);
+    let (alloc, view, bound) = (context.outside.alloc, &cursor.view, &cursor.bound);
     let mark = mark(&pin, extent, bound);
     match wanted {
         Wanted::Parts => {
             let rows = pin.fetched.items();
-            let part = part(alloc, face(&pin, bound), rows, view, extent, bound)?;
+            let made = part(alloc, face(&pin, bound), rows, view, extent, bound);
+            drop(pin);
+            let part = made?;
             Ok(ServedPart { mark, part })
         }
         Wanted::Marks => {
+            drop(pin);
             let part = Partial::of_lent(alloc, bound, &[])?;
             Ok(ServedPart { mark, part })
         }
@@ -181,8 +185,8 @@ pub fn gather<R: Wait, H: Reach<ColumnUnit>, G: Gate, L: Ledger>(
     ensures rows { IfOk result (λ gathered. steps.new ≤ steps.old + reads_of cursor.now.view gathered.marks.items) }
 {
     let mut gathered = Gathered {
-        marks: Vec::new(context.alloc),
-        part: cursor.part.copy(context.alloc)?,
+        marks: Vec::new(context.outside.alloc),
+        part: cursor.part.copy(context.outside.alloc)?,
     };
     for extent in cursor.next..cursor.view.extents {
         let served = served_part(context, reach, cursor, extent, wanted, steps)?;
@@ -237,7 +241,7 @@ pub fn answer_scan<R: Wait, H: Reach<ColumnUnit>, G: Gate, L: Ledger>(
 {
     let gathered = gather(context, reach, cursor, Wanted::Parts, steps)?;
     let Gathered { marks, part } = gathered;
-    let records = part.finish(context.alloc, &cursor.bound)?;
+    let records = part.finish(context.outside.alloc, &cursor.bound)?;
     Ok(Answered {
         marks: List::of(marks),
         records: Records::of(records),

@@ -84,9 +84,7 @@ impl Session {
     {
         let before = self.in_transaction;
         let context = Context {
-            alloc: self.alloc,
-            rt: outside.rt,
-            gate: outside.gate,
+            outside,
             who: self.who,
         };
         let reply = run(&context, reach, &mut self.cursors, statement, steps);

@@ -39,15 +39,15 @@ pub fn define<R: Wait, H: Reach<ColumnUnit>, G: Gate>(
     ensures { (state : State) → IsRest context.now.who 0 (H.known reach.old) (plan.definition_plan (H.known reach.old).limits context.now.who state statement.now)
         (said result) (H.known reach.new) }
 {
-    let Ok(look) = reach.look(context.rt, context.who) else {
-        return out_of_memory(context.alloc, 0);
+    let Ok(look) = reach.look(context.outside.rt, context.who) else {
+        return out_of_memory(context.outside.alloc, 0);
     };
     if look.begun.is_none() {
         return define_named(context, reach, statement, &look, 0);
     }
-    match reach.commit(context.rt, context.who) {
+    match reach.commit(context.outside.rt, context.who) {
         Ok(_) => define_later(context, reach, statement),
-        Err(_) => out_of_memory(context.alloc, 0),
+        Err(_) => out_of_memory(context.outside.alloc, 0),
     }
 }
 
@@ -66,9 +66,9 @@ fn define_later<R: Wait, H: Reach<ColumnUnit>, G: Gate>(
     ensures { (state : State) → IsRest context.now.who 1 (H.known reach.old) (plan.looked_up (H.known reach.old).limits context.now.who state statement.now)
         (said result) (H.known reach.new) }
 {
-    match reach.look(context.rt, context.who) {
+    match reach.look(context.outside.rt, context.who) {
         Ok(look) => define_named(context, reach, statement, &look, 1),
-        Err(_) => out_of_memory(context.alloc, 1),
+        Err(_) => out_of_memory(context.outside.alloc, 1),
     }
 }
 
@@ -91,9 +91,9 @@ fn define_named<R: Wait, H: Reach<ColumnUnit>, G: Gate>(
     ensures { (state : State) → IsRest context.now.who entries (H.known reach.old)
         (plan.named_plan (H.known reach.old).limits context.now.who state statement.now (H.known reach.old).log) (said result) (H.known reach.new) }
 {
-    match resolve(context.alloc, statement, look) {
+    match resolve(context.outside.alloc, statement, look) {
         Ok(resolved) => define_resolved(context, reach, resolved, entries),
-        Err(fault) => name_reply(context.alloc, entries, look.place, fault),
+        Err(fault) => name_reply(context.outside.alloc, entries, look.place, fault),
     }
 }
 

@@ -30,9 +30,13 @@ pub fn set_mode<R: Wait, H: Reach<ColumnUnit>, G: Gate>(
     requires shut { is_cursor_open (H.known reach.old).log context.now.who 0 ≡ false }
     ensures { IsRest context.now.who 0 (H.known reach.old) (plan.set_mode context.now.who mode) (said result) (H.known reach.new) }
 {
-    match reach.begin(context.rt, context.who, mode) {
-        Ok(begun) => Reply::settled(context.alloc, begun.place, Body::Begun { scn: begun.scn }),
-        Err(refused) => refused_reply(context.alloc, Aim::Plain, 0, refused),
+    match reach.begin(context.outside.rt, context.who, mode) {
+        Ok(begun) => Reply::settled(
+            context.outside.alloc,
+            begun.place,
+            Body::Begun { scn: begun.scn },
+        ),
+        Err(refused) => refused_reply(context.outside.alloc, Aim::Plain, 0, refused),
     }
 }
 
@@ -46,9 +50,13 @@ pub fn commit<R: Wait, H: Reach<ColumnUnit>, G: Gate>(
     requires shut { is_cursor_open (H.known reach.old).log context.now.who 0 ≡ false }
     ensures { IsRest context.now.who 0 (H.known reach.old) plan.commit (said result) (H.known reach.new) }
 {
-    match reach.commit(context.rt, context.who) {
-        Ok(done) => Reply::settled(context.alloc, done.place, Body::Committed { scn: done.scn }),
-        Err(_) => out_of_memory(context.alloc, 0),
+    match reach.commit(context.outside.rt, context.who) {
+        Ok(done) => Reply::settled(
+            context.outside.alloc,
+            done.place,
+            Body::Committed { scn: done.scn },
+        ),
+        Err(_) => out_of_memory(context.outside.alloc, 0),
     }
 }
 
@@ -64,11 +72,11 @@ pub fn roll_back<R: Wait, H: Reach<ColumnUnit>, G: Gate>(
     ensures { IsRest context.now.who 0 (H.known reach.old) (plan.roll_back context.now.who (H.known reach.old).log) (said result) (H.known reach.new) }
 {
     if look.begun.is_none() {
-        return Reply::settled(context.alloc, look.place, Body::RolledBack);
+        return Reply::settled(context.outside.alloc, look.place, Body::RolledBack);
     }
     Reply::settled(
-        context.alloc,
-        reach.rollback(context.rt, context.who),
+        context.outside.alloc,
+        reach.rollback(context.outside.rt, context.who),
         Body::RolledBack,
     )
 }

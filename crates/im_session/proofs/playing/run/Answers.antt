@@ -21,34 +21,34 @@ returns-in_default-clause-run g c =
     c.requires.agrees (g.H.Reach.known c.look.new.self) _ c.args.statement.now
     c.requires.speaks c.in_default.ensures.err)
 
-pub play-requires-clause-agrees : goal.play-requires-clause-agrees
-play-requires-clause-agrees g c =
+pub play-reply-requires-clause-agrees : goal.play-reply-requires-clause-agrees
+play-reply-requires-clause-agrees g c =
     kept-found c.args.context.now.who c.args.kept.now.items
     (g.H.Reach.known c.args.reach.now) (g.H.Reach.known c.look.new.self) _ c.requires.speaks c.requires.agrees
     c.in-Ok.ensures.ok
 
-pub play-requires-clause-shut : goal.play-requires-clause-shut
-play-requires-clause-shut g c =
+pub play-reply-requires-clause-shut : goal.play-reply-requires-clause-shut
+play-reply-requires-clause-shut g c =
     (kept-found c.args.context.now.who c.args.kept.now.items
     (g.H.Reach.known c.args.reach.now) (g.H.Reach.known c.look.new.self) _ c.requires.speaks c.requires.agrees
     c.in-Ok.ensures.ok).cursors.closed
 
-pub play-requires-clause-other : goal.play-requires-clause-other
-play-requires-clause-other g c =
+pub play-reply-requires-clause-other : goal.play-reply-requires-clause-other
+play-reply-requires-clause-other g c =
     defines-resolved c.in-Ok.look.tables c.args.statement.now c.in-Ok-resolve.resolved c.in-Ok-resolve.ensures.ok
     ∙ (sym c.is_definition.ensures ∙ c.if-is_definition.false)
 
 pub returns-in-Ok-resolve-clause-run : goal.returns-in-Ok-resolve-clause-run
 returns-in-Ok-resolve-clause-run g c =
     run-looked c.args.context.now.who c.args.kept.now.items c.args.statement.now (g.H.Reach.known c.args.reach.now) (g.H.Reach.known c.look.new.self)
-    (g.H.Reach.known c.play.new.reach) _ c.in-Ok.look c.in-Ok-resolve.resolved _ _ (sym c.is_definition.ensures ∙ c.if-is_definition.false)
+    (g.H.Reach.known c.play-reply.new.reach) _ c.in-Ok.look c.in-Ok-resolve.resolved _ _ (sym c.is_definition.ensures ∙ c.if-is_definition.false)
     c.in-Ok.ensures.ok
     (went-log (g.H.Reach.known c.args.reach.now) (g.H.Reach.known c.look.new.self)
     (λ at. c.in-Ok.look ≡ look_at at c.args.context.now.who) c.in-Ok.ensures.ok)
-    c.in-Ok-resolve.ensures.ok c.play.ensures.run
+    c.in-Ok-resolve.ensures.ok c.play-reply.ensures.run
 
-pub returns-clause-run : goal.returns-clause-run
-returns-clause-run g c =
+pub returns-in-Err-clause-run : goal.returns-in-Err-clause-run
+returns-in-Err-clause-run g c =
     rw c.name_reply.ensures
     (run-misnamed c.args.context.now.who c.args.kept.now.items (g.H.Reach.known c.args.reach.now)
     c.requires.agrees (g.H.Reach.known c.look.new.self) c.args.statement.now c.in-Ok.look c.in-Err.fault
@@ -60,8 +60,8 @@ returns-then-is_definition-clause-ticks g c = Unread (omega arith)
 pub returns-in_default-clause-ticks : goal.returns-in_default-clause-ticks
 returns-in_default-clause-ticks g c = Unread (omega arith)
 
-pub returns-clause-ticks : goal.returns-clause-ticks
-returns-clause-ticks g c = Unread (omega arith)
+pub returns-in-Err-clause-ticks : goal.returns-in-Err-clause-ticks
+returns-in-Err-clause-ticks g c = Unread (omega arith)
 
 pub returns-in-Ok-resolve-clause-ticks : goal.returns-in-Ok-resolve-clause-ticks
 returns-in-Ok-resolve-clause-ticks g c =
@@ -69,8 +69,8 @@ returns-in-Ok-resolve-clause-ticks g c =
     let state = state_of c.args.kept.now.items in
     let old = g.H.Reach.known c.args.reach.now in
     let looked = g.H.Reach.known c.look.new.self in
-    let new = g.H.Reach.known c.play.new.reach in
-    counted-within (reading_of c.args.statement.now) state who c.play.result c.args.steps.now c.play.new.steps old looked new new
+    let new = g.H.Reach.known c.play-reply.new.reach in
+    counted-within (reading_of c.args.statement.now) state who c.play-reply.result c.args.steps.now c.play-reply.new.steps old looked new new
     (longer-found old looked _ c.in-Ok.ensures.ok) (longer-same new)
-    (subst (λ (reading : Reading). IsCounted reading state who c.play.result c.args.steps.now c.play.new.steps looked.log new.log)
-    (reading-resolved c.in-Ok.look.tables c.args.statement.now c.in-Ok-resolve.resolved c.in-Ok-resolve.ensures.ok) c.play.ensures.ticks)
+    (subst (λ (reading : Reading). IsCounted reading state who c.play-reply.result c.args.steps.now c.play-reply.new.steps looked.log new.log)
+    (reading-resolved c.in-Ok.look.tables c.args.statement.now c.in-Ok-resolve.resolved c.in-Ok-resolve.ensures.ok) c.play-reply.ensures.ticks)

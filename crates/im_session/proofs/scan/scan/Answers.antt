@@ -36,8 +36,8 @@ returns-in-Ok-clause-rest g c =
     c.use_scan-reply.ensures.used
     (shut-added c.args.context.now.who (g.H.Reach.known c.use_scan-reply.new.reach) (g.H.Reach.known c.shut.new.self) _ c.shut.ensures.added)
 
-pub returns-clause-rest : goal.returns-clause-rest
-returns-clause-rest g c =
+pub returns-in-Err-clause-rest : goal.returns-in-Err-clause-rest
+returns-in-Err-clause-rest g c =
     let who = c.args.context.now.who in
     let bound = c.args.bound in
     let limits = (g.H.Reach.known c.args.reach.now).limits in
@@ -59,5 +59,5 @@ returns-in-Ok-clause-ticks g c = λ state.
     (longer-added who old opened _ _ c.in-Ok.ensures.opened.added) (longer-added who used new _ _ c.shut.ensures.added)
     (c.use_scan-reply.ensures.ticks state)
 
-pub returns-clause-ticks : goal.returns-clause-ticks
-returns-clause-ticks g c = λ state. Unread (omega arith)
+pub returns-in-Err-clause-ticks : goal.returns-in-Err-clause-ticks
+returns-in-Err-clause-ticks g c = λ state. Unread (omega arith)

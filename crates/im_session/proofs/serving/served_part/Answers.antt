@@ -1,35 +1,37 @@
-use Rattle.std.proofs.Common.{◌≡◌, ◌∙◌, ap, length, sym, subst}
+use Rattle.std.proofs.Common.{◌≡◌, ◌∙◌, ap, sym, subst}
 use Rattle.std.specs.Arc.{arc_value}
 use Rattle.std.specs.List.{AllByRecursion}
 use Rattle.std.specs.Option.{ForSome, option_map}
 use Rattle.im_group.specs.Partials.{partial}
-use Rattle.im_replies.specs.declared.served.How.{How}
 use Rattle.im_scan.specs.Parts.{MayAsk}
 use Rattle.im_scan.specs.Pinned.{seen_in}
 use Rattle.im_session.specs.declared.serving.Wanted.{Wanted}
 use Rattle.im_session.specs.inner.Serving.{wanted_of}
-use Rattle.im_session.proofs.ServingLemmas.{how-read, may-read, rows-read, seen_in-went}
+use Rattle.im_session.proofs.ServingLemmas.{mark-read, may-read, rows-mark, seen_in-went}
 use Rattle.im_session.proofs.serving.served_part.Goals as goal
 
-pub part-requires-clause-unit_fits : goal.part-requires-clause-unit_fits
-part-requires-clause-unit_fits g c =
-    let may = may-read c.args.context.now.who c.args.cursor.now.number c.args.extent c.in_ok-pin.pin.place c.args.cursor.now.bound c.args.cursor.now.view _ _
+pub part-made-requires-clause-unit_fits : goal.part-made-requires-clause-unit_fits
+part-made-requires-clause-unit_fits g c =
+    let may = may-read c.args.context.now.who c.args.cursor.now.number c.args.extent c.in_ok-pin.pin.place c.args.cursor.now.bound c.args.cursor.now.view
+    (option_map arc_value c.in_ok-pin.pin.unit) c.in_ok-pin.pin.fetched
     (g.H.Reach.known c.args.reach.now) (g.H.Reach.known c.read.new.reach) c.requires.speaks c.requires.kept.scan
     c.requires.kept.sound.asks c.in_ok-pin.ensures.went
     c.in_ok-pin.ensures.lawful c.in_ok-pin.ensures.read in
     subst (λ unit. ForSome unit (λ content. AllByRecursion (MayAsk c.args.cursor.now.bound) content.rows)) (sym c.face.ensures) may.unit_fits
 
-pub part-requires-clause-fetched_fits : goal.part-requires-clause-fetched_fits
-part-requires-clause-fetched_fits g c =
-    let may = may-read c.args.context.now.who c.args.cursor.now.number c.args.extent c.in_ok-pin.pin.place c.args.cursor.now.bound c.args.cursor.now.view _ _
+pub part-made-requires-clause-fetched_fits : goal.part-made-requires-clause-fetched_fits
+part-made-requires-clause-fetched_fits g c =
+    let may = may-read c.args.context.now.who c.args.cursor.now.number c.args.extent c.in_ok-pin.pin.place c.args.cursor.now.bound c.args.cursor.now.view
+    (option_map arc_value c.in_ok-pin.pin.unit) c.in_ok-pin.pin.fetched
     (g.H.Reach.known c.args.reach.now) (g.H.Reach.known c.read.new.reach) c.requires.speaks c.requires.kept.scan
     c.requires.kept.sound.asks c.in_ok-pin.ensures.went
     c.in_ok-pin.ensures.lawful c.in_ok-pin.ensures.read in
     subst (AllByRecursion (λ row. MayAsk c.args.cursor.now.bound row.1)) (sym c.items-rows.ensures) may.fetched_fits
 
-pub returns-in-Parts-clause-part : goal.returns-in-Parts-clause-part
-returns-in-Parts-clause-part g c =
-    let may = may-read c.args.context.now.who c.args.cursor.now.number c.args.extent c.in_ok-pin.pin.place c.args.cursor.now.bound c.args.cursor.now.view _ _
+pub returns-in_ok-part-in-Parts-clause-part : goal.returns-in_ok-part-in-Parts-clause-part
+returns-in_ok-part-in-Parts-clause-part g c =
+    let may = may-read c.args.context.now.who c.args.cursor.now.number c.args.extent c.in_ok-pin.pin.place c.args.cursor.now.bound c.args.cursor.now.view
+    (option_map arc_value c.in_ok-pin.pin.unit) c.in_ok-pin.pin.fetched
     (g.H.Reach.known c.args.reach.now) (g.H.Reach.known c.read.new.reach) c.requires.speaks c.requires.kept.scan
     c.requires.kept.sound.asks c.in_ok-pin.ensures.went
     c.in_ok-pin.ensures.lawful c.in_ok-pin.ensures.read in
@@ -41,23 +43,24 @@ returns-in-Parts-clause-part g c =
     (seen_in-went (g.H.Reach.known c.args.reach.now) (g.H.Reach.known c.read.new.reach) c.args.cursor.now.view c.args.extent c.requires.kept.scan.sees.known
     c.in_ok-pin.ensures.went))
 
-pub returns-clause-mark : goal.returns-clause-mark
-returns-clause-mark g c =
-    let read = c.in_ok-pin.ensures.read in
-    rw (c.mark-mark.ensures, read.place_is, read.unit_is, read.fetched_is)
-    (ap (λ (how : How). record { place = length (g.H.Reach.known c.read.new.reach).log; extent = c.args.extent; how = how })
-    (how-read (g.H.Reach.known c.read.new.reach).log c.args.cursor.now.view c.args.extent c.args.cursor.now.bound.filter))
+pub returns-in_ok-part-in-Parts-clause-mark : goal.returns-in_ok-part-in-Parts-clause-mark
+returns-in_ok-part-in-Parts-clause-mark g c =
+    mark-read (g.H.Reach.known c.read.new.reach).log c.args.cursor.now.view c.args.extent c.in_ok-pin.pin.place c.args.cursor.now.bound.filter
+    (option_map arc_value c.in_ok-pin.pin.unit) c.in_ok-pin.pin.fetched c.mark-mark.result c.in_ok-pin.ensures.read c.mark-mark.ensures
 
-pub returns-clause-rows : goal.returns-clause-rows
-returns-clause-rows g c =
-    rw (
-      c.mark-mark.ensures,
-      rows-read (g.H.Reach.known c.read.new.reach).log c.args.cursor.now.view c.args.extent _ _ _ c.in_ok-pin.ensures.read,
-    ) c.in_ok-pin.ensures.rows
+pub returns-in_ok-part-in-Marks-clause-mark : goal.returns-in_ok-part-in-Marks-clause-mark
+returns-in_ok-part-in-Marks-clause-mark g c =
+    mark-read (g.H.Reach.known c.read.new.reach).log c.args.cursor.now.view c.args.extent c.in_ok-pin.pin.place c.args.cursor.now.bound.filter
+    (option_map arc_value c.in_ok-pin.pin.unit) c.in_ok-pin.pin.fetched c.mark-mark.result c.in_ok-pin.ensures.read c.mark-mark.ensures
 
-pub returns-in-Parts-clause-rows : goal.returns-in-Parts-clause-rows
-returns-in-Parts-clause-rows g c =
-    rw (
-      c.mark-mark.ensures,
-      rows-read (g.H.Reach.known c.read.new.reach).log c.args.cursor.now.view c.args.extent _ _ _ c.in_ok-pin.ensures.read,
-    ) c.in_ok-pin.ensures.rows
+pub returns-in_ok-part-in-Parts-clause-rows : goal.returns-in_ok-part-in-Parts-clause-rows
+returns-in_ok-part-in-Parts-clause-rows g c =
+    rows-mark (g.H.Reach.known c.read.new.reach).log c.args.cursor.now.view c.args.extent c.in_ok-pin.pin.place c.args.steps.now c.read.new.steps
+    (option_map arc_value c.in_ok-pin.pin.unit) c.in_ok-pin.pin.fetched c.mark-mark.result c.in_ok-pin.ensures.read c.mark-mark.ensures
+    c.in_ok-pin.ensures.rows
+
+pub returns-in_ok-part-in-Marks-clause-rows : goal.returns-in_ok-part-in-Marks-clause-rows
+returns-in_ok-part-in-Marks-clause-rows g c =
+    rows-mark (g.H.Reach.known c.read.new.reach).log c.args.cursor.now.view c.args.extent c.in_ok-pin.pin.place c.args.steps.now c.read.new.steps
+    (option_map arc_value c.in_ok-pin.pin.unit) c.in_ok-pin.pin.fetched c.mark-mark.result c.in_ok-pin.ensures.read c.mark-mark.ensures
+    c.in_ok-pin.ensures.rows
