@@ -7,7 +7,7 @@ use Rattle.im_history.specs.declared.limits.Limits.{Limits}
 use Rattle.im_history.specs.declared.task.Task.{Task}
 use Rattle.im_history.specs.History.{History}
 use Rattle.im_plan.specs.Alone.{play}
-use Rattle.im_plan.specs.Goes.{After, Goes, Line as Whole, Others}
+use Rattle.im_plan.specs.Goes.{After, Goes, PlayedLine as Whole, Others}
 use Rattle.im_plan.specs.Plan.{Plan, End, Turn, made}
 use Rattle.im_play.specs.Between.{IsBetween, machine_of}
 use Rattle.im_play.specs.Machine.{Machine, without_builds}

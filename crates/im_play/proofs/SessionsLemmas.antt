@@ -9,7 +9,7 @@ use Rattle.im_history.specs.declared.limits.Limits.{Limits}
 use Rattle.im_history.specs.declared.task.Task.{Task}
 use Rattle.im_history.specs.History.{History}
 use Rattle.im_history.specs.Legal.{IsLawful}
-use Rattle.im_plan.specs.Goes.{Line as Whole, Nobody}
+use Rattle.im_plan.specs.Goes.{PlayedLine as Whole, Nobody}
 use Rattle.im_plan.proofs.AloneLaws.{line_alone as line-machine}
 use Rattle.im_reach.specs.Sides.{Known, sole, speaks}
 use Rattle.im_replies.specs.declared.reply.Reply.{Reply}

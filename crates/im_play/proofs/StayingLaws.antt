@@ -31,8 +31,8 @@ use Rattle.im_history.proofs.LeaveLaws.{has_left-push}
 use Rattle.im_names.specs.declared.fault.NameFault.{NameFault}
 use Rattle.im_names.specs.declared.resolved.Resolved.{Resolved}
 use Rattle.im_names.specs.declared.resolved.Resolved.TheVariants as resolved
-use Rattle.im_names.specs.Statements.{answer}
-use Rattle.im_plan.specs.Goes.{After, Goes, Lacks, Line, Others}
+use Rattle.im_names.specs.Statements.{resolution}
+use Rattle.im_plan.specs.Goes.{After, Goes, Lacks, PlayedLine, Others}
 use Rattle.im_plan.specs.Plan.{Plan, End, Turn, counted, made}
 use Rattle.im_replies.specs.declared.body.Body.{Body}
 use Rattle.im_replies.specs.declared.body.Body.TheVariants as body
@@ -113,7 +113,7 @@ module _ (mine : ℕ → Bool) (number : ℕ) (is_mine : mine number ≡ true) w
   ]
 
   line-left : {R : Type 0} (who : ℕ) (amending : ℕ → Plan R) (old : History) (plan : Plan R) (result : R) (new : History)
-      → ((n : ℕ) → Keeps (amending n)) → Keeps plan → Line (Others mine) who amending old plan result new → has_left new number ≡ has_left old number
+      → ((n : ℕ) → Keeps (amending n)) → Keeps plan → PlayedLine (Others mine) who amending old plan result new → has_left new number ≡ has_left old number
   line-left who amending old plan result new amended keeps line = elim line.whole.played [
     | inl goes ↦ goes-left who old plan result new keeps goes
     | inr lacks ↦ lacks-left who amending 0 old plan result new amended keeps lacks
@@ -226,7 +226,7 @@ keeps-found limits who state at (Ok r) = keeps-resolved limits who state at r
 keeps-found limits who state at (Err fault) = tt
 
 keeps-named : (limits : Limits) (who : ℕ) (state : State) (s : Stmt) (at : History) → Keeps (named_plan limits who state s at)
-keeps-named limits who state s at = keeps-found limits who state at (answer (tables at) s)
+keeps-named limits who state s at = keeps-found limits who state at (resolution (tables at) s)
 
 keeps-statement : (limits : Limits) (who : ℕ) (state : State) (s : Stmt) → Keeps (statement_plan limits who state s)
 keeps-statement limits who state s =
@@ -307,7 +307,7 @@ keeps-command limits who rounds builds stmt.Begin =
 keeps-command limits who rounds builds stmt.Switch = keeps-switch limits who builds
 keeps-command limits who rounds builds stmt.Cancel = keeps-cancel builds
 keeps-command limits who rounds builds (stmt.Trickle count) = λ at. (refl, tt)
-keeps-command limits who rounds builds (stmt.Evict name extent) = λ at. (tt, keeps-evict who builds (answer (tables at) (stmt.Evict name extent)))
+keeps-command limits who rounds builds (stmt.Evict name extent) = λ at. (tt, keeps-evict who builds (resolution (tables at) (stmt.Evict name extent)))
 keeps-command limits who rounds builds _ = tt
 
 keeps-stray : (who : ℕ) (o : Option Held) → Stays (option_map (λ (held : Held). what.Cancel held.task.id false) o)

@@ -4,7 +4,7 @@ use Rattle.im_history.specs.declared.limits.Limits.{Limits}
 use Rattle.im_history.specs.declared.task.Task.{Task}
 use Rattle.im_history.specs.History.{History}
 use Rattle.im_history.specs.Leaves.{has_left}
-use Rattle.im_plan.specs.Goes.{Goes, Line, Others}
+use Rattle.im_plan.specs.Goes.{Goes, PlayedLine, Others}
 use Rattle.im_statements.specs.Background as background
 use Rattle.im_statements.specs.Background.{command_amends, command_plan, drop_all}
 use Rattle.im_statements.specs.Outcomes.{Outcome, State}
@@ -18,7 +18,7 @@ abbrev pub NobodyLeaves : Type 0
 NobodyLeaves =
     (mine : ℕ → Bool) (limits : Limits) (who number : ℕ) (state : State) (statement : Stmt) (old : History) (outcome : Outcome) (new : History)
     → mine number ≡ true
-    → Line (Others mine) who (amends who) old (statement_plan limits who state statement) outcome new
+    → PlayedLine (Others mine) who (amends who) old (statement_plan limits who state statement) outcome new
     → has_left new number ≡ has_left old number
 
 -- and so after a line of the background
@@ -27,7 +27,7 @@ NobodyLeavesBehind =
     (mine : ℕ → Bool) (limits : Limits) (who number rounds : ℕ) (builds : List Task) (statement : Stmt) (old : History)
     (outcome : background.Outcome) (new : History)
     → mine number ≡ true
-    → Line (Others mine) who (command_amends who builds) old (command_plan limits who rounds builds statement) outcome new
+    → PlayedLine (Others mine) who (command_amends who builds) old (command_plan limits who rounds builds statement) outcome new
     → has_left new number ≡ has_left old number
 
 -- and so once the builds that are held are dropped

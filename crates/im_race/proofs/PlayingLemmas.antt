@@ -7,7 +7,7 @@ use Rattle.std.proofs.lemmas.List.Elements.{filter-append}
 use Rattle.im_history.specs.declared.limits.Limits.{Limits}
 use Rattle.im_history.specs.History.{History}
 use Rattle.im_history.specs.Leaves.{has_left}
-use Rattle.im_plan.specs.Goes.{Goes, Line as Whole, Others}
+use Rattle.im_plan.specs.Goes.{Goes, PlayedLine as Whole, Others}
 use Rattle.im_play.specs.Requests.{asked, demand_of, script_limits}
 use Rattle.im_play.proofs.StayingLaws.{nobody-leaves}
 use Rattle.im_race.specs.inner.Doing.{HasEnded, HavePlayed, PlaysAll}

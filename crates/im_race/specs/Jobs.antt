@@ -2,7 +2,7 @@
 use Rattle.std.specs.Prelude.{◌≡◌, ℕ, ◌==◌, List, [], ◌∷◌}
 use Rattle.im_history.specs.declared.limits.Limits.{Limits}
 use Rattle.im_history.specs.History.{History}
-use Rattle.im_plan.specs.Goes.{After, Goes, Line as Whole, Others}
+use Rattle.im_plan.specs.Goes.{After, Goes, PlayedLine as Whole, Others}
 use Rattle.im_play.specs.Requests.{Demand, Nothing, Told, Asks, Orders, demand_of}
 use Rattle.im_replies.specs.declared.reply.Reply.{Reply}
 use Rattle.im_script.specs.declared.line.Line.{Line}

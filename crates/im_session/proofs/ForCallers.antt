@@ -7,7 +7,7 @@ use Rattle.im_history.specs.declared.entry.Entry.{Entry}
 use Rattle.im_history.specs.declared.entry.What.{What}
 use Rattle.im_history.specs.Cursors.{Opened, is_cursor, opened}
 use Rattle.im_history.specs.History.{History}
-use Rattle.im_plan.specs.Goes.{After, Goes, Lacks, Line, Nobody, Others}
+use Rattle.im_plan.specs.Goes.{After, Goes, Lacks, PlayedLine, Nobody, Others}
 use Rattle.im_plan.specs.Plan.{End, Plan, Turn, counted, made}
 use Rattle.im_plan.proofs.AloneLaws.{same_after}
 use Rattle.im_reach.specs.Sides.{Known, StoreSide, sole, speaks}
@@ -56,7 +56,7 @@ module _ (mine : ℕ → Bool) (all : (number : ℕ) → mine number ≡ true) w
   ]
 
   line-alone_of : {R : Type 0} (who : ℕ) (amend : ℕ → Plan R) (old : History) (plan : Plan R) (result : R) (new : History)
-      → Line (Others mine) who amend old plan result new → Line Nobody who amend old plan result new
+      → PlayedLine (Others mine) who amend old plan result new → PlayedLine Nobody who amend old plan result new
   line-alone_of who amend old plan result new line = record {
     whole = record {
       played = elim line.whole.played [
@@ -68,7 +68,7 @@ module _ (mine : ℕ → Bool) (all : (number : ℕ) → mine number ≡ true) w
 
 -- over a store that nobody else has a line of any number goes with nobody between its turns
 pub line-alone : {R : Type 0} (side : StoreSide) (who : ℕ) (amend : ℕ → Plan R) (old : History) (plan : Plan R) (result : R) (new : History)
-    → side ≡ sole → Line (Others (speaks side)) who amend old plan result new → Line Nobody who amend old plan result new
+    → side ≡ sole → PlayedLine (Others (speaks side)) who amend old plan result new → PlayedLine Nobody who amend old plan result new
 line-alone side who amend old plan result new alone =
     line-alone_of (speaks side) (λ number. ap (λ (s : StoreSide). speaks s number) alone) who amend old plan result new
 
@@ -118,7 +118,7 @@ lacks-own who amend k old (Turn decides adds on) result new lacks = elim lacks [
 
 -- a line adds entries of its own number alone
 pub line-own : {R : Type 0} (who : ℕ) (amend : ℕ → Plan R) (old : History) (plan : Plan R) (result : R) (new : History)
-    → Line Nobody who amend old plan result new → IsOwn who old new
+    → PlayedLine Nobody who amend old plan result new → IsOwn who old new
 line-own who amend old plan result new line = elim line.whole.played [
   | inl goes ↦ goes-own who old plan result new goes
   | inr lacks ↦ lacks-own who amend 0 old plan result new lacks
@@ -127,7 +127,7 @@ line-own who amend old plan result new line = elim line.whole.played [
 -- the line that a session played over a store that nobody else has
 pub played-alone : (s : Stmt) (before after : Kept) (old new : Known) (reply : Reply) → old.side ≡ sole
     → (played : IsPlayed s before old reply after new)
-    → Line Nobody before.who (amends before.who) old.log (statement_plan old.limits before.who (state_of before.cursors) s)
+    → PlayedLine Nobody before.who (amends before.who) old.log (statement_plan old.limits before.who (state_of before.cursors) s)
     (Replied reply played.effect) new.log
 played-alone s before after old new reply alone played =
     line-alone old.side before.who (amends before.who) old.log _ _ new.log alone played.line

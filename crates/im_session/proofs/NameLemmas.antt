@@ -15,7 +15,7 @@ use Rattle.im_names.specs.declared.fault.NameFault.TheVariants.{NoMemory}
 use Rattle.im_names.specs.declared.resolved.Resolved.{Resolved}
 use Rattle.im_names.specs.declared.resolved.Resolved.TheVariants as resolved
 use Rattle.im_names.specs.Lookups.{table_called}
-use Rattle.im_names.specs.Statements.{answer, query_answer}
+use Rattle.im_names.specs.Statements.{resolution, query_answer}
 use Rattle.im_plan.specs.Plan.{End, Plan}
 use Rattle.im_reach.specs.Sides.{Added, Found, Known, speaks}
 use Rattle.im_replies.specs.declared.body.Body.TheVariants.{Error}
@@ -39,7 +39,7 @@ use Rattle.im_syntax.specs.declared.statement.Stmt.TheVariants as stmt
 abbrev Defines : Bool → Resolved → Type 0
 Defines b r = defines r ≡ b
 
-defines-answer : (ts : List TableInfo) (s : Stmt) → IfOk (answer ts s) (Defines (is_definition s))
+defines-answer : (ts : List TableInfo) (s : Stmt) → IfOk (resolution ts s) (Defines (is_definition s))
 defines-answer ts (stmt.Select q) = formed-each (Defines false) resolved.Select (λ bound. refl) (query_answer ts q)
 defines-answer ts (stmt.Explain q) = formed-each (Defines false) resolved.Explain (λ bound. refl) (query_answer ts q)
 defines-answer ts (stmt.OpenFor cursor q) = formed-each (Defines false) (resolved.OpenFor cursor) (λ bound. refl) (query_answer ts q)
@@ -55,7 +55,7 @@ defines-answer ts (stmt.Evict name extent) = of_table-each (Defines false) (tabl
 defines-answer ts _ = refl
 
 -- what a statement resolves to defines a table where the statement does
-pub defines-resolved : (ts : List TableInfo) (s : Stmt) (r : Resolved) → answer ts s ≡ Ok r → defines r ≡ is_definition s
+pub defines-resolved : (ts : List TableInfo) (s : Stmt) (r : Resolved) → resolution ts s ≡ Ok r → defines r ≡ is_definition s
 defines-resolved ts s r is = subst (λ (found : Result Resolved NameFault). IfOk found (Defines (is_definition s))) is (defines-answer ts s)
 
 -- ---- what is read
@@ -64,7 +64,7 @@ defines-resolved ts s r is = subst (λ (found : Result Resolved NameFault). IfOk
 abbrev ReadsFor : Reading → Resolved → Type 0
 ReadsFor reading r = reading_in r ≡ reading
 
-reading-answer : (ts : List TableInfo) (s : Stmt) → IfOk (answer ts s) (ReadsFor (reading_of s))
+reading-answer : (ts : List TableInfo) (s : Stmt) → IfOk (resolution ts s) (ReadsFor (reading_of s))
 reading-answer ts (stmt.Select q) = formed-each (ReadsFor Own) resolved.Select (λ bound. refl) (query_answer ts q)
 reading-answer ts (stmt.Explain q) = formed-each (ReadsFor Own) resolved.Explain (λ bound. refl) (query_answer ts q)
 reading-answer ts (stmt.OpenFor cursor q) = formed-each (ReadsFor Nothing) (resolved.OpenFor cursor) (λ bound. refl) (query_answer ts q)
@@ -79,16 +79,16 @@ reading-answer ts (stmt.Evict name extent) = of_table-each (ReadsFor Nothing) (t
 reading-answer ts _ = refl
 
 -- what a statement resolves to reads for what the statement does
-pub reading-resolved : (ts : List TableInfo) (s : Stmt) (r : Resolved) → answer ts s ≡ Ok r → reading_in r ≡ reading_of s
+pub reading-resolved : (ts : List TableInfo) (s : Stmt) (r : Resolved) → resolution ts s ≡ Ok r → reading_in r ≡ reading_of s
 reading-resolved ts s r is = subst (λ (found : Result Resolved NameFault). IfOk found (ReadsFor (reading_of s))) is (reading-answer ts s)
 
 -- ---- names
 
 pub named-found : (who k : ℕ) (old new : Known) (state : State) (s : Stmt) (found : Look) (r : Resolved) (outcome : Outcome)
-    → found ≡ look_at old.log who → answer found.tables s ≡ Ok r → IsRest who k old (resolved_plan old.limits who state old.log r) outcome new
+    → found ≡ look_at old.log who → resolution found.tables s ≡ Ok r → IsRest who k old (resolved_plan old.limits who state old.log r) outcome new
     → IsRest who k old (named_plan old.limits who state s old.log) outcome new
 named-found who k old new state s found r outcome look_is is rest =
-    rw (sym (ap (λ (l : Look). answer l.tables s) look_is) ∙ is) rest
+    rw (sym (ap (λ (l : Look). resolution l.tables s) look_is) ∙ is) rest
 
 -- the reply for a fault of names: that memory ran out, or it
 name_reply-either : (k place : ℕ) (fault : NameFault)
@@ -97,11 +97,11 @@ name_reply-either k place NoMemory = inl refl
 name_reply-either k place _ = inr refl
 
 pub named-fault : (who k : ℕ) (old : Known) (state : State) (s : Stmt) (found : Look) (fault : NameFault) → speaks old.side who ≡ true
-    → is_cursor_open old.log who 0 ≡ false → found ≡ look_at old.log who → (fault ≡ NoMemory) ⊎ (answer found.tables s ≡ Err fault)
+    → is_cursor_open old.log who 0 ≡ false → found ≡ look_at old.log who → (fault ≡ NoMemory) ⊎ (resolution found.tables s ≡ Err fault)
     → IsRest who k old (named_plan old.limits who state s old.log) (said (name_reply k found.place fault)) old
 named-fault who k old state s found fault mine shut look_is cause = elim cause [
   | inl lacking ↦ subst (λ (reply : Reply). IsRest who k old plan (said reply) old) (sym (ap (name_reply k found.place) lacking)) lacks
-  | inr is ↦ by (sym (ap (λ (l : Look). answer l.tables s) look_is) ∙ is) (name_reply-either k found.place fault)
+  | inr is ↦ by (sym (ap (λ (l : Look). resolution l.tables s) look_is) ∙ is) (name_reply-either k found.place fault)
 ]
   where
     plan : Plan Outcome
@@ -110,7 +110,7 @@ named-fault who k old state s found fault mine shut look_is cause = elim cause [
     lacks : IsRest who k old plan (said (memory_reply k)) old
     lacks = rest-lacks_here who k old plan mine shut
 
-    by : answer (look_at old.log who).tables s ≡ Err fault
+    by : resolution (look_at old.log who).tables s ≡ Err fault
         → (name_reply k found.place fault ≡ memory_reply k) ⊎ (name_reply k found.place fault ≡ settled_reply found.place (Error (name_fault fault)))
         → IsRest who k old plan (said (name_reply k found.place fault)) old
     by is (inl e) = subst (λ (reply : Reply). IsRest who k old plan (said reply) old) (sym e) lacks

@@ -11,7 +11,7 @@ use Rattle.im_history.specs.Views.{look_at}
 use Rattle.im_names.specs.declared.resolved.Resolved.{Resolved}
 use Rattle.im_names.specs.declared.fault.NameFault.{NameFault}
 use Rattle.im_names.specs.declared.fault.NameFault.TheVariants.{NoMemory}
-use Rattle.im_names.specs.Statements.{answer}
+use Rattle.im_names.specs.Statements.{resolution}
 use Rattle.im_plan.specs.Goes.{After, Goes, Lacks, Others}
 use Rattle.im_plan.specs.Plan.{End, Plan, Turn, made, counted}
 use Rattle.im_reach.specs.Sides.{Found, Known, speaks}
@@ -323,7 +323,7 @@ module _ (who : ℕ) (cursors : List Cursor) (old : Known) (here : AreKept who c
 
   -- its names had a fault
   pub run-misnamed : (middle : Known) (s : Stmt) (look : Look) (fault : NameFault) → speaks old.side who ≡ true → is_definition s ≡ false
-      → Found old middle (λ at. look ≡ look_at at who) → (fault ≡ NoMemory) ⊎ (answer look.tables s ≡ Err fault)
+      → Found old middle (λ at. look ≡ look_at at who) → (fault ≡ NoMemory) ⊎ (resolution look.tables s ≡ Err fault)
       → IsRun who (statement_plan old.limits who (state_of cursors) s) cursors old (name_reply 0 look.place fault) cursors middle
   run-misnamed middle s look fault mine other found cause =
       let went = went-found old middle (λ at. look ≡ look_at at who) found in
@@ -363,7 +363,7 @@ module _ (who : ℕ) (cursors : List Cursor) (s : Stmt) (old : Known) where
 
   -- its names were found
   pub run-looked : (middle new : Known) (P : History → Type 0) (look : Look) (r : Resolved) (reply : Reply) (after : List Cursor)
-      → is_definition s ≡ false → Found old middle P → look ≡ look_at middle.log who → answer look.tables s ≡ Ok r
+      → is_definition s ≡ false → Found old middle P → look ≡ look_at middle.log who → resolution look.tables s ≡ Ok r
       → IsRun who (resolved_plan middle.limits who (state_of cursors) middle.log r) cursors middle reply after new
       → IsRun who whole cursors old reply after new
   run-looked middle new P look r reply after other found look_is is run = record {

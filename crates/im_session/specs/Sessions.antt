@@ -2,7 +2,7 @@
 use Rattle.std.specs.Prelude.{◌≡◌, ℕ, ◌==◌, Bool, false, List, [], ◌∷◌, map, ⊤}
 use Rattle.std.specs.List.{AllByRecursion}
 use Rattle.im_history.specs.Transactions.{is_open}
-use Rattle.im_plan.specs.Goes.{Line, Others}
+use Rattle.im_plan.specs.Goes.{PlayedLine, Others}
 use Rattle.im_reach.specs.Sides.{Known, speaks}
 use Rattle.im_replies.specs.declared.reply.Reply.{Reply}
 use Rattle.im_session.specs.declared.cursor.Cursor.{Cursor}
@@ -44,7 +44,7 @@ pub record IsPlayed (statement : Stmt) (before : Kept) (old : Known) (reply : Re
   pub known : new ≡ record old { log = new.log }
   pub effect : Effect
   pub line :
-      Line (Others (speaks old.side)) before.who (amends before.who) old.log
+      PlayedLine (Others (speaks old.side)) before.who (amends before.who) old.log
       (statement_plan old.limits before.who (state_of before.cursors) statement) (Replied reply effect) new.log
   pub keeps : state_of after.cursors ≡ kept_after effect (state_of before.cursors)
   pub transaction : after.in_transaction ≡ open_after statement reply before.in_transaction

@@ -22,7 +22,7 @@ use Rattle.im_history.specs.Refusals.{begin_refusal, create_refusal, forbids_wri
 use Rattle.im_history.specs.Rows.{Row}
 use Rattle.im_history.specs.Commits.{scn}
 use Rattle.im_history.specs.Tables.{given, tables}
-use Rattle.im_group.specs.Answers.{resolution as answer_of}
+use Rattle.im_group.specs.Answers.{answer as answer_of}
 use Rattle.im_history.specs.Transactions.{is_open, mode}
 use Rattle.im_history.specs.Views.{view_at}
 use Rattle.im_names.specs.declared.fault.NameFault.{NameFault}

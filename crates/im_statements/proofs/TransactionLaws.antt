@@ -25,7 +25,7 @@ use Rattle.im_history.specs.Tables.{given, table_named, tables}
 use Rattle.im_history.specs.Transactions.{begun, begun_after, is_open, mode, or_here}
 use Rattle.im_history.specs.Views.{view_at}
 use Rattle.im_history.proofs.Laws.{begun-push}
-use Rattle.im_group.specs.Answers.{resolution as answer_of}
+use Rattle.im_group.specs.Answers.{answer as answer_of}
 use Rattle.im_names.specs.declared.fault.NameFault.{NameFault}
 use Rattle.im_names.specs.declared.fault.NameFault.TheVariants.{RepeatedColumn}
 use Rattle.im_names.specs.declared.resolved.Resolved.{Resolved}

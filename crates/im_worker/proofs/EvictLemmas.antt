@@ -13,7 +13,7 @@ use Rattle.im_names.specs.declared.fault.NameFault.TheVariants.{NoMemory}
 use Rattle.im_names.specs.declared.resolved.Resolved.{Resolved}
 use Rattle.im_names.specs.declared.resolved.Resolved.TheVariants as resolved
 use Rattle.im_names.specs.Fitting.{OfTable, Serves, columns_at}
-use Rattle.im_names.specs.Statements.{answer}
+use Rattle.im_names.specs.Statements.{resolution}
 use Rattle.im_plan.specs.Plan.{Plan, End}
 use Rattle.im_reach.specs.Sides.{Found, Known, speaks}
 use Rattle.im_replies.specs.declared.body.Body.TheVariants as body
@@ -47,20 +47,20 @@ found-is who builds _ = refl
 
 -- the line goes on from there
 pub named-on : (who : ℕ) (builds : List Ready) (look : Look) (stmt : Stmt) (answered : Result Resolved NameFault) (plan : Plan Outcome) (old mid new : Known)
-    (reply : Reply) → Looks who look old mid → answer look.tables stmt ≡ answered → evict_found who (tasks_of builds) answered ≡ plan
+    (reply : Reply) → Looks who look old mid → resolution look.tables stmt ≡ answered → evict_found who (tasks_of builds) answered ≡ plan
     → IsRun who plan builds mid reply builds new → IsRun who (evict_named who (tasks_of builds) stmt) builds old reply builds new
 named-on who builds look stmt answered plan old mid new reply found is plan_is run = record {
-  rest = rest-nothing who 0 (tasks_of builds) old mid new false (λ at. None) (λ at. evict_found who (tasks_of builds) (answer (tables at) stmt))
+  rest = rest-nothing who 0 (tasks_of builds) old mid new false (λ at. None) (λ at. evict_found who (tasks_of builds) (resolution (tables at) stmt))
       (Answered reply (tasks_of builds)) (went-found old mid _ found) refl
       (subst (λ (p : Plan Outcome). IsRest who 0 (tasks_of builds) mid p (Answered reply (tasks_of builds)) new)
-      (sym (ap (λ (ts : List TableInfo). evict_found who (tasks_of builds) (answer ts stmt))
+      (sym (ap (λ (ts : List TableInfo). evict_found who (tasks_of builds) (resolution ts stmt))
       (sym (tables-seen who look old mid found))
       ∙ (ap (evict_found who (tasks_of builds)) is ∙ plan_is))) run.rest);
   stands = run.stands;
 }
 
 pub named-extent : (who : ℕ) (builds : List Ready) (look : Look) (stmt : Stmt) (r : Resolved) (both : ℕ × ℕ) (old mid new : Known) (reply : Reply)
-    → Looks who look old mid → answer look.tables stmt ≡ Ok r → extent_of r ≡ Some both
+    → Looks who look old mid → resolution look.tables stmt ≡ Ok r → extent_of r ≡ Some both
     → IsRun who (evict who (tasks_of builds) both.0 both.1) builds mid reply builds new
     → IsRun who (evict_named who (tasks_of builds) stmt) builds old reply builds new
 named-extent who builds look stmt r both old mid new reply found is extent run =
@@ -68,7 +68,7 @@ named-extent who builds look stmt r both old mid new reply found is extent run =
     (found-is who (tasks_of builds) r ∙ ap (by_extent who (tasks_of builds)) extent) run
 
 pub named-nothing : (who : ℕ) (builds : List Ready) (look : Look) (stmt : Stmt) (r : Resolved) (old mid : Known) → speaks old.side who ≡ true
-    → IsLawful mid.limits mid.log → Stands who builds [] old.log → Looks who look old mid → answer look.tables stmt ≡ Ok r → extent_of r ≡ None
+    → IsLawful mid.limits mid.log → Stands who builds [] old.log → Looks who look old mid → resolution look.tables stmt ≡ Ok r → extent_of r ≡ None
     → IsRun who (evict_named who (tasks_of builds) stmt) builds old (said body.Nothing) builds mid
 named-nothing who builds look stmt r old mid mine lawful stands found is extent =
     named-on who builds look stmt (Ok r) (nothing (tasks_of builds)) old mid mid (said body.Nothing) found is
@@ -77,7 +77,7 @@ named-nothing who builds look stmt r old mid mine lawful stands found is extent 
     (stands-went old mid who builds [] mine lawful (went-found old mid _ found) stands))
 
 pub named-fault : (who : ℕ) (builds : List Ready) (look : Look) (stmt : Stmt) (fault : NameFault) (old mid : Known) → speaks old.side who ≡ true
-    → IsLawful mid.limits mid.log → Stands who builds [] old.log → Looks who look old mid → (fault ≡ NoMemory) ⊎ (answer look.tables stmt ≡ Err fault)
+    → IsLawful mid.limits mid.log → Stands who builds [] old.log → Looks who look old mid → (fault ≡ NoMemory) ⊎ (resolution look.tables stmt ≡ Err fault)
     → IsRun who (evict_named who (tasks_of builds) stmt) builds old (said (body.Error (name_fault fault))) builds mid
 named-fault who builds look stmt fault old mid mine lawful stands found cause = elim cause [
   | inl lacks ↦ subst (λ (f : NameFault).

@@ -18,7 +18,7 @@ use Rattle.im_history.specs.Commits.{commits, committed_by, scn}
 use Rattle.im_history.specs.History.{History, replay}
 use Rattle.im_history.specs.Legal.{IsAllowed, IsLawful, IsLegal}
 use Rattle.im_history.specs.Queue.{build_of}
-use Rattle.im_history.specs.Rows.{Row, changes_to, row_after, rows}
+use Rattle.im_history.specs.Rows.{Row, changes_until, row_after, rows}
 use Rattle.im_history.specs.Tables.{given, given_after, given_by}
 use Rattle.im_history.specs.Transactions.{or_here, pending, pending_after}
 use Rattle.im_history.specs.Units.{Content, IsOwn, builds, drops, held, held_at, is_id, killed_by, task_content}
@@ -141,8 +141,8 @@ elsewhere h table rid change past below = by (change.table == table) refl
 pub rows-ungiven : (h : History) (table n rid : ℕ) → given h table ≤ rid → rows h table n rid ≡ None
 unfolding rows
 rows-ungiven h table n rid past =
-    fold-none table rid (changes_to h n)
-    (All-weaker (WasGiven h) (IsElsewhere table rid) (λ change below. elsewhere h table rid change past below) (changes_to h n)
+    fold-none table rid (changes_until h n)
+    (All-weaker (WasGiven h) (IsElsewhere table rid) (λ change below. elsewhere h table rid change past below) (changes_until h n)
     (each-flat_map (WasGiven h) (take n (commits h)) (All-take (All (WasGiven h)) n (commits h) (all_given h).done)))
 
 -- ---- the build that just began

@@ -5,7 +5,7 @@ use Rattle.im_history.specs.declared.task.Held.{Held}
 use Rattle.im_history.specs.declared.task.Task.{Task}
 use Rattle.im_history.specs.History.{History}
 use Rattle.im_history.specs.Units.{Content, IsOwn, held, task_content}
-use Rattle.im_plan.specs.Goes.{Goes, Line, Others}
+use Rattle.im_plan.specs.Goes.{Goes, PlayedLine, Others}
 use Rattle.im_reach.specs.Sides.{Known, speaks}
 use Rattle.im_replies.specs.declared.reply.Reply.{Reply}
 use Rattle.im_statements.specs.Background.{Answered, command_amends, command_plan, drop_all}
@@ -43,7 +43,7 @@ pub record IsPlayed (statement : Stmt) (before : Kept) (old : Known) (reply : Re
   pub known : new ≡ record old { log = new.log; misses = new.misses }
   pub rounds : ℕ
   pub line :
-      Line (Others (speaks old.side)) before.who (command_amends before.who (tasks_of before.builds)) old.log
+      PlayedLine (Others (speaks old.side)) before.who (command_amends before.who (tasks_of before.builds)) old.log
       (command_plan old.limits before.who rounds (tasks_of before.builds) statement) (Answered reply (tasks_of after.builds)) new.log
 
 -- the background ended all builds that it held without their units, whatever others did meanwhile

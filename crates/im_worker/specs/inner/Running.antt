@@ -5,7 +5,7 @@ use Rattle.im_history.specs.History.{History}
 use Rattle.im_history.specs.Tables.{tables}
 use Rattle.im_names.specs.declared.resolved.Resolved.{Resolved}
 use Rattle.im_names.specs.declared.resolved.Resolved.TheVariants as resolved
-use Rattle.im_names.specs.Statements.{answer}
+use Rattle.im_names.specs.Statements.{resolution}
 use Rattle.im_plan.specs.Goes.{Goes, Others}
 use Rattle.im_plan.specs.Plan.{Plan, Turn}
 use Rattle.im_reach.specs.Sides.{Known, speaks}
@@ -25,7 +25,7 @@ pub record IsRun (who : ℕ) (plan : Plan Outcome) (before : List Ready) (old : 
 
 -- EVICT, the table's name being looked up first
 abbrev pub evict_named : ℕ → List Task → Stmt → Plan Outcome
-evict_named who builds statement = Turn false (λ at. None) (λ at. evict_found who builds (answer (tables at) statement))
+evict_named who builds statement = Turn false (λ at. None) (λ at. evict_found who builds (resolution (tables at) statement))
 
 -- the extent that is to be evicted, where it is an EVICT
 abbrev pub extent_of : Resolved → Option (ℕ × ℕ)
