@@ -105,4 +105,4 @@ IsGoing-end lines at old start now sessions kept answers first steps past going 
     (subst (λ (rest : List Line).
     Comes (machine_of now sessions kept) (demands_of old.limits.area rest) [] (machine_of now sessions kept) steps steps)
     (sym (drop_all at lines past))
-    (record { ways = []; lawful = refl; answers_are = refl; end_is = refl; counted = omega arith })))
+    (refl, refl, omega arith)))

@@ -10,17 +10,18 @@ use Rattle.im_history.specs.declared.task.Task.{Task}
 use Rattle.im_history.specs.History.{History}
 use Rattle.im_history.specs.Legal.{IsLawful}
 use Rattle.im_plan.specs.Goes.{Line as Whole, Nobody}
+use Rattle.im_plan.proofs.AloneLaws.{line_alone as line-machine}
 use Rattle.im_reach.specs.Sides.{Known, sole, speaks}
 use Rattle.im_replies.specs.declared.reply.Reply.{Reply}
 use Rattle.im_session.specs.Reads.{IsCounted, reading_of}
 use Rattle.im_session.specs.Sessions.{Agrees, IsPlayed, Kept, state_of}
 use Rattle.im_session.proofs.ForCallers.{IsOwn, agrees-other, agrees-own, line-alone, line-own, played-alone, played-own}
-use Rattle.im_play.specs.Machine.{Machine, state_in}
+use Rattle.im_play.specs.Machine.{IsAnswer, IsAnswered, IsCommandAnswer, Machine, state_in}
 use Rattle.im_play.specs.Requests.{BACKGROUND, asked, script_limits}
 use Rattle.im_script.specs.declared.line.Line.{Line}
 use Rattle.im_script.specs.declared.line.LineKind.{LineKind}
 use Rattle.im_script.specs.declared.line.LineKind.TheVariants as kind
-use Rattle.im_play.specs.Between.{Answers, AreSessions, IsAnswer, IsAnswered, IsBetween, IsCommandAnswer, IsHolding, background_side, command_of, machine_of, request_of}
+use Rattle.im_play.specs.Between.{Answers, AreSessions, IsBetween, IsHolding, background_side, command_of, machine_of, request_of}
 use Rattle.im_play.proofs.ThereLemmas.{there-command, there-session}
 use Rattle.im_statements.specs.Background as command
 use Rattle.im_statements.specs.Background.{Answered, command_amends, command_plan}
@@ -208,11 +209,12 @@ module _ (sessions : List Kept) (at : ℕ) (before : Kept) (kept : background.Ke
     answer-after number = record {
       effect = played.effect;
       line =
-          subst (λ (n : ℕ). Whole Nobody n (amends n) old.log (statement_plan limits n (state_in machine at) s) outcome new.log) number-is
+          line-machine at (amends at) old.log (statement_plan limits at (state_in machine at) s) outcome new.log
+          (subst (λ (n : ℕ). Whole Nobody n (amends n) old.log (statement_plan limits n (state_in machine at) s) outcome new.log) number-is
           (subst (λ (l : Limits). Whole Nobody before.who (amends before.who) old.log (statement_plan l before.who (state_in machine at) s) outcome new.log)
           between.limits
           (subst (λ (state : State). Whole Nobody before.who (amends before.who) old.log (statement_plan old.limits before.who state s) outcome new.log)
-          (sym keeps) (played-alone s before after old new reply between.side played)));
+          (sym keeps) (played-alone s before after old new reply between.side played))));
       states =
           state-set sessions at after
           ∙ ap (slice_set machine.states at) (played.keeps ∙ ap (kept_after played.effect) (sym keeps));
@@ -281,11 +283,13 @@ module _ (sessions : List Kept) (kept after : background.Kept) (old new : Known)
   answer-command number = record {
     rounds = played.rounds;
     line =
-        subst (λ (n : ℕ).
+        line-machine BACKGROUND (command_amends BACKGROUND tasks) old.log (command_plan (script_limits old.limits.area) BACKGROUND played.rounds tasks s)
+        outcome new.log
+        (subst (λ (n : ℕ).
         Whole Nobody n (command_amends n tasks) old.log (command_plan (script_limits old.limits.area) n played.rounds tasks s) outcome new.log)
         who-is
         (subst (λ (l : Limits). Whole Nobody kept.who (command_amends kept.who tasks) old.log (command_plan l kept.who played.rounds tasks s) outcome new.log)
-        between.limits command-alone);
+        between.limits command-alone));
     states_are = refl;
     counted = subst (λ (n : ℕ). builds.IsCounted n steps later old.log new.log) who-is counted;
   }

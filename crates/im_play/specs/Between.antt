@@ -1,25 +1,22 @@
 -- How one line is played over a store, its sessions and its background, and what holds between two lines.
-use Rattle.std.specs.Prelude.{◌≡◌, ℕ, zero, suc, ◌+◌, ◌≤◌, false, All, List, [], ◌∷◌, length, map, Option, Some, None, ⊤, slice_set}
+use Rattle.std.specs.Prelude.{◌≡◌, ℕ, zero, suc, ◌+◌, ◌≤◌, false, All, List, [], ◌∷◌, length, map, Option, Some, None, ⊤}
 use Rattle.im_history.specs.declared.entry.Entry.{Entry}
 use Rattle.im_history.specs.History.{History}
 use Rattle.im_history.specs.Leaves.{has_left}
 use Rattle.im_syntax.specs.declared.statement.Stmt.{Stmt}
-use Rattle.im_plan.specs.Goes.{After, Line as Whole, Nobody}
+use Rattle.im_plan.specs.Goes.{After}
 use Rattle.im_reach.specs.Sides.{AreOthers, Known, StoreSide, sole}
 use Rattle.im_script.specs.declared.line.Line.{Line}
-use Rattle.im_session.specs.Reads.{IsCounted, reading_of}
 use Rattle.im_session.specs.Sessions.{Agrees, Kept, state_of}
 use Rattle.im_replies.specs.declared.reply.Reply.{Reply}
-use Rattle.im_play.specs.Machine.{Machine, state_in}
-use Rattle.im_play.specs.Requests.{BACKGROUND, Command, Request, Demand, Nothing, Told, Asks, Orders, demand_of, script_limits}
-use Rattle.im_statements.specs.Background.{Answered, command_amends, command_plan}
-use Rattle.im_statements.specs.Outcomes.{Effect, Replied, kept_after}
+use Rattle.im_play.specs.Machine.{IsAnswered, Machine}
+use Rattle.im_play.specs.Requests.{BACKGROUND, Command, Request, demand_of, script_limits}
+use Rattle.im_statements.specs.Background.{command_amends, command_plan}
 use Rattle.im_statements.specs.Statements.{statement_plan}
 use Rattle.im_statements.specs.Turns.{amends}
 use Rattle.im_values.specs.declared.limits.TheConstants.{SESSIONS}
 use Rattle.im_worker.specs.Background as background
 use Rattle.im_worker.specs.Background.{tasks_of}
-use Rattle.im_worker.specs.Reads as builds
 
 -- ---- between two lines
 
@@ -97,40 +94,6 @@ command_of area number statement = record {
   plan = λ rounds builds. command_plan (script_limits area) BACKGROUND rounds builds statement;
   amends = command_amends BACKGROUND;
 }
-
--- a statement of a session was played alone, and the steps grew so
-pub record IsAnswer (before after : ℕ) (request : Request) (old : Machine) (reply : Reply) (new : Machine) : Type 0 where
-  pub effect : Effect
-  pub line :
-      Whole Nobody request.who request.amends old.history (request.plan (state_in old request.who)) (Replied reply effect) new.history
-  pub states : new.states ≡ slice_set old.states request.who (kept_after effect (state_in old request.who))
-  pub builds_are : new.builds ≡ old.builds
-  pub counted :
-      IsCounted (reading_of request.statement) (state_in old request.who) request.who reply before after old.history new.history
-
--- a statement of the background was played alone, in so many rounds where it goes by them, and the steps grew so
-pub record IsCommandAnswer (before after : ℕ) (command : Command) (old : Machine) (reply : Reply) (new : Machine) : Type 0 where
-  pub rounds : ℕ
-  pub line :
-      Whole Nobody BACKGROUND (command.amends old.builds) old.history (command.plan rounds old.builds) (Answered reply new.builds) new.history
-  pub states_are : new.states ≡ old.states
-  pub counted : builds.IsCounted BACKGROUND before after old.history new.history
-
--- nothing happened, and the steps did not grow
-pub record IsStill (before after : ℕ) (old new : Machine) : Type 0 where
-  pub machine : new ≡ old
-  pub steps : after ≡ before
-
--- where nothing is asked for there is no reply, and the machine stays; it stays too where a line has its one reply
-abbrev pub IsAnswered : ℕ → ℕ → Demand → Machine → Option Reply → Machine → Type 0
-IsAnswered before after Nothing old None new = IsStill before after old new
-IsAnswered before after Nothing old (Some reply) new = ⊥
-IsAnswered before after (Told number told) old None new = ⊥
-IsAnswered before after (Told number told) old (Some reply) new = (reply ≡ told) × IsStill before after old new
-IsAnswered before after (Asks request) old None new = ⊥
-IsAnswered before after (Asks request) old (Some reply) new = IsAnswer before after request old reply new
-IsAnswered before after (Orders command) old None new = ⊥
-IsAnswered before after (Orders command) old (Some reply) new = IsCommandAnswer before after command old reply new
 
 -- a line was played to its reply, where it has one
 pub record Answers (area before after : ℕ) (line : Line) (old : Machine) (reply : Option Reply) (new : Machine) : Type 0 where

@@ -1,17 +1,7 @@
 ghost use Rattle.std.specs.Prelude.{◌≡◌, ◌≤◌, ◌+◌, ℕ, All, IfOk};
-ghost use Rattle.im_play.specs.Between.{
-  Answers,
-  IsAnswer,
-  IsBetween,
-  IsCommandAnswer,
-  command_of,
-  machine_of,
-  request_of,
-  unused_background,
-  unused_from,
-};
+ghost use Rattle.im_play.specs.Between.{Answers, IsBetween, command_of, machine_of, request_of, unused_background, unused_from};
 ghost use Rattle.im_play.specs.Lines.{IsKnown};
-ghost use Rattle.im_play.specs.Machine.{Comes, without_builds};
+ghost use Rattle.im_play.specs.Machine.{Comes, IsAnswer, IsCommandAnswer, without_builds};
 ghost use Rattle.im_play.specs.Requests.{demands_of};
 ghost use Rattle.im_syntax.specs.Rules.{IsStmt};
 

@@ -1,10 +1,9 @@
 -- A script that is played and written line by line comes to the text of its replies.
-use Rattle.std.proofs.Common.{◌≡◌, ◌≤◌, ℕ, ◌+◌, true, List, [], ◌∷◌, ◌++◌, length, Option, Some, None, refl, sym, ap, ◌∙◌, subst, arith, append-nil, append_assoc}
+use Rattle.std.proofs.Common.{◌≡◌, ◌≤◌, ℕ, ◌+◌, List, [], ◌∷◌, ◌++◌, length, Option, Some, None, refl, sym, ap, ◌∙◌, subst, arith, append-nil, append_assoc}
 use Rattle.im_edge.specs.Writing.{Took}
 use Rattle.im_edge.proofs.ForCallers.{Took-nil}
 use Rattle.im_history.specs.declared.limits.Limits.{Limits}
-use Rattle.im_play.specs.Between.{IsAnswered}
-use Rattle.im_play.specs.Machine.{AreCounted, Machine, are_lawful, idle, machine_behind_all, put, replies}
+use Rattle.im_play.specs.Machine.{Comes, IsAnswered, IsStill, Machine, idle, number_of, put}
 use Rattle.im_play.specs.Requests.{Demand, asked, demand_of, demands_of}
 use Rattle.im_play.proofs.ComesLaws.{HasNumber, asked-number, line_first}
 use Rattle.im_replies.specs.declared.reply.Reply.{Reply}
@@ -54,20 +53,31 @@ are_lines n (line ∷ lines) =
 module _ (area : ℕ) (machine : Machine) where
   -- what these come to is played with nothing to choose, at these steps
   record AreTold (demands : List Demand) (steps : ℕ) : Type 0 where
-    pub lawful : are_lawful [] machine demands ≡ true
-    pub counted : AreCounted [] machine demands steps steps
+    pub answers : List (ℕ × Reply)
+    pub comes : Comes machine demands answers machine steps steps
+
+  -- one more, which is answered so
+  told-first : (demand : Demand) (reply : Option Reply) (demands : List Demand) (steps : ℕ) → IsAnswered steps steps demand machine reply machine
+      → AreTold demands steps → AreTold (demand ∷ demands) steps
+  told-first demand reply demands steps answered told = record {
+    answers = put (number_of demand) reply told.answers;
+    comes = (reply, told.answers, machine, steps, answered, refl, told.comes);
+  }
+
+  still : (steps : ℕ) → IsStill steps steps machine machine
+  still steps = record { machine = refl; steps = refl }
 
   one_told : (f : Form) (line : List ℕ) (n : ℕ) (demands : List Demand) (steps : ℕ) → AreTold demands steps
       → AreTold (asked area n (kind_by f line) ∷ demands) steps
-  one_told form.Long line n demands steps told = record { lawful = told.lawful; counted = told.counted }
-  one_told form.Skip line n demands steps told = record { lawful = told.lawful; counted = told.counted }
-  one_told form.Race line n demands steps told = record { lawful = told.lawful; counted = told.counted }
-  one_told form.Bare line n demands steps told = record { lawful = told.lawful; counted = told.counted }
-  one_told (form.Session m before) line n demands steps told = record { lawful = told.lawful; counted = told.counted }
-  one_told (form.Background before) line n demands steps told = record { lawful = told.lawful; counted = told.counted }
+  one_told form.Long line n demands steps told = told-first _ (Some _) demands steps (refl, still steps) told
+  one_told form.Skip line n demands steps told = told-first _ None demands steps (still steps) told
+  one_told form.Race line n demands steps told = told-first _ None demands steps (still steps) told
+  one_told form.Bare line n demands steps told = told-first _ (Some _) demands steps (refl, still steps) told
+  one_told (form.Session m before) line n demands steps told = told-first _ (Some _) demands steps (refl, still steps) told
+  one_told (form.Background before) line n demands steps told = told-first _ (Some _) demands steps (refl, still steps) told
 
   are_told : (n : ℕ) (lines : List (List ℕ)) (steps : ℕ) → AreTold (demands_of area (some_lines n lines)) steps
-  are_told n [] steps = record { lawful = refl; counted = omega arith }
+  are_told n [] steps = record { answers = []; comes = (refl, refl, omega arith) }
   are_told n (line ∷ lines) steps = one_told (form_of line) line n (demands_of area (some_lines (n + 1) lines)) steps (are_told (n + 1) lines steps)
 
 -- ---- what the lines so far come to
@@ -135,7 +145,7 @@ IsSoFar-end shown area script answers number h rest first now so_far none =
           (ap (λ (l : List (List ℕ)). so_far.done ++ l) (sym no_lines) ∙ sym so_far.split)
           (subst (λ (rs : List (ℕ × Reply)). ComesOf area (so_far.done ++ []) rs h first now) (append-nil answers)
           (so_far.on [] [] tt [] h now
-          (record { ways = []; lawful = refl; answers_are = refl; end_is = refl; counted = omega arith })));
+          (refl, refl, omega arith)));
       text_is = refl;
     }
 
@@ -147,11 +157,10 @@ IsSoFar-part shown area script answers number h rest front more first now so_far
   rest = more ++ text_of shown others;
   played = record {
     answers = answers ++ others;
-    end = machine_behind_all [] h (demands_of area lines);
+    end = h;
     comes =
-        subst (λ (l : List (List ℕ)). ComesOf area l (answers ++ others) (machine_behind_all [] h (demands_of area lines)) first now) (sym so_far.split)
-        (so_far.on (lines_of rest) lines (are_lines number (lines_of rest)) others (machine_behind_all [] h (demands_of area lines)) now
-        (record { ways = []; lawful = told.lawful; answers_are = refl; end_is = refl; counted = told.counted }));
+        subst (λ (l : List (List ℕ)). ComesOf area l (answers ++ others) h first now) (sym so_far.split)
+        (so_far.on (lines_of rest) lines (are_lines number (lines_of rest)) others h now told.comes);
     text_is =
         sym (append_assoc front more (text_of shown others))
         ∙ (ap (λ (t : List ℕ). t ++ text_of shown others) (sym split) ∙ sym (text-append shown answers others));
@@ -161,11 +170,11 @@ IsSoFar-part shown area script answers number h rest front more first now so_far
     lines : List Line
     lines = some_lines number (lines_of rest)
 
-    others : List (ℕ × Reply)
-    others = replies [] h (demands_of area lines)
-
     told : AreTold area h (demands_of area lines) now
     told = are_told area h number (lines_of rest) now
+
+    others : List (ℕ × Reply)
+    others = told.answers
 
 -- ---- the loop
 
