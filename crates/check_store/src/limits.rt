@@ -3,7 +3,7 @@ ghost use Rattle.im_reach.specs.Sides.{speaks};
 ghost use Rattle.im_session.specs.Sessions.{Agrees};
 
 use im_core::Core;
-use im_edge::OpenGate;
+use im_edge::{OpenGate, Outside};
 use im_history::Limits;
 use im_play::read_line;
 use im_reach::{Reach, Sole};
@@ -23,8 +23,7 @@ use std::thread::Threads;
 
 /// Plays a line, where it is one of a session.
 fn play<R: Wait, H: Reach<ColumnUnit>, L: Ledger>(
-    rt: &R,
-    alloc: Global,
+    outside: &Outside<R, OpenGate>,
     store: &mut H,
     session: &mut Session,
     text: &str,
@@ -37,10 +36,10 @@ fn play<R: Wait, H: Reach<ColumnUnit>, L: Ledger>(
     ensures speaks { speaks (H.known store.new).side 1 ≡ true }
     ensures agrees { Agrees session.new (H.known store.new) }
 {
-    let line = read_line(alloc, 1, text.as_bytes());
+    let line = read_line(outside.alloc, 1, text.as_bytes());
     let reply = match &line.kind {
         LineKind::Session(_, statement) => {
-            Some(session.execute(rt, store, &OpenGate, statement, steps))
+            Some(session.execute(outside, store, statement, steps))
         }
         _ => None,
     };
@@ -50,8 +49,7 @@ fn play<R: Wait, H: Reach<ColumnUnit>, L: Ledger>(
 
 /// The reply to the last of these lines, which a session plays over a store that nothing has happened in.
 fn last_reply<R: Wait, H: Reach<ColumnUnit>, L: Ledger>(
-    rt: &R,
-    alloc: Global,
+    outside: &Outside<R, OpenGate>,
     store: &mut H,
     lines: &[&str],
     steps: &mut Steps<L>,
@@ -59,10 +57,10 @@ fn last_reply<R: Wait, H: Reach<ColumnUnit>, L: Ledger>(
     requires speaks { speaks (H.known store.old).side 1 ≡ true }
     requires fresh { (H.known store.old).log ≡ [] }
 {
-    let mut session = Session::new(alloc, 1);
+    let mut session = Session::new(outside.alloc, 1);
     let mut last = None;
     for line in lines {
-        drop(replace(&mut last, play(rt, alloc, store, &mut session, line, steps)));
+        drop(replace(&mut last, play(outside, store, &mut session, line, steps)));
     }
     drop(session);
     last
@@ -87,7 +85,12 @@ fn reply_within<R: Threads + Wait, L: Ledger>(
     };
     let mut store = Sole::new(core);
     let mut steps = Steps::<L>::new(rt, blank);
-    let last = last_reply(rt, alloc, &mut store, lines, &mut steps);
+    let outside = Outside {
+        alloc,
+        rt,
+        gate: &OpenGate,
+    };
+    let last = last_reply(&outside, &mut store, lines, &mut steps);
     drop(store);
     last
 }

@@ -1,5 +1,5 @@
 -- A script that is played and written line by line comes to the text of its replies.
-use Rattle.std.proofs.Common.{◌≡◌, ◌≤◌, ℕ, ◌+◌, true, List, [], ◌∷◌, ◌++◌, length, Option, Some, None, refl, sym, ap, ◌∙◌, subst, arith, append-nil, append_assoc}
+use Rattle.std.proofs.Common.{◌≡◌, ◌≤◌, ℕ, ◌+◌, List, [], ◌∷◌, ◌++◌, length, Option, Some, None, refl, sym, ap, ◌∙◌, subst, arith, append-nil, append_assoc}
 use Rattle.im_edge.specs.Writing.{Took}
 use Rattle.im_edge.proofs.ForCallers.{Took-nil}
 use Rattle.im_history.specs.declared.limits.Limits.{Limits}
