@@ -1,51 +1,22 @@
-ghost use Rattle.std.specs.Prelude.{◌≡◌, ◌<◌, ◌≤◌, [], true};
-ghost use Rattle.im_reach.specs.Sides.{speaks};
-ghost use Rattle.im_session.specs.Sessions.{Agrees};
+ghost use Rattle.std.specs.Prelude.{◌≡◌, ◌<◌, ◌≤◌, []};
+ghost use Rattle.im_reach.specs.Sides.{sole};
 
+use crate::lines::play_each;
 use im_core::Core;
 use im_edge::{OpenGate, Outside};
 use im_history::Limits;
-use im_play::read_line;
 use im_reach::{Reach, Sole};
 use im_replies::{Body, Fault, Reply};
-use im_script::LineKind;
 use im_session::Session;
 use im_unit::ColumnUnit;
 use im_values::Steps;
 use im_values::limits::{MOST_CHANGES, MOST_WEIGHT};
 use std::alloc::Global;
 use std::marker::Brand;
-use std::mem::replace;
 use std::sync::Wait;
 use std::sync::ledger::{Blank, Ledger};
 use std::test::Fail;
 use std::thread::Threads;
-
-/// Plays a line, where it is one of a session.
-fn play<R: Wait, H: Reach<ColumnUnit>, L: Ledger>(
-    outside: &Outside<R, OpenGate>,
-    store: &mut H,
-    session: &mut Session,
-    text: &str,
-    steps: &mut Steps<L>,
-) -> Option<Reply>
-    requires session { session.old.who ≡ 1 }
-    requires speaks { speaks (H.known store.old).side 1 ≡ true }
-    requires agrees { Agrees session.old (H.known store.old) }
-    ensures session { session.new.who ≡ 1 }
-    ensures speaks { speaks (H.known store.new).side 1 ≡ true }
-    ensures agrees { Agrees session.new (H.known store.new) }
-{
-    let line = read_line(outside.alloc, 1, text.as_bytes());
-    let reply = match &line.kind {
-        LineKind::Session(_, statement) => {
-            Some(session.execute(outside, store, statement, steps))
-        }
-        _ => None,
-    };
-    drop(line);
-    reply
-}
 
 /// The reply to the last of these lines, which a session plays over a store that nothing has happened in.
 fn last_reply<R: Wait, H: Reach<ColumnUnit>, L: Ledger>(
@@ -54,14 +25,11 @@ fn last_reply<R: Wait, H: Reach<ColumnUnit>, L: Ledger>(
     lines: &[&str],
     steps: &mut Steps<L>,
 ) -> Option<Reply>
-    requires speaks { speaks (H.known store.old).side 1 ≡ true }
+    requires sole { (H.known store.old).side ≡ sole }
     requires fresh { (H.known store.old).log ≡ [] }
 {
     let mut session = Session::new(outside.alloc, 1);
-    let mut last = None;
-    for line in lines {
-        drop(replace(&mut last, play(outside, store, &mut session, line, steps)));
-    }
+    let last = play_each(outside, store, &mut session, lines, steps);
     drop(session);
     last
 }

@@ -164,17 +164,13 @@ part-all wanted who cursor extent bound view now part scan all is =
 -- the next extent of a cursor was served, after others went on
 module _ (who : ℕ) (cursor : Cursor) (extent : ℕ) (first old new : Known) (served : Went old new) where
   -- the scan ends there with an error
-  pub stops-served : {T E : Type 0} (result : Result T E) (marks : List Served)
-      → ((k : ℕ) (on : List Served → Plan Outcome) → Comes who k first (serve_from cursor.view cursor.bound.filter cursor.next on) old
-      (serve cursor.view cursor.bound.filter (cursor.view.extents - extent) extent marks on))
-      → IfErr result (λ error. (k : ℕ) (on : List Served → Plan Outcome)
-      → Stops who k first (serve_from cursor.view cursor.bound.filter cursor.next on) new)
-  stops-served result marks comes =
-      let stops : (k : ℕ) (on : List Served → Plan Outcome) → Stops who k first (serve_from cursor.view cursor.bound.filter cursor.next on) new =
-      λ k on.
+  pub stops-served : (k : ℕ) (on : List Served → Plan Outcome) (marks : List Served)
+      → Comes who k first (serve_from cursor.view cursor.bound.filter cursor.next on) old
+      (serve cursor.view cursor.bound.filter (cursor.view.extents - extent) extent marks on)
+      → Stops who k first (serve_from cursor.view cursor.bound.filter cursor.next on) new
+  stops-served k on marks comes =
       stops-went who k first old new (serve_from cursor.view cursor.bound.filter cursor.next on)
-      (serve cursor.view cursor.bound.filter (cursor.view.extents - extent) extent marks on) served (comes k on) in
-      err-always result _ (λ error. stops)
+      (serve cursor.view cursor.bound.filter (cursor.view.extents - extent) extent marks on) served comes
 
   -- those so far and it were read
   module _ (a b c : ℕ) (went : Went first old) (so_far : AreRead who cursor.number cursor.view cursor.next extent a b first.log old.log)

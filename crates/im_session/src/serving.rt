@@ -189,8 +189,14 @@ pub fn gather<R: Wait, H: Reach<ColumnUnit>, G: Gate, L: Ledger>(
         part: cursor.part.copy(context.outside.alloc)?,
     };
     for extent in cursor.next..cursor.view.extents {
-        let served = served_part(context, reach, cursor, extent, wanted, steps)?;
-        gathered.take(served)?;
+        let Ok(served) = served_part(context, reach, cursor, extent, wanted, steps) else {
+            drop(gathered);
+            return Err(NoMemory);
+        };
+        let Ok(()) = gathered.take(served) else {
+            drop(gathered);
+            return Err(NoMemory);
+        };
     }
     Ok(gathered)
 }

@@ -15,47 +15,47 @@ served_part-requires-clause-kept g c =
     agrees-went c.args.context.now.who c.args.cursor.now (g.H.Reach.known c.args.reach.now) (g.H.Reach.known c.loop-extent.reach) c.requires.speaks
     c.loop-extent.invariant.went c.requires.kept
 
-pub returns-in_err-served-clause-went : goal.returns-in_err-served-clause-went
-returns-in_err-served-clause-went g c =
+pub returns-in_default-clause-went : goal.returns-in_default-clause-went
+returns-in_default-clause-went g c =
     went-on (g.H.Reach.known c.args.reach.now) (g.H.Reach.known c.loop-extent.reach) (g.H.Reach.known c.served_part.new.reach)
-    c.loop-extent.invariant.went c.in_err-served.ensures.went
+    c.loop-extent.invariant.went c.in_default.ensures.went
 
-pub returns-in_err-served-clause-err : goal.returns-in_err-served-clause-err
-returns-in_err-served-clause-err g c =
+pub returns-in_default-clause-err : goal.returns-in_default-clause-err
+returns-in_default-clause-err g c = λ k on.
     stops-served c.args.context.now.who c.args.cursor.now c.loop-extent.extent
     (g.H.Reach.known c.args.reach.now) (g.H.Reach.known c.loop-extent.reach) (g.H.Reach.known c.served_part.new.reach)
-    c.in_err-served.ensures.went _ c.loop-extent.gathered.marks.items c.loop-extent.invariant.comes
+    c.in_default.ensures.went k on c.loop-extent.gathered.marks.items (c.loop-extent.invariant.comes k on)
 
 pub take-requires : goal.take-requires
 take-requires g c = record {
   few =
       part-merges c.args.wanted c.args.cursor.now.bound c.args.cursor.now.view c.loop-extent.extent
       (g.H.Reach.known c.args.reach.now) (g.H.Reach.known c.loop-extent.reach)
-      c.loop-extent.gathered.part c.in_ok-served.served.part c.requires.kept.scan.sees.known c.loop-extent.invariant.went c.loop-extent.invariant.part
-      c.in_ok-served.ensures.part (let few = c.requires.kept.scan.sees.few in omega (arith, few));
+      c.loop-extent.gathered.part c.in-Ok.served.part c.requires.kept.scan.sees.known c.loop-extent.invariant.went c.loop-extent.invariant.part
+      c.in-Ok.ensures.part (let few = c.requires.kept.scan.sees.few in omega (arith, few));
 }
 
-pub returns-in_err-take-clause-went : goal.returns-in_err-take-clause-went
-returns-in_err-take-clause-went g c =
+pub returns-in_default-take-clause-went : goal.returns-in_default-take-clause-went
+returns-in_default-take-clause-went g c =
     went-on (g.H.Reach.known c.args.reach.now) (g.H.Reach.known c.loop-extent.reach) (g.H.Reach.known c.served_part.new.reach)
-    c.loop-extent.invariant.went c.in_ok-served.ensures.went
+    c.loop-extent.invariant.went c.in-Ok.ensures.went
 
-pub returns-in_err-take-clause-err : goal.returns-in_err-take-clause-err
-returns-in_err-take-clause-err g c =
+pub returns-in_default-take-clause-err : goal.returns-in_default-take-clause-err
+returns-in_default-take-clause-err g c = λ k on.
     stops-served c.args.context.now.who c.args.cursor.now c.loop-extent.extent
     (g.H.Reach.known c.args.reach.now) (g.H.Reach.known c.loop-extent.reach) (g.H.Reach.known c.served_part.new.reach)
-    c.in_ok-served.ensures.went _ c.loop-extent.gathered.marks.items c.loop-extent.invariant.comes
+    c.in-Ok.ensures.went k on c.loop-extent.gathered.marks.items (c.loop-extent.invariant.comes k on)
 
 pub loop-extent-preserved : goal.loop-extent-preserved
 loop-extent-preserved g c = record {
   went = went-on (g.H.Reach.known c.args.reach.now) (g.H.Reach.known c.loop-extent.reach) (g.H.Reach.known c.served_part.new.reach)
-      c.loop-extent.invariant.went c.in_ok-served.ensures.went;
+      c.loop-extent.invariant.went c.in-Ok.ensures.went;
   part =
-      c.in_ok-take.ensures.part
+      c.in-Ok-take.ensures.part
       ∙ part-next c.args.wanted c.args.cursor.now.bound c.args.cursor.now.view c.loop-extent.extent
       (g.H.Reach.known c.args.reach.now) (g.H.Reach.known c.loop-extent.reach)
-      c.loop-extent.gathered.part c.in_ok-served.served.part c.requires.kept.scan.sees.known c.loop-extent.invariant.went c.loop-extent.invariant.part
-      c.in_ok-served.ensures.part;
+      c.loop-extent.gathered.part c.in-Ok.served.part c.requires.kept.scan.sees.known c.loop-extent.invariant.went c.loop-extent.invariant.part
+      c.in-Ok.ensures.part;
   comes = λ k on.
       subst (λ (marks : List Served).
       Comes c.args.context.now.who k (g.H.Reach.known c.args.reach.now)
@@ -63,20 +63,20 @@ loop-extent-preserved g c = record {
       (g.H.Reach.known c.served_part.new.reach)
       (serve c.args.cursor.now.view c.args.cursor.now.bound.filter
       (c.args.cursor.now.view.extents - (c.loop-extent.extent + 1)) (c.loop-extent.extent + 1) marks on))
-      (sym (c.in_ok-take.ensures.marks ∙ ap (λ (mark : Served). c.loop-extent.gathered.marks.items ++ mark ∷ []) c.in_ok-served.ensures.mark))
+      (sym (c.in-Ok-take.ensures.marks ∙ ap (λ (mark : Served). c.loop-extent.gathered.marks.items ++ mark ∷ []) c.in-Ok.ensures.mark))
       (comes-next c.args.context.now.who k (g.H.Reach.known c.args.reach.now) (g.H.Reach.known c.loop-extent.reach) (g.H.Reach.known c.served_part.new.reach)
       (serve_from c.args.cursor.now.view c.args.cursor.now.bound.filter c.args.cursor.now.next on)
       c.args.cursor.now.view c.args.cursor.now.bound.filter c.loop-extent.extent
-      c.loop-extent.gathered.marks.items on c.loop-extent-test.true c.in_ok-served.ensures.went (c.loop-extent.invariant.comes k on));
+      c.loop-extent.gathered.marks.items on c.loop-extent-test.true c.in-Ok.ensures.went (c.loop-extent.invariant.comes k on));
   read =
       read-served c.args.context.now.who c.args.cursor.now c.loop-extent.extent
       (g.H.Reach.known c.args.reach.now) (g.H.Reach.known c.loop-extent.reach) (g.H.Reach.known c.served_part.new.reach)
-      c.in_ok-served.ensures.went c.args.steps.now c.loop-extent.steps c.served_part.new.steps
-      c.loop-extent.invariant.went c.loop-extent.invariant.read c.in_ok-served.ensures.ticks;
+      c.in-Ok.ensures.went c.args.steps.now c.loop-extent.steps c.served_part.new.steps
+      c.loop-extent.invariant.went c.loop-extent.invariant.read c.in-Ok.ensures.ticks;
   rows =
       rows-next c.args.cursor.now.view c.loop-extent.extent c.args.steps.now c.loop-extent.steps c.served_part.new.steps
-      c.loop-extent.gathered.marks.items _ c.in_ok-served.served.mark (ap (λ (mark : Served). mark.extent) c.in_ok-served.ensures.mark)
-      c.in_ok-take.ensures.marks c.loop-extent.invariant.rows c.in_ok-served.ensures.rows;
+      c.loop-extent.gathered.marks.items _ c.in-Ok.served.mark (ap (λ (mark : Served). mark.extent) c.in-Ok.ensures.mark)
+      c.in-Ok-take.ensures.marks c.loop-extent.invariant.rows c.in-Ok.ensures.rows;
 }
 
 pub returns-clause-part : goal.returns-clause-part
@@ -105,19 +105,19 @@ returns-in_err-copy-clause-err g c =
     } in
     err-always _ _ (λ error. stops)
 
-pub returns-in_err-served-clause-ticks : goal.returns-in_err-served-clause-ticks
-returns-in_err-served-clause-ticks g c =
+pub returns-in_default-clause-ticks : goal.returns-in_default-clause-ticks
+returns-in_default-clause-ticks g c =
     has-served c.args.context.now.who c.args.cursor.now c.loop-extent.extent
     (g.H.Reach.known c.args.reach.now) (g.H.Reach.known c.loop-extent.reach) (g.H.Reach.known c.served_part.new.reach)
-    c.in_err-served.ensures.went c.args.steps.now c.loop-extent.steps c.served_part.new.steps
-    c.loop-extent.invariant.went c.loop-extent.invariant.read c.in_err-served.ensures.ticks c.loop-extent-test.true
+    c.in_default.ensures.went c.args.steps.now c.loop-extent.steps c.served_part.new.steps
+    c.loop-extent.invariant.went c.loop-extent.invariant.read c.in_default.ensures.ticks c.loop-extent-test.true
 
-pub returns-in_err-take-clause-ticks : goal.returns-in_err-take-clause-ticks
-returns-in_err-take-clause-ticks g c =
+pub returns-in_default-take-clause-ticks : goal.returns-in_default-take-clause-ticks
+returns-in_default-take-clause-ticks g c =
     has-served c.args.context.now.who c.args.cursor.now c.loop-extent.extent
     (g.H.Reach.known c.args.reach.now) (g.H.Reach.known c.loop-extent.reach) (g.H.Reach.known c.served_part.new.reach)
-    c.in_ok-served.ensures.went c.args.steps.now c.loop-extent.steps c.served_part.new.steps
-    c.loop-extent.invariant.went c.loop-extent.invariant.read c.in_ok-served.ensures.ticks c.loop-extent-test.true
+    c.in-Ok.ensures.went c.args.steps.now c.loop-extent.steps c.served_part.new.steps
+    c.loop-extent.invariant.went c.loop-extent.invariant.read c.in-Ok.ensures.ticks c.loop-extent-test.true
 
 pub returns-clause-ticks : goal.returns-clause-ticks
 returns-clause-ticks g c =
