@@ -1,4 +1,3 @@
 pub mod Ends
 pub mod Going
-pub mod Parts
 pub mod Sent

@@ -10,7 +10,6 @@
 
 mod ends;
 mod modes;
-mod part;
 mod play;
 mod report;
 mod shown;

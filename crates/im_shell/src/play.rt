@@ -5,7 +5,6 @@ ghost use Rattle.im_shell.specs.inner.Sent.{Sends, SendsPart};
 ghost use Rattle.im_play.specs.Between.{IsBetween, machine_of, nothing_in, unused_background, unused_from};
 ghost use Rattle.im_shell.specs.Play.{Plays, PlaysInPart};
 
-use crate::part::Part;
 use crate::shown::Shown;
 use crate::writing::{PIECE, Stop, flush, flush_piece, put};
 use im_edge::{Gate, Sink};
@@ -13,7 +12,7 @@ use im_play::{Players, empty_store, play_line, read_line};
 use im_reach::Reach;
 use im_replies::Reply;
 use im_script::first_line;
-use im_text::Waiting;
+use im_text::{Passage, Waiting};
 use im_unit::ColumnUnit;
 use im_values::Steps;
 use im_values::limits::SESSIONS;
@@ -59,7 +58,7 @@ fn put_reply<K: Sink>(
 {
     match reply {
         Some(reply) if shown.shows(&reply.body) => {
-            put(alloc, Part::Reply(number, &reply.body), sink, waiting)
+            put(alloc, Passage::Reply(number, &reply.body), sink, waiting)
         }
         _ => Ok(()),
     }

@@ -1,19 +1,19 @@
-ghost use Rattle.std.specs.Prelude.{◌≤◌, ◌++◌, length, OnOk, OnErr, IsErrOf};
+ghost use Rattle.std.specs.Prelude.{◌≡◌, ◌≤◌, ◌++◌, length, OnOk, OnErr, IsErrOf};
 ghost use Rattle.im_edge.specs.Faults.{Rose};
 ghost use Rattle.im_edge.specs.Writing.{Took};
 ghost use Rattle.im_race.specs.Race.{FIRST_WORKER};
 ghost use Rattle.im_shell.specs.declared.shown.Shown.TheVariants.{All};
-ghost use Rattle.im_shell.specs.Reports.{answers_text, ends_text, entries_text, recorded_text, report_text};
+ghost use Rattle.im_shell.specs.Reports.{answers_text, end_text, ends_text, entries_text, recorded_text, report_text};
 ghost use Rattle.im_shell.specs.Texts.{text_of};
 ghost use Rattle.im_shell.specs.inner.Sent.{Sends, SendsPart};
+ghost use Rattle.im_text.specs.Passages.{passage_text};
 
-use crate::part::Part;
 use crate::writing::{PIECE, Stop, flush, put_next};
 use im_edge::Sink;
 use im_history::History;
 use im_race::Report;
 use im_replies::Reply;
-use im_text::Waiting;
+use im_text::{Passage, Waiting};
 use im_values::Steps;
 use im_values::limits::{SESSIONS, WORKERS};
 use im_worker::Ended;
@@ -36,7 +36,7 @@ fn put_replies<K: Sink>(
     ensures later { K.faults sink.old ≤ K.faults sink.new }
 {
     for (line, reply) in replies {
-        put_next(alloc, Part::Reply(*line, &reply.body), sink, waiting)?;
+        put_next(alloc, Passage::Reply(*line, &reply.body), sink, waiting)?;
     }
     Ok(())
 }
@@ -57,7 +57,7 @@ fn put_entries<K: Sink, L: Ledger>(
     let mut place = 0;
     while place < history.len() {
         let entry = history.entry(place, steps);
-        put_next(alloc, Part::Entry(place, entry), sink, waiting)?;
+        put_next(alloc, Passage::Entry(place, entry), sink, waiting)?;
         place += 1;
     }
     Ok(())
@@ -76,8 +76,28 @@ fn put_history<K: Sink, L: Ledger>(
     ensures cause { IsErrOf result Stop.WriteFault → Rose (K.faults sink.old) (K.faults sink.new) }
     ensures later { K.faults sink.old ≤ K.faults sink.new }
 {
-    put_next(alloc, Part::History(history.len()), sink, waiting)?;
+    put_next(alloc, Passage::History(history.len()), sink, waiting)?;
     put_entries(alloc, history, sink, waiting, steps)
+}
+
+/// What is put of how the worker of this number ended.
+fn end_passage(who: u32, ended: Ended) -> Passage<'static>
+    ensures { passage_text result ≡ end_text who ended }
+{
+    match ended {
+        Ended::Over { place } => Passage::Worker {
+            who,
+            over: true,
+            lacks: 0,
+            place: Some(place),
+        },
+        Ended::Spent { lacks, idle } => Passage::Worker {
+            who,
+            over: false,
+            lacks,
+            place: idle,
+        },
+    }
 }
 
 /// Puts how each worker ended.
@@ -95,7 +115,7 @@ fn put_ends<K: Sink>(
 {
     let mut who = FIRST;
     for ended in ends {
-        put_next(alloc, Part::Worker(who, *ended), sink, waiting)?;
+        put_next(alloc, end_passage(who, *ended), sink, waiting)?;
         who += 1;
     }
     Ok(())
@@ -114,7 +134,7 @@ fn put_answers<K: Sink>(
     ensures later { K.faults sink.old ≤ K.faults sink.new }
 {
     for (line, reply) in answers {
-        put_next(alloc, Part::Line(*line, reply), sink, waiting)?;
+        put_next(alloc, Passage::Line(*line, reply), sink, waiting)?;
     }
     Ok(())
 }

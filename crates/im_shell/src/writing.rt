@@ -1,12 +1,11 @@
 ghost use Rattle.std.specs.Prelude.{◌≡◌, ◌≤◌, [], ◌++◌, OnOk, OnErr, IsErrOf};
 ghost use Rattle.im_edge.specs.Faults.{Rose};
 ghost use Rattle.im_shell.specs.declared.writing.Stop.TheVariants as stop;
-ghost use Rattle.im_shell.specs.inner.Parts.{part_text};
 ghost use Rattle.im_shell.specs.inner.Sent.{Sends, SendsPart};
+ghost use Rattle.im_text.specs.Passages.{passage_text};
 
-use crate::part::Part;
 use im_edge::{Sink, WriteFault, write_all};
-use im_text::Waiting;
+use im_text::{Passage, Waiting};
 use im_values::NoMemory;
 use std::alloc::Global;
 use thiserror::Error;
@@ -67,39 +66,39 @@ pub fn flush_piece<K: Sink>(sink: &mut K, waiting: &mut Waiting) -> Result<(), W
     flush(sink, waiting)
 }
 
-/// Puts a part behind what waits to be written. Where there is no memory for it, what waits is written first, and then it is
+/// Puts a passage behind what waits to be written. Where there is no memory for it, what waits is written first, and then it is
 /// tried again.
 pub fn put<K: Sink>(
     alloc: Global,
-    part: Part<'_>,
+    passage: Passage<'_>,
     sink: &mut K,
     waiting: &mut Waiting,
 ) -> Result<(), Stop>
-    ensures ok { OnOk result (Sends (K.taken sink.old) (K.taken sink.new) (waiting.old ++ part_text part.entry) waiting.new) }
+    ensures ok { OnOk result (Sends (K.taken sink.old) (K.taken sink.new) (waiting.old ++ passage_text passage.entry) waiting.new) }
     ensures err { OnErr result (SendsPart (K.taken sink.old) (K.taken sink.new) waiting.old) }
     ensures cause { IsErrOf result Stop.WriteFault → Rose (K.faults sink.old) (K.faults sink.new) }
     ensures later { K.faults sink.old ≤ K.faults sink.new }
 {
-    if part.put_behind(alloc, waiting).is_ok() {
+    if waiting.put(alloc, passage).is_ok() {
         return Ok(());
     }
     flush(sink, waiting)?;
-    part.put_behind(alloc, waiting)?;
+    waiting.put(alloc, passage)?;
     Ok(())
 }
 
-/// Puts a part behind what waits to be written, and writes all that waits once it is a whole piece.
+/// Puts a passage behind what waits to be written, and writes all that waits once it is a whole piece.
 pub fn put_next<K: Sink>(
     alloc: Global,
-    part: Part<'_>,
+    passage: Passage<'_>,
     sink: &mut K,
     waiting: &mut Waiting,
 ) -> Result<(), Stop>
-    ensures ok { OnOk result (Sends (K.taken sink.old) (K.taken sink.new) (waiting.old ++ part_text part.entry) waiting.new) }
-    ensures err { OnErr result (SendsPart (K.taken sink.old) (K.taken sink.new) (waiting.old ++ part_text part.entry)) }
+    ensures ok { OnOk result (Sends (K.taken sink.old) (K.taken sink.new) (waiting.old ++ passage_text passage.entry) waiting.new) }
+    ensures err { OnErr result (SendsPart (K.taken sink.old) (K.taken sink.new) (waiting.old ++ passage_text passage.entry)) }
     ensures cause { IsErrOf result Stop.WriteFault → Rose (K.faults sink.old) (K.faults sink.new) }
     ensures later { K.faults sink.old ≤ K.faults sink.new }
 {
-    put(alloc, part, sink, waiting)?;
+    put(alloc, passage, sink, waiting)?;
     Ok(flush_piece(sink, waiting)?)
 }

@@ -15,7 +15,7 @@ loop-ended-preserved g c =
     record {
       to = IsPutTo-next _ _ _ _ _ _ (end_text c.loop-ended.who (get_or c.args.ends.now c.loop-ended.ended-index (Spent 0 None))) _ _ c.loop-ended.invariant.to
           (ends-next c.args.ends.now c.loop-ended.who c.loop-ended.ended-index (Spent 0 None) below)
-          c.in_ok-put_next.ensures.ok;
+          (rw c.end_passage.ensures at c.in_ok-put_next.ensures.ok);
       who = omega (arith, c.loop-ended.invariant.who);
       later = omega (arith, c.loop-ended.invariant.later, c.put_next.ensures.later);
     }
@@ -26,7 +26,7 @@ returns-in_err-put_next-clause-err g c =
     OnErr-always _ (IsPutTo-stop _ _ _ _ _ _
     (end_text c.loop-ended.who (get_or c.args.ends.now c.loop-ended.ended-index (Spent 0 None))) _ c.loop-ended.invariant.to
     (ends-next c.args.ends.now c.loop-ended.who c.loop-ended.ended-index (Spent 0 None) below)
-    c.in_err-put_next.ensures.err)
+    (rw c.end_passage.ensures at c.in_err-put_next.ensures.err))
 
 pub returns-clause-ok : goal.returns-clause-ok
 returns-clause-ok g c =
