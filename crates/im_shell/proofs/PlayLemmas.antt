@@ -189,12 +189,14 @@ IsGoing-start shown area script taken waiting h steps empty none =
       numbered = omega arith;
     })
 
--- a line is played with the area that the limits have
-pub next_in : (shown : Shown) (limits same : Limits) → limits ≡ same → (bytes : List ℕ) (number : ℕ) (old new : Machine) (before after : Option (List ℕ))
-    (waiting new_waiting : List ℕ) (steps later : ℕ) → PlaysNext shown limits.area bytes number old new before after waiting new_waiting steps later
+-- a line is played with the area that the limits have, and what is shown stays
+pub next_in : (had shown : Shown) (limits same : Limits) → had ≡ shown → limits ≡ same → (bytes : List ℕ) (number : ℕ) (old new : Machine)
+    (before after : Option (List ℕ)) (waiting new_waiting : List ℕ) (steps later : ℕ)
+    → PlaysNext had limits.area bytes number old new before after waiting new_waiting steps later
     → PlaysNext shown same.area bytes number old new before after waiting new_waiting steps later
-next_in shown limits same is bytes number old new before after waiting new_waiting steps later next =
-    subst (λ (l : Limits). PlaysNext shown l.area bytes number old new before after waiting new_waiting steps later) is next
+next_in had shown limits same shows is bytes number old new before after waiting new_waiting steps later next =
+    subst (λ (s : Shown). PlaysNext s same.area bytes number old new before after waiting new_waiting steps later) shows
+    (subst (λ (l : Limits). PlaysNext had l.area bytes number old new before after waiting new_waiting steps later) is next)
 
 pub stopped_in : (limits same : Limits) → limits ≡ same → (bytes : List ℕ) (number : ℕ) (old new : Machine) (before after : Option (List ℕ))
     (waiting : List ℕ) (steps later : ℕ) → PlaysNextPart limits.area bytes number old new before after waiting steps later

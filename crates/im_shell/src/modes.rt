@@ -10,7 +10,7 @@ use crate::play::play_script;
 use crate::report::write_report;
 use crate::shown::Shown;
 use crate::writing::Stop;
-use im_edge::{Gate, ReadError, Sink, Source, read_all};
+use im_edge::{Gate, Outside, ReadError, Sink, Source, read_all};
 use im_race::{RaceOptions, race};
 use im_script::generate;
 use im_values::limits::{MOST_SCRIPT_BYTES, WORKERS};
@@ -55,9 +55,7 @@ pub fn script_for<S: Source>(
 
 /// Plays a script as a race, and writes its report.
 fn race_script<R: Threads + Wait + Sync, G: Gate + Sync, K: Sink, L: Ledger>(
-    alloc: Global,
-    rt: &R,
-    gate: &G,
+    outside: &Outside<R, G>,
     asked: Asked,
     script: &[u8],
     sink: &mut K,
@@ -75,15 +73,22 @@ fn race_script<R: Threads + Wait + Sync, G: Gate + Sync, K: Sink, L: Ledger>(
         workers: asked.workers,
         turns: asked.turns,
     };
-    let report = race(alloc, rt, gate, options, script, steps)?;
-    write_report(alloc, &report, sink, steps)
+    let report = race(
+        outside.alloc,
+        outside.rt,
+        outside.gate,
+        options,
+        script,
+        steps,
+    )?;
+    let written = write_report(outside.alloc, &report, sink, steps);
+    drop(report);
+    written
 }
 
 /// Plays a script as the words ask, and writes what comes of it.
 pub fn play_for<R: Threads + Wait + Sync, G: Gate + Sync, K: Sink, L: Ledger>(
-    alloc: Global,
-    rt: &R,
-    gate: &G,
+    outside: &Outside<R, G>,
     asked: Asked,
     script: &[u8],
     sink: &mut K,
@@ -98,8 +103,8 @@ pub fn play_for<R: Threads + Wait + Sync, G: Gate + Sync, K: Sink, L: Ledger>(
 {
     let area = asked.area;
     match asked.mode {
-        Mode::Run => play_script(alloc, rt, gate, Shown::All, area, script, sink, steps),
-        Mode::Gen => play_script(alloc, rt, gate, Shown::Outcomes, area, script, sink, steps),
-        Mode::Race => race_script(alloc, rt, gate, asked, script, sink, steps),
+        Mode::Run => play_script(outside, Shown::All, area, script, sink, steps),
+        Mode::Gen => play_script(outside, Shown::Outcomes, area, script, sink, steps),
+        Mode::Race => race_script(outside, asked, script, sink, steps),
     }
 }

@@ -10,7 +10,7 @@ ghost use Rattle.im_words.specs.Good.{IsGood};
 use crate::ends::{end_of_play, end_of_reading, end_of_words};
 use crate::modes::{play_for, script_for};
 use crate::status::Status;
-use im_edge::{Gate, Sink, Source};
+use im_edge::{Gate, Outside, Sink, Source};
 use im_values::Steps;
 use im_values::limits::MOST_SCRIPT_BYTES;
 use im_words::{Mode, Word, read_words};
@@ -68,5 +68,6 @@ pub fn run<R: Threads + Wait + Sync, S: Source, K: Sink, G: Gate + Sync, L: Ledg
         Ok(script) => script,
         Err(error) => return end_of_reading(error),
     };
-    end_of_play(play_for(alloc, rt, gate, asked, script.as_slice(), sink, steps))
+    let outside = Outside { alloc, rt, gate };
+    end_of_play(play_for(&outside, asked, script.as_slice(), sink, steps))
 }
