@@ -3,7 +3,7 @@ ghost use Rattle.im_edge.specs.Faults.{Rose};
 ghost use Rattle.im_edge.specs.Reading.{KeepsLimit};
 ghost use Rattle.im_edge.specs.Source.{IsSpent};
 ghost use Rattle.im_script.specs.Generated.{generated};
-ghost use Rattle.im_shell.specs.Play.{Does, DoesInPart, OfScript, Races, RacesInPart};
+ghost use Rattle.im_shell.specs.Play.{IsRaced, IsTextOf, OfScript, Writes, WritesPart};
 ghost use Rattle.im_words.specs.Asked.{IsInRange};
 
 use crate::play::play_script;
@@ -62,9 +62,9 @@ fn race_script<R: Threads + Wait + Sync, G: Gate + Sync, K: Sink, L: Ledger>(
     steps: &mut Steps<L>,
 ) -> Result<(), Stop>
     requires workers { asked.workers ≤ WORKERS }
-    ensures ok { OnOk result (Races asked.area asked.workers asked.turns script.now (K.taken sink.old) (K.taken sink.new)) }
+    ensures ok { OnOk result (Writes (IsRaced asked.area asked.workers asked.turns script.now) (K.taken sink.old) (K.taken sink.new)) }
     ensures err { OnErr result ((sink.new ≡ sink.old)
-        ⊎ RacesInPart asked.area asked.workers asked.turns script.now (K.taken sink.old) (K.taken sink.new)) }
+        ⊎ WritesPart (IsRaced asked.area asked.workers asked.turns script.now) (K.taken sink.old) (K.taken sink.new)) }
     ensures cause { IsErrOf result Stop.WriteFault → Rose (K.faults sink.old) (K.faults sink.new) }
     ensures later { K.faults sink.old ≤ K.faults sink.new }
 {
@@ -95,9 +95,9 @@ pub fn play_for<R: Threads + Wait + Sync, G: Gate + Sync, K: Sink, L: Ledger>(
     steps: &mut Steps<L>,
 ) -> Result<(), Stop>
     requires ranges { IsInRange asked }
-    ensures ok { OnOk result (Does asked.mode asked script.now (K.taken sink.old) (K.taken sink.new) steps.old steps.new) }
+    ensures ok { OnOk result (Writes (IsTextOf asked.mode asked script.now steps.old steps.new) (K.taken sink.old) (K.taken sink.new)) }
     ensures err { OnErr result (((asked.mode ≡ Mode.Race) × (sink.new ≡ sink.old))
-        ⊎ DoesInPart asked.mode asked script.now (K.taken sink.old) (K.taken sink.new) steps.old steps.new) }
+        ⊎ WritesPart (IsTextOf asked.mode asked script.now steps.old steps.new) (K.taken sink.old) (K.taken sink.new)) }
     ensures cause { IsErrOf result Stop.WriteFault → Rose (K.faults sink.old) (K.faults sink.new) }
     ensures later { K.faults sink.old ≤ K.faults sink.new }
 {
