@@ -24,6 +24,11 @@ OnErr-raced same (Err error) area workers turns script before after report lawfu
       took = part.sends.took;
     })
 
+-- a prefix of some text was written
+pub OnErr-part : (A P : Type 0) {T E : Type 0} (result : Result T E) → OnErr result P → OnErr result (A ⊎ P)
+OnErr-part A P (Ok value) part = tt
+OnErr-part A P (Err error) part = inr part
+
 -- and so of what was asked for
 pub OnErr-asked : (A : Type 0) {T E : Type 0} (result : Result T E) (mode : Mode) (asked : Asked) (script : List ℕ) (before after : Option (List ℕ))
     (steps_before steps_after : ℕ) → mode ≡ Race → OnErr result (A ⊎ WritesPart (IsRaced asked.area asked.workers asked.turns script) before after)
