@@ -1,6 +1,6 @@
 use im_group::Cell;
 use im_replies::{Body, Fault, How, Records, Reply, Served};
-use im_text::Waiting;
+use im_text::{Passage, Waiting};
 use im_values::{List, Name};
 use std::alloc::Global;
 use std::test::Fail;
@@ -8,7 +8,7 @@ use std::test::Fail;
 /// Whether line 5 is reported so.
 fn is_reported(alloc: Global, reply: &Reply, text: &str) -> Result<bool, Fail> {
     let mut waiting = Waiting::with_room(alloc, 64)?;
-    waiting.put_report_line(alloc, 5, reply)?;
+    waiting.put(alloc, Passage::Line(5, reply))?;
     Ok(waiting.bytes() == text.as_bytes())
 }
 
@@ -55,7 +55,13 @@ fn a_text_with_a_line_feed_is_quoted(rt: HostRuntime) -> Result<(), Fail> {
 /// Whether this is how the end of worker 17 is reported.
 fn is_end(alloc: Global, lacks: u64, place: Option<u64>, text: &str) -> Result<bool, Fail> {
     let mut waiting = Waiting::with_room(alloc, 64)?;
-    waiting.put_worker_end(alloc, 17, false, lacks, place)?;
+    let end = Passage::Worker {
+        who: 17,
+        over: false,
+        lacks,
+        place,
+    };
+    waiting.put(alloc, end)?;
     Ok(waiting.bytes() == text.as_bytes())
 }
 
@@ -73,12 +79,12 @@ fn replies_wait_behind_each_other_whatever_room_there_is(rt: HostRuntime) -> Res
     for piece in [0, 16, 65536] {
         let mut waiting = Waiting::with_room(alloc, piece)?;
         for _ in 0..1000 {
-            waiting.put_reply(alloc, 4, &Body::RolledBack)?;
+            waiting.put(alloc, Passage::Reply(4, &Body::RolledBack))?;
         }
         assert_eq!(rt; waiting.bytes().len(), 14_000);
         waiting.clear();
         assert!(rt; waiting.bytes().is_empty());
-        waiting.put_reply(alloc, 5, &Body::Begun { scn: 4 })?;
+        waiting.put(alloc, Passage::Reply(5, &Body::Begun { scn: 4 }))?;
         assert!(rt; waiting.bytes() == b"5,begun,4\n".as_slice());
     }
     Ok(())

@@ -1,3 +1,4 @@
+mod EndLemmas
 mod ModeLemmas
 mod PlayLemmas
 mod ReportLemmas

@@ -15,7 +15,7 @@ use Rattle.im_script.specs.declared.line.LineKind.TheVariants as kind
 use Rattle.im_script.specs.Forms.{lines_of, first_of, form_of, who_of}
 use Rattle.im_script.specs.Lines.{AreLines, IsLine, HasKind, no_memory}
 use Rattle.im_shell.specs.declared.shown.Shown.{Shown}
-use Rattle.im_shell.specs.Play.{ComesOf, IsPlayed, IsPlayedInPart, Plays, PlaysInPart}
+use Rattle.im_shell.specs.Play.{ComesOf, IsPlayed, Writes, WritesPart}
 use Rattle.im_shell.specs.Texts.{text_of, text_shown}
 use Rattle.im_shell.specs.inner.Going.{text_put, IsSoFar, PlaysNext, PlaysNextPart}
 use Rattle.im_shell.specs.inner.Sent.{Sends, SendsPart}
@@ -134,7 +134,7 @@ text-one shown number (Some reply) = append-nil (text_shown shown number reply.b
 
 -- what is behind the end of a script comes to nothing
 pub IsSoFar-end : (shown : Shown) (area : ℕ) (script : List ℕ) (answers : List (ℕ × Reply)) (number : ℕ) (h : Machine) (rest : List ℕ) (first now : ℕ)
-    → IsSoFar area script answers number h rest first now → rest ≡ [] → IsPlayed shown area script (text_of shown answers) first now
+    → IsSoFar area script answers number h rest first now → rest ≡ [] → IsPlayed shown area script first now (text_of shown answers)
 IsSoFar-end shown area script answers number h rest first now so_far none =
     let no_lines : lines_of rest ≡ [] = ap lines_of none ∙ lines_of-nil in
     record {
@@ -151,11 +151,12 @@ IsSoFar-end shown area script answers number h rest first now so_far none =
 
 -- a prefix of what was written is a prefix of what the script comes to
 pub IsSoFar-part : (shown : Shown) (area : ℕ) (script : List ℕ) (answers : List (ℕ × Reply)) (number : ℕ) (h : Machine) (rest front more : List ℕ)
-    (first now : ℕ) → IsSoFar area script answers number h rest first now → text_of shown answers ≡ front ++ more
-    → IsPlayedInPart shown area script front first now
-IsSoFar-part shown area script answers number h rest front more first now so_far split = record {
+    (first now : ℕ) (before after : Option (List ℕ)) → IsSoFar area script answers number h rest first now → text_of shown answers ≡ front ++ more
+    → Took before after front → WritesPart (IsPlayed shown area script first now) before after
+IsSoFar-part shown area script answers number h rest front more first now before after so_far split took = record {
+  text = front;
   rest = more ++ text_of shown others;
-  played = record {
+  is = record {
     answers = answers ++ others;
     end = h;
     comes =
@@ -165,6 +166,7 @@ IsSoFar-part shown area script answers number h rest front more first now so_far
         sym (append_assoc front more (text_of shown others))
         ∙ (ap (λ (t : List ℕ). t ++ text_of shown others) (sym split) ∙ sym (text-append shown answers others));
   };
+  took = took;
 }
   where
     lines : List Line
@@ -198,12 +200,14 @@ IsGoing-start shown area script taken waiting h steps empty none =
       numbered = omega arith;
     })
 
--- a line is played with the area that the limits have
-pub next_in : (shown : Shown) (limits same : Limits) → limits ≡ same → (bytes : List ℕ) (number : ℕ) (old new : Machine) (before after : Option (List ℕ))
-    (waiting new_waiting : List ℕ) (steps later : ℕ) → PlaysNext shown limits.area bytes number old new before after waiting new_waiting steps later
+-- a line is played with the area that the limits have, and what is shown stays
+pub next_in : (had shown : Shown) (limits same : Limits) → had ≡ shown → limits ≡ same → (bytes : List ℕ) (number : ℕ) (old new : Machine)
+    (before after : Option (List ℕ)) (waiting new_waiting : List ℕ) (steps later : ℕ)
+    → PlaysNext had limits.area bytes number old new before after waiting new_waiting steps later
     → PlaysNext shown same.area bytes number old new before after waiting new_waiting steps later
-next_in shown limits same is bytes number old new before after waiting new_waiting steps later next =
-    subst (λ (l : Limits). PlaysNext shown l.area bytes number old new before after waiting new_waiting steps later) is next
+next_in had shown limits same shows is bytes number old new before after waiting new_waiting steps later next =
+    subst (λ (s : Shown). PlaysNext s same.area bytes number old new before after waiting new_waiting steps later) shows
+    (subst (λ (l : Limits). PlaysNext had l.area bytes number old new before after waiting new_waiting steps later) is next)
 
 pub stopped_in : (limits same : Limits) → limits ≡ same → (bytes : List ℕ) (number : ℕ) (old new : Machine) (before after : Option (List ℕ))
     (waiting : List ℕ) (steps later : ℕ) → PlaysNextPart limits.area bytes number old new before after waiting steps later
@@ -234,12 +238,12 @@ IsGoing-next shown area script before now between after number h new rest behind
 
 pub IsGoing-end : (shown : Shown) (area : ℕ) (script : List ℕ) (before now after : Option (List ℕ)) (number : ℕ) (h : Machine)
     (rest waiting new_waiting : List ℕ) (first steps : ℕ) → IsGoing shown area script before now number h rest waiting first steps → length rest ≤ 0
-    → Sends now after waiting new_waiting → new_waiting ≡ [] → Plays shown area script before after first steps
+    → Sends now after waiting new_waiting → new_waiting ≡ [] → Writes (IsPlayed shown area script first steps) before after
 IsGoing-end shown area script before now after number h rest waiting new_waiting first steps going over sends none =
     let all = Sends-after before now after (text_of shown going.answers) waiting new_waiting going.sends sends in
     record {
       text = text_of shown going.answers;
-      played = IsSoFar-end shown area script going.answers number h rest first steps going.so_far (empty rest over);
+      is = IsSoFar-end shown area script going.answers number h rest first steps going.so_far (empty rest over);
       took = subst (Took before after) (sym (all.split ∙ (ap (λ (t : List ℕ). all.sent ++ t) none ∙ append-nil all.sent))) all.took;
     }
   where
@@ -250,21 +254,17 @@ IsGoing-end shown area script before now after number h rest waiting new_waiting
 -- where it stops the sink took a prefix of the text
 pub IsGoing-part : (shown : Shown) (area : ℕ) (script : List ℕ) (before now after : Option (List ℕ)) (number : ℕ) (h : Machine) (rest waiting : List ℕ)
     (first steps : ℕ) → IsGoing shown area script before now number h rest waiting first steps → SendsPart now after waiting
-    → PlaysInPart shown area script before after first steps
+    → WritesPart (IsPlayed shown area script first steps) before after
 IsGoing-part shown area script before now after number h rest waiting first steps going part =
     let all = Sends-after before now after (text_of shown going.answers) waiting part.left going.sends part.sends in
-    record {
-      text = all.sent;
-      played = IsSoFar-part shown area script going.answers number h rest all.sent part.left first steps going.so_far all.split;
-      took = all.took;
-    }
+    IsSoFar-part shown area script going.answers number h rest all.sent part.left first steps before after going.so_far all.split all.took
 
 -- a fault right after a line
 pub IsGoing-stuck : (shown : Shown) (area : ℕ) (script : List ℕ) (before now between after : Option (List ℕ)) (number : ℕ) (h new : Machine)
     (rest behind line waiting middle : List ℕ) (first steps later : ℕ) → IsGoing shown area script before now number h rest waiting first steps
     → lines_of rest ≡ line ∷ lines_of behind → length behind + 1 ≤ length rest
     → PlaysNext shown area line number h new now between waiting middle steps later → SendsPart between after middle
-    → PlaysInPart shown area script before after first later
+    → WritesPart (IsPlayed shown area script first later) before after
 IsGoing-stuck shown area script before now between after number h new rest behind line waiting middle first steps later going lines_are shorter next part =
     IsGoing-part shown area script before between after (number + 1) new behind middle first later
     (IsGoing-next shown area script before now between between number h new rest behind line waiting middle middle first steps later going lines_are
@@ -275,28 +275,23 @@ IsGoing-stuck shown area script before now between after number h new rest behin
 pub IsGoing-stopped : (shown : Shown) (area : ℕ) (script : List ℕ) (before now after : Option (List ℕ)) (number : ℕ) (h new : Machine)
     (rest behind line waiting : List ℕ) (first steps later : ℕ) → IsGoing shown area script before now number h rest waiting first steps
     → lines_of rest ≡ line ∷ lines_of behind → PlaysNextPart area line number h new now after waiting steps later
-    → PlaysInPart shown area script before after first later
+    → WritesPart (IsPlayed shown area script first later) before after
 IsGoing-stopped shown area script before now after number h new rest behind line waiting first steps later going lines_are next =
     let text = text_put shown number next.reply in
     let all = Sends-after before now after (text_of shown going.answers) waiting next.sends.left going.sends next.sends.sends in
     let more = Sends-more before after (text_of shown going.answers) next.sends.left text (next.sends.left ++ text) all refl in
     let written = text-append shown going.answers (one number next.reply)
     ∙ ap (λ (t : List ℕ). text_of shown going.answers ++ t) (text-one shown number next.reply) in
-    record {
-      text = more.sent;
-      played = IsSoFar-part shown area script (going.answers ++ one number next.reply) (number + 1) new behind more.sent (next.sends.left ++ text) first later
-          (IsSoFar-next area script going.answers number h new rest behind line next.plays.line next.reply first steps later going.so_far lines_are
-          next.plays.read.is_line next.plays.answers.answered)
-          (written ∙ more.split);
-      took = more.took;
-    }
+    IsSoFar-part shown area script (going.answers ++ one number next.reply) (number + 1) new behind more.sent (next.sends.left ++ text) first later before
+    after
+    (IsSoFar-next area script going.answers number h new rest behind line next.plays.line next.reply first steps later going.so_far lines_are
+    next.plays.read.is_line next.plays.answers.answered)
+    (written ∙ more.split)
+    more.took
 
 -- before its first byte a prefix of every script's text was written, and no row was read
-pub PlaysInPart-nil : (shown : Shown) (area : ℕ) (script : List ℕ) (taken now : Option (List ℕ)) (steps later : ℕ) → now ≡ taken → later ≡ steps
-    → PlaysInPart shown area script taken now steps later
-PlaysInPart-nil shown area script taken now steps later same unread =
-    rw (same, unread) (record {
-      text = [];
-      played = IsSoFar-part shown area script [] 1 idle script [] [] steps steps (IsSoFar-start area script steps) refl;
-      took = Took-nil taken;
-    })
+pub WritesPart-nil : (shown : Shown) (area : ℕ) (script : List ℕ) (taken now : Option (List ℕ)) (steps later : ℕ) → now ≡ taken → later ≡ steps
+    → WritesPart (IsPlayed shown area script steps later) taken now
+WritesPart-nil shown area script taken now steps later same unread =
+    rw (same, unread)
+    (IsSoFar-part shown area script [] 1 idle script [] [] steps steps taken taken (IsSoFar-start area script steps) refl (Took-nil taken))

@@ -3,7 +3,9 @@ use Rattle.std.proofs.Common.{◌≡◌, ℕ, List, [], ◌++◌, take, drop, Op
 use Rattle.std.proofs.lemmas.List.{take-append-drop}
 use Rattle.im_edge.specs.Writing.{Took, TookPart}
 use Rattle.im_edge.proofs.ForCallers.{Took-nil, Took-append}
+use Rattle.im_shell.specs.declared.writing.Writer.{Writer}
 use Rattle.im_shell.specs.inner.Sent.{Sends, SendsPart}
+use Rattle.im_shell.specs.inner.Writers.{IsSame}
 
 -- a fact that holds anyway holds where a call failed
 pub OnErr-always : {T E P : Type 0} (r : Result T E) → P → OnErr r P
@@ -118,3 +120,15 @@ pub IsPutTo-stop : (a b c : Option (List ℕ)) (text waiting whole part rest : L
 IsPutTo-stop a b c text waiting whole part rest to whole_is stop =
     let next = IsPutTo-next a b c text waiting whole part rest stop.left to whole_is stop.sends in
     subst (SendsPart a c) (sym next.split) (SendsPart-more a c next.done rest (record { left = stop.left; sends = next.sends }))
+
+-- ---- a writer
+
+pub IsSame-start : {K : Type 0} (writer : Writer K) → IsSame writer writer
+IsSame-start writer = record { sink = refl; waiting = refl; shown = refl }
+
+pub IsSame-then : {K : Type 0} (a b c : Writer K) → IsSame a b → IsSame b c → IsSame a c
+IsSame-then a b c first second = record {
+  sink = second.sink ∙ first.sink;
+  waiting = second.waiting ∙ first.waiting;
+  shown = second.shown ∙ first.shown;
+}

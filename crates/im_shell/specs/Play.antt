@@ -26,46 +26,33 @@ pub record ComesOf (area : ℕ) (lines : List (List ℕ)) (answers : List (ℕ �
   pub are : AreLines 1 lines read
   pub comes : Comes idle (demands_of area read) answers end before after
 
--- the text is that of the replies to a script that are shown, and the steps grew so
-pub record IsPlayed (shown : Shown) (area : ℕ) (script text : List ℕ) (before after : ℕ) : Type 0 where
+-- this is the text of the replies to a script that are shown, and the steps grow so
+pub record IsPlayed (shown : Shown) (area : ℕ) (script : List ℕ) (before after : ℕ) (text : List ℕ) : Type 0 where
   pub answers : List (ℕ × Reply)
   pub end : Machine
   pub comes : ComesOf area (lines_of script) answers end before after
   pub text_is : text ≡ text_of shown answers
 
--- the text is a prefix of such a text, perhaps all of it, and the steps grew by at most what that play counts. A line that was not
--- played is in it one whose reading ran out of memory, and which reads no row
-pub record IsPlayedInPart (shown : Shown) (area : ℕ) (script text : List ℕ) (before after : ℕ) : Type 0 where
-  pub rest : List ℕ
-  pub played : IsPlayed shown area script (text ++ rest) before after
-
--- the sink took the text of the replies to a script that are shown, and the steps grew so
-pub record Plays (shown : Shown) (area : ℕ) (script : List ℕ) (before after : Option (List ℕ)) (steps_before steps_after : ℕ) : Type 0 where
-  pub text : List ℕ
-  pub played : IsPlayed shown area script text steps_before steps_after
-  pub took : Took before after text
-
--- the sink took a prefix of such a text, and the steps grew so
-pub record PlaysInPart (shown : Shown) (area : ℕ) (script : List ℕ) (before after : Option (List ℕ)) (steps_before steps_after : ℕ) : Type 0 where
-  pub text : List ℕ
-  pub played : IsPlayedInPart shown area script text steps_before steps_after
-  pub took : Took before after text
-
--- ---- a race of a script
-
--- the sink took the text of the report of a lawful race of a script, with this area, so many workers, and so many turns for each
-pub record Races (area workers turns : ℕ) (script : List ℕ) (before after : Option (List ℕ)) : Type 0 where
+-- this is the text of the report of a lawful race of a script, with this area, so many workers, and so many turns for each
+pub record IsRaced (area workers turns : ℕ) (script text : List ℕ) : Type 0 where
   pub report : Report
   pub lawful : IsRaceOf area workers turns script report
-  pub took : Took before after (report_text report)
+  pub text_is : text ≡ report_text report
 
--- the sink took a prefix of such a text, perhaps all of it
-pub record RacesInPart (area workers turns : ℕ) (script : List ℕ) (before after : Option (List ℕ)) : Type 0 where
-  pub report : Report
-  pub lawful : IsRaceOf area workers turns script report
+-- ---- what the sink took of it
+
+-- it took such a text
+pub record Writes (IsText : List ℕ → Type 0) (before after : Option (List ℕ)) : Type 0 where
+  pub text : List ℕ
+  pub is : IsText text
+  pub took : Took before after text
+
+-- it took a prefix of such a text, perhaps all of it. So the steps grew by at most what that play counts: a line that was not played
+-- is in it one whose reading ran out of memory, and which reads no row
+pub record WritesPart (IsText : List ℕ → Type 0) (before after : Option (List ℕ)) : Type 0 where
   pub text : List ℕ
   pub rest : List ℕ
-  pub text_is : report_text report ≡ text ++ rest
+  pub is : IsText (text ++ rest)
   pub took : Took before after text
 
 -- ---- what words ask for
@@ -76,35 +63,32 @@ OfScript Run asked left P = IfSome left P
 OfScript Race asked left P = IfSome left P
 OfScript Gen asked left P = P (generated asked.seed asked.rows)
 
--- a mode with a script: what the sink took, and how the steps grew, of which a race says nothing
-abbrev pub Does : Mode → Asked → List ℕ → Option (List ℕ) → Option (List ℕ) → ℕ → ℕ → Type 0
-Does Run asked script before after steps_before steps_after = Plays All asked.area script before after steps_before steps_after
-Does Race asked script before after steps_before steps_after = Races asked.area asked.workers asked.turns script before after
-Does Gen asked script before after steps_before steps_after = Plays Outcomes asked.area script before after steps_before steps_after
-
--- and in part
-abbrev pub DoesInPart : Mode → Asked → List ℕ → Option (List ℕ) → Option (List ℕ) → ℕ → ℕ → Type 0
-DoesInPart Run asked script before after steps_before steps_after = PlaysInPart All asked.area script before after steps_before steps_after
-DoesInPart Race asked script before after steps_before steps_after = RacesInPart asked.area asked.workers asked.turns script before after
-DoesInPart Gen asked script before after steps_before steps_after = PlaysInPart Outcomes asked.area script before after steps_before steps_after
+-- this is the text of a mode with a script, and the steps grow so, of which a race says nothing
+abbrev pub IsTextOf : Mode → Asked → List ℕ → ℕ → ℕ → List ℕ → Type 0
+IsTextOf Run asked script before after text = IsPlayed All asked.area script before after text
+IsTextOf Race asked script before after text = IsRaced asked.area asked.workers asked.turns script text
+IsTextOf Gen asked script before after text = IsPlayed Outcomes asked.area script before after text
 
 -- good words ask for what stands in them
 abbrev pub AreMeant : List (List ℕ) → Asked → Type 0
 AreMeant words asked = (good : Asked) → IsGood words good → asked ≡ good
 
--- what the words ask for was done, from where the source had this left
-pub record DoneFor (words : List (List ℕ)) (left before after : Option (List ℕ)) (steps_before steps_after : ℕ) : Type 0 where
+-- this holds of what the words ask for and of its script, where the source had this left
+pub record Asks (words : List (List ℕ)) (left : Option (List ℕ)) (P : Asked → List ℕ → Type 0) : Type 0 where
   pub asked : Asked
   pub taken : Takes words asked
   pub meant : AreMeant words asked
-  pub does : OfScript asked.mode asked left (λ script. Does asked.mode asked script before after steps_before steps_after)
+  pub holds : OfScript asked.mode asked left (P asked)
+
+-- what the words ask for was done, from where the source had this left
+abbrev pub DoneFor : List (List ℕ) → Option (List ℕ) → Option (List ℕ) → Option (List ℕ) → ℕ → ℕ → Type 0
+DoneFor words left before after steps_before steps_after =
+    Asks words left (λ asked script. Writes (IsTextOf asked.mode asked script steps_before steps_after) before after)
 
 -- and in part
-pub record InPartFor (words : List (List ℕ)) (left before after : Option (List ℕ)) (steps_before steps_after : ℕ) : Type 0 where
-  pub asked : Asked
-  pub taken : Takes words asked
-  pub meant : AreMeant words asked
-  pub does : OfScript asked.mode asked left (λ script. DoesInPart asked.mode asked script before after steps_before steps_after)
+abbrev pub InPartFor : List (List ℕ) → Option (List ℕ) → Option (List ℕ) → Option (List ℕ) → ℕ → ℕ → Type 0
+InPartFor words left before after steps_before steps_after =
+    Asks words left (λ asked script. WritesPart (IsTextOf asked.mode asked script steps_before steps_after) before after)
 
 -- the words ask for a race. How much it reads is bounded nowhere: each job has a counter of its own, and the printing of the history
 -- reads every entry

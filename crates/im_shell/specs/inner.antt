@@ -1,3 +1,4 @@
+pub mod Ends
 pub mod Going
-pub mod Parts
 pub mod Sent
+pub mod Writers

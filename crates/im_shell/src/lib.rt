@@ -8,8 +8,8 @@
 //! The main promise is the clause `done` of [`run`]. Start with `top.rt`, then `specs/Play.antt`, then `modes.rt`.
 #![tactic(auto)]
 
+mod ends;
 mod modes;
-mod part;
 mod play;
 mod report;
 mod shown;

@@ -3,14 +3,14 @@ ghost use Rattle.im_edge.specs.Faults.{Rose};
 ghost use Rattle.im_edge.specs.Reading.{KeepsLimit};
 ghost use Rattle.im_edge.specs.Source.{IsSpent};
 ghost use Rattle.im_script.specs.Generated.{generated};
-ghost use Rattle.im_shell.specs.Play.{Does, DoesInPart, OfScript, Races, RacesInPart};
+ghost use Rattle.im_shell.specs.Play.{IsRaced, IsTextOf, OfScript, Writes, WritesPart};
 ghost use Rattle.im_words.specs.Asked.{IsInRange};
 
 use crate::play::play_script;
 use crate::report::write_report;
 use crate::shown::Shown;
 use crate::writing::Stop;
-use im_edge::{Gate, ReadError, Sink, Source, read_all};
+use im_edge::{Gate, Outside, ReadError, Sink, Source, read_all};
 use im_race::{RaceOptions, race};
 use im_script::generate;
 use im_values::limits::{MOST_SCRIPT_BYTES, WORKERS};
@@ -55,18 +55,16 @@ pub fn script_for<S: Source>(
 
 /// Plays a script as a race, and writes its report.
 fn race_script<R: Threads + Wait + Sync, G: Gate + Sync, K: Sink, L: Ledger>(
-    alloc: Global,
-    rt: &R,
-    gate: &G,
+    outside: &Outside<R, G>,
     asked: Asked,
     script: &[u8],
     sink: &mut K,
     steps: &mut Steps<L>,
 ) -> Result<(), Stop>
     requires workers { asked.workers ≤ WORKERS }
-    ensures ok { OnOk result (Races asked.area asked.workers asked.turns script.now (K.taken sink.old) (K.taken sink.new)) }
+    ensures ok { OnOk result (Writes (IsRaced asked.area asked.workers asked.turns script.now) (K.taken sink.old) (K.taken sink.new)) }
     ensures err { OnErr result ((sink.new ≡ sink.old)
-        ⊎ RacesInPart asked.area asked.workers asked.turns script.now (K.taken sink.old) (K.taken sink.new)) }
+        ⊎ WritesPart (IsRaced asked.area asked.workers asked.turns script.now) (K.taken sink.old) (K.taken sink.new)) }
     ensures cause { IsErrOf result Stop.WriteFault → Rose (K.faults sink.old) (K.faults sink.new) }
     ensures later { K.faults sink.old ≤ K.faults sink.new }
 {
@@ -75,31 +73,38 @@ fn race_script<R: Threads + Wait + Sync, G: Gate + Sync, K: Sink, L: Ledger>(
         workers: asked.workers,
         turns: asked.turns,
     };
-    let report = race(alloc, rt, gate, options, script, steps)?;
-    write_report(alloc, &report, sink, steps)
+    let report = race(
+        outside.alloc,
+        outside.rt,
+        outside.gate,
+        options,
+        script,
+        steps,
+    )?;
+    let written = write_report(outside.alloc, &report, sink, steps);
+    drop(report);
+    written
 }
 
 /// Plays a script as the words ask, and writes what comes of it.
 pub fn play_for<R: Threads + Wait + Sync, G: Gate + Sync, K: Sink, L: Ledger>(
-    alloc: Global,
-    rt: &R,
-    gate: &G,
+    outside: &Outside<R, G>,
     asked: Asked,
     script: &[u8],
     sink: &mut K,
     steps: &mut Steps<L>,
 ) -> Result<(), Stop>
     requires ranges { IsInRange asked }
-    ensures ok { OnOk result (Does asked.mode asked script.now (K.taken sink.old) (K.taken sink.new) steps.old steps.new) }
+    ensures ok { OnOk result (Writes (IsTextOf asked.mode asked script.now steps.old steps.new) (K.taken sink.old) (K.taken sink.new)) }
     ensures err { OnErr result (((asked.mode ≡ Mode.Race) × (sink.new ≡ sink.old))
-        ⊎ DoesInPart asked.mode asked script.now (K.taken sink.old) (K.taken sink.new) steps.old steps.new) }
+        ⊎ WritesPart (IsTextOf asked.mode asked script.now steps.old steps.new) (K.taken sink.old) (K.taken sink.new)) }
     ensures cause { IsErrOf result Stop.WriteFault → Rose (K.faults sink.old) (K.faults sink.new) }
     ensures later { K.faults sink.old ≤ K.faults sink.new }
 {
     let area = asked.area;
     match asked.mode {
-        Mode::Run => play_script(alloc, rt, gate, Shown::All, area, script, sink, steps),
-        Mode::Gen => play_script(alloc, rt, gate, Shown::Outcomes, area, script, sink, steps),
-        Mode::Race => race_script(alloc, rt, gate, asked, script, sink, steps),
+        Mode::Run => play_script(outside, Shown::All, area, script, sink, steps),
+        Mode::Gen => play_script(outside, Shown::Outcomes, area, script, sink, steps),
+        Mode::Race => race_script(outside, asked, script, sink, steps),
     }
 }

@@ -1,32 +1,28 @@
 ghost use Rattle.std.specs.Prelude.{◌≡◌, ◌≤◌, ◌+◌, [], ◌++◌, OnOk, OnErr, IsErrOf};
 ghost use Rattle.im_edge.specs.Faults.{Rose};
-ghost use Rattle.im_shell.specs.inner.Going.{text_put, PlaysBytes, PlaysNext, PlaysNextPart};
-ghost use Rattle.im_shell.specs.inner.Sent.{Sends, SendsPart};
 ghost use Rattle.im_play.specs.Between.{IsBetween, machine_of, nothing_in, unused_background, unused_from};
-ghost use Rattle.im_shell.specs.Play.{Plays, PlaysInPart};
+ghost use Rattle.im_shell.specs.Play.{IsPlayed, Writes, WritesPart};
+ghost use Rattle.im_shell.specs.inner.Going.{text_put, PlaysBytes, PlaysNext, PlaysNextPart};
+ghost use Rattle.im_shell.specs.inner.Writers.{IsSame, HasSent, HasSentPart};
 
-use crate::part::Part;
 use crate::shown::Shown;
-use crate::writing::{PIECE, Stop, flush, flush_piece, put};
-use im_edge::{Gate, Sink};
+use crate::writing::{PIECE, Stop, Writer};
+use im_edge::{Gate, Outside, Sink};
 use im_play::{Players, empty_store, play_line, read_line};
 use im_reach::Reach;
 use im_replies::Reply;
 use im_script::first_line;
-use im_text::Waiting;
+use im_text::{Passage, Waiting};
 use im_unit::ColumnUnit;
 use im_values::Steps;
 use im_values::limits::SESSIONS;
-use std::alloc::Global;
 use std::sync::Wait;
 use std::sync::ledger::Ledger;
 
 /// Reads the next line, and plays it.
 fn play_bytes<R: Wait, H: Reach<ColumnUnit>, G: Gate, L: Ledger>(
-    alloc: Global,
-    rt: &R,
+    outside: &Outside<R, G>,
     reach: &mut H,
-    gate: &G,
     players: &mut Players,
     bytes: &[u8],
     number: u64,
@@ -39,27 +35,36 @@ fn play_bytes<R: Wait, H: Reach<ColumnUnit>, G: Gate, L: Ledger>(
         (machine_of (H.known reach.old) players.old.sessions.items players.old.background) result
         (machine_of (H.known reach.new) players.new.sessions.items players.new.background) steps.old steps.new }
 {
-    let line = read_line(alloc, number, bytes);
-    play_line(alloc, rt, reach, gate, players, &line, steps)
+    let line = read_line(outside.alloc, number, bytes);
+    let reply = play_line(
+        outside.alloc,
+        outside.rt,
+        reach,
+        outside.gate,
+        players,
+        &line,
+        steps,
+    );
+    drop(line);
+    reply
 }
 
 /// Puts the text of a reply, where there is one that is shown, behind what waits to be written.
 fn put_reply<K: Sink>(
-    alloc: Global,
-    shown: Shown,
     number: u64,
     reply: &Option<Reply>,
-    sink: &mut K,
-    waiting: &mut Waiting,
+    writer: &mut Writer<'_, K>,
 ) -> Result<(), Stop>
-    ensures ok { OnOk result (Sends (K.taken sink.old) (K.taken sink.new) (waiting.old ++ text_put shown number reply.now) waiting.new) }
-    ensures err { OnErr result (SendsPart (K.taken sink.old) (K.taken sink.new) waiting.old) }
-    ensures cause { IsErrOf result Stop.WriteFault → Rose (K.faults sink.old) (K.faults sink.new) }
-    ensures later { K.faults sink.old ≤ K.faults sink.new }
+    ensures same { IsSame writer.old writer.new }
+    ensures ok { OnOk result (HasSent K.taken writer.old writer.new
+        (writer.old.waiting.now ++ text_put writer.old.shown number reply.now)) }
+    ensures err { OnErr result (HasSentPart K.taken writer.old writer.new writer.old.waiting.now) }
+    ensures cause { IsErrOf result Stop.WriteFault → Rose (K.faults writer.old.sink.now) (K.faults writer.new.sink.now) }
+    ensures later { K.faults writer.old.sink.now ≤ K.faults writer.new.sink.now }
 {
     match reply {
-        Some(reply) if shown.shows(&reply.body) => {
-            put(alloc, Part::Reply(number, &reply.body), sink, waiting)
+        Some(reply) if writer.shown.shows(&reply.body) => {
+            writer.put(Passage::Reply(number, &reply.body))
         }
         _ => Ok(()),
     }
@@ -67,103 +72,102 @@ fn put_reply<K: Sink>(
 
 /// Plays the next line, and puts the text of its reply behind what waits to be written.
 fn play_next<R: Wait, H: Reach<ColumnUnit>, G: Gate, K: Sink, L: Ledger>(
-    alloc: Global,
-    shown: Shown,
-    rt: &R,
+    outside: &Outside<R, G>,
     reach: &mut H,
-    gate: &G,
     players: &mut Players,
     bytes: &[u8],
     number: u64,
-    sink: &mut K,
-    waiting: &mut Waiting,
+    writer: &mut Writer<'_, K>,
     steps: &mut Steps<L>,
 ) -> Result<(), Stop>
     requires between { IsBetween (H.known reach.old) players.old.sessions.items players.old.background }
     ensures between { IsBetween (H.known reach.new) players.new.sessions.items players.new.background }
     ensures limits { (H.known reach.new).limits ≡ (H.known reach.old).limits }
-    ensures ok { OnOk result (PlaysNext shown (H.known reach.old).limits.area bytes.now number
+    ensures same { IsSame writer.old writer.new }
+    ensures ok { OnOk result (PlaysNext writer.old.shown (H.known reach.old).limits.area bytes.now number
         (machine_of (H.known reach.old) players.old.sessions.items players.old.background)
         (machine_of (H.known reach.new) players.new.sessions.items players.new.background)
-        (K.taken sink.old) (K.taken sink.new) waiting.old waiting.new steps.old steps.new) }
+        (K.taken writer.old.sink.now) (K.taken writer.new.sink.now) writer.old.waiting.now writer.new.waiting.now steps.old steps.new) }
     ensures err { OnErr result (PlaysNextPart (H.known reach.old).limits.area bytes.now number
         (machine_of (H.known reach.old) players.old.sessions.items players.old.background)
         (machine_of (H.known reach.new) players.new.sessions.items players.new.background)
-        (K.taken sink.old) (K.taken sink.new) waiting.old steps.old steps.new) }
-    ensures cause { IsErrOf result Stop.WriteFault → Rose (K.faults sink.old) (K.faults sink.new) }
-    ensures later { K.faults sink.old ≤ K.faults sink.new }
+        (K.taken writer.old.sink.now) (K.taken writer.new.sink.now) writer.old.waiting.now steps.old steps.new) }
+    ensures cause { IsErrOf result Stop.WriteFault → Rose (K.faults writer.old.sink.now) (K.faults writer.new.sink.now) }
+    ensures later { K.faults writer.old.sink.now ≤ K.faults writer.new.sink.now }
 {
-    let reply = play_bytes(alloc, rt, reach, gate, players, bytes, number, steps);
-    put_reply(alloc, shown, number, &reply, sink, waiting)
+    let reply = play_bytes(outside, reach, players, bytes, number, steps);
+    let put = put_reply(number, &reply, writer);
+    drop(reply);
+    put
 }
 
 /// Plays a script line by line, over a store in which nothing has happened and players that keep nothing, and writes the text
 /// of its replies.
 fn play_lines<R: Wait, H: Reach<ColumnUnit>, G: Gate, K: Sink, L: Ledger>(
-    alloc: Global,
-    shown: Shown,
-    rt: &R,
+    outside: &Outside<R, G>,
     reach: &mut H,
-    gate: &G,
     players: &mut Players,
     script: &[u8],
-    sink: &mut K,
-    waiting: &mut Waiting,
+    writer: &mut Writer<'_, K>,
     steps: &mut Steps<L>,
 ) -> Result<(), Stop>
     requires empty { H.known reach.old ≡ nothing_in (H.known reach.old).limits.area }
     requires unused { players.old.sessions.items ≡ unused_from 0 (SESSIONS + 1) }
     requires unused_background { players.old.background ≡ unused_background }
-    requires none_waits { waiting.old ≡ [] }
-    ensures ok { OnOk result (Plays shown (H.known reach.old).limits.area script.now (K.taken sink.old) (K.taken sink.new) steps.old steps.new) }
-    ensures err { OnErr result (PlaysInPart shown (H.known reach.old).limits.area script.now (K.taken sink.old) (K.taken sink.new) steps.old steps.new) }
-    ensures cause { IsErrOf result Stop.WriteFault → Rose (K.faults sink.old) (K.faults sink.new) }
-    ensures later { K.faults sink.old ≤ K.faults sink.new }
+    requires none_waits { writer.old.waiting.now ≡ [] }
+    ensures same { IsSame writer.old writer.new }
+    ensures ok { OnOk result (Writes (IsPlayed writer.old.shown (H.known reach.old).limits.area script.now steps.old steps.new)
+        (K.taken writer.old.sink.now) (K.taken writer.new.sink.now)) }
+    ensures err { OnErr result (WritesPart (IsPlayed writer.old.shown (H.known reach.old).limits.area script.now steps.old steps.new)
+        (K.taken writer.old.sink.now) (K.taken writer.new.sink.now)) }
+    ensures cause { IsErrOf result Stop.WriteFault → Rose (K.faults writer.old.sink.now) (K.faults writer.new.sink.now) }
+    ensures later { K.faults writer.old.sink.now ≤ K.faults writer.new.sink.now }
 {
     let mut rest = script;
     let mut number = 1;
     while rest.len() > 0 {
         let (line, behind) = first_line(rest);
-        play_next(
-            alloc, shown, rt, reach, gate, players, line, number, sink, waiting, steps,
-        )?;
-        flush_piece(sink, waiting)?;
+        play_next(outside, reach, players, line, number, writer, steps)?;
+        writer.flush_piece()?;
         number += 1;
         rest = behind;
     }
-    Ok(flush(sink, waiting)?)
+    Ok(writer.flush()?)
 }
 
 /// Plays a script, over a store, sessions and a background of its own, and writes the text of its replies that are shown. The column units of
 /// the store may take `area` bytes together.
 pub fn play_script<R: Wait, G: Gate, K: Sink, L: Ledger>(
-    alloc: Global,
-    rt: &R,
-    gate: &G,
+    outside: &Outside<R, G>,
     shown: Shown,
     area: u64,
     script: &[u8],
     sink: &mut K,
     steps: &mut Steps<L>,
 ) -> Result<(), Stop>
-    ensures ok { OnOk result (Plays shown area script.now (K.taken sink.old) (K.taken sink.new) steps.old steps.new) }
-    ensures err { OnErr result (PlaysInPart shown area script.now (K.taken sink.old) (K.taken sink.new) steps.old steps.new) }
+    ensures ok { OnOk result (Writes (IsPlayed shown area script.now steps.old steps.new) (K.taken sink.old) (K.taken sink.new)) }
+    ensures err { OnErr result (WritesPart (IsPlayed shown area script.now steps.old steps.new) (K.taken sink.old) (K.taken sink.new)) }
     ensures cause { IsErrOf result Stop.WriteFault → Rose (K.faults sink.old) (K.faults sink.new) }
     ensures later { K.faults sink.old ≤ K.faults sink.new }
 {
-    let mut store = empty_store(alloc, area)?;
-    let mut players = Players::new(alloc)?;
-    let mut waiting = Waiting::with_room(alloc, PIECE)?;
-    play_lines(
-        alloc,
+    let mut store = empty_store(outside.alloc, area)?;
+    let mut players = Players::new(outside.alloc)?;
+    let mut waiting = Waiting::with_room(outside.alloc, PIECE)?;
+    let mut writer = Writer {
+        alloc: outside.alloc,
+        sink,
+        waiting: &mut waiting,
         shown,
-        rt,
+    };
+    let played = play_lines(
+        outside,
         &mut store,
-        gate,
         &mut players,
         script,
-        sink,
-        &mut waiting,
+        &mut writer,
         steps,
-    )
+    );
+    drop(players);
+    drop(store);
+    played
 }

@@ -7,13 +7,13 @@ ghost use Rattle.im_words.specs.declared.asked.Asked.{Asked};
 ghost use Rattle.im_words.specs.Command.{Refuses, Takes};
 ghost use Rattle.im_words.specs.Good.{IsGood};
 
+use crate::ends::{end_of_play, end_of_reading, end_of_words};
 use crate::modes::{play_for, script_for};
 use crate::status::Status;
-use crate::writing::Stop;
-use im_edge::{Gate, ReadError, Sink, Source};
+use im_edge::{Gate, Outside, Sink, Source};
 use im_values::Steps;
 use im_values::limits::MOST_SCRIPT_BYTES;
-use im_words::{Mode, Word, WordsFault, read_words};
+use im_words::{Mode, Word, read_words};
 use std::alloc::Global;
 use std::sync::Wait;
 use std::sync::ledger::Ledger;
@@ -62,18 +62,12 @@ pub fn run<R: Threads + Wait + Sync, S: Source, K: Sink, G: Gate + Sync, L: Ledg
 {
     let asked = match read_words(alloc, words) {
         Ok(asked) => asked,
-        Err(WordsFault::Usage) => return Status::Usage,
-        Err(WordsFault::NoMemory) => return Status::NoMemory,
+        Err(fault) => return end_of_words(fault),
     };
     let script = match script_for(alloc, asked, source) {
         Ok(script) => script,
-        Err(ReadError::Fault) => return Status::ReadFault,
-        Err(ReadError::TooLong) => return Status::ScriptTooLong,
-        Err(ReadError::NoMemory) => return Status::NoMemory,
+        Err(error) => return end_of_reading(error),
     };
-    match play_for(alloc, rt, gate, asked, script.as_slice(), sink, steps) {
-        Ok(()) => Status::Done,
-        Err(Stop::WriteFault) => Status::WriteFault,
-        Err(Stop::NoMemory) => Status::NoMemory,
-    }
+    let outside = Outside { alloc, rt, gate };
+    end_of_play(play_for(&outside, asked, script.as_slice(), sink, steps))
 }

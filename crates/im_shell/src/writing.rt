@@ -1,12 +1,11 @@
 ghost use Rattle.std.specs.Prelude.{◌≡◌, ◌≤◌, [], ◌++◌, OnOk, OnErr, IsErrOf};
 ghost use Rattle.im_edge.specs.Faults.{Rose};
 ghost use Rattle.im_shell.specs.declared.writing.Stop.TheVariants as stop;
-ghost use Rattle.im_shell.specs.inner.Parts.{part_text};
-ghost use Rattle.im_shell.specs.inner.Sent.{Sends, SendsPart};
+ghost use Rattle.im_text.specs.Passages.{passage_text};
 
-use crate::part::Part;
+use crate::shown::Shown;
 use im_edge::{Sink, WriteFault, write_all};
-use im_text::Waiting;
+use im_text::{Passage, Waiting};
 use im_values::NoMemory;
 use std::alloc::Global;
 use thiserror::Error;
@@ -41,65 +40,76 @@ impl From<NoMemory> for Stop {
     }
 }
 
-/// Writes all that waits.
-pub fn flush<K: Sink>(sink: &mut K, waiting: &mut Waiting) -> Result<(), WriteFault>
-    ensures ok { OnOk result (Sends (K.taken sink.old) (K.taken sink.new) waiting.old waiting.new) }
-    ensures none_left { OnOk result (waiting.new ≡ []) }
-    ensures err { OnErr result (SendsPart (K.taken sink.old) (K.taken sink.new) waiting.old) }
-    ensures cause { OnErr result (Rose (K.faults sink.old) (K.faults sink.new)) }
-    ensures later { K.faults sink.old ≤ K.faults sink.new }
-{
-    write_all(sink, waiting.bytes())?;
-    waiting.clear();
-    Ok(())
+/// What writes: the text that waits before the sink.
+#[derive(Drop)]
+pub struct Writer<'a, K> {
+    /// Where memory is taken from.
+    pub alloc: Global,
+    /// Where the text goes.
+    pub sink: &'a mut K,
+    /// The text that waits.
+    pub waiting: &'a mut Waiting,
+    /// Which replies are written.
+    pub shown: Shown,
 }
 
-/// Writes all that waits, once it is a whole piece.
-pub fn flush_piece<K: Sink>(sink: &mut K, waiting: &mut Waiting) -> Result<(), WriteFault>
-    ensures ok { OnOk result (Sends (K.taken sink.old) (K.taken sink.new) waiting.old waiting.new) }
-    ensures err { OnErr result (SendsPart (K.taken sink.old) (K.taken sink.new) waiting.old) }
-    ensures cause { OnErr result (Rose (K.faults sink.old) (K.faults sink.new)) }
-    ensures later { K.faults sink.old ≤ K.faults sink.new }
-{
-    if waiting.bytes().len() < PIECE {
-        return Ok(());
+impl<K: Sink> Writer<'_, K> {
+    ghost use Rattle.im_shell.specs.inner.Writers.{IsSame, HasSent, HasSentPart};
+
+    /// Writes all that waits.
+    pub fn flush(&mut self) -> Result<(), WriteFault>
+        ensures same { IsSame self.old self.new }
+        ensures ok { OnOk result (HasSent K.taken self.old self.new self.old.waiting.now) }
+        ensures none_left { OnOk result (self.new.waiting.now ≡ []) }
+        ensures err { OnErr result (HasSentPart K.taken self.old self.new self.old.waiting.now) }
+        ensures cause { OnErr result (Rose (K.faults self.old.sink.now) (K.faults self.new.sink.now)) }
+        ensures later { K.faults self.old.sink.now ≤ K.faults self.new.sink.now }
+    {
+        write_all(self.sink, self.waiting.bytes())?;
+        self.waiting.clear();
+        Ok(())
     }
-    flush(sink, waiting)
-}
 
-/// Puts a part behind what waits to be written. Where there is no memory for it, what waits is written first, and then it is
-/// tried again.
-pub fn put<K: Sink>(
-    alloc: Global,
-    part: Part<'_>,
-    sink: &mut K,
-    waiting: &mut Waiting,
-) -> Result<(), Stop>
-    ensures ok { OnOk result (Sends (K.taken sink.old) (K.taken sink.new) (waiting.old ++ part_text part.entry) waiting.new) }
-    ensures err { OnErr result (SendsPart (K.taken sink.old) (K.taken sink.new) waiting.old) }
-    ensures cause { IsErrOf result Stop.WriteFault → Rose (K.faults sink.old) (K.faults sink.new) }
-    ensures later { K.faults sink.old ≤ K.faults sink.new }
-{
-    if part.put_behind(alloc, waiting).is_ok() {
-        return Ok(());
+    /// Writes all that waits, once it is a whole piece.
+    pub fn flush_piece(&mut self) -> Result<(), WriteFault>
+        ensures same { IsSame self.old self.new }
+        ensures ok { OnOk result (HasSent K.taken self.old self.new self.old.waiting.now) }
+        ensures err { OnErr result (HasSentPart K.taken self.old self.new self.old.waiting.now) }
+        ensures cause { OnErr result (Rose (K.faults self.old.sink.now) (K.faults self.new.sink.now)) }
+        ensures later { K.faults self.old.sink.now ≤ K.faults self.new.sink.now }
+    {
+        if self.waiting.bytes().len() < PIECE {
+            return Ok(());
+        }
+        self.flush()
     }
-    flush(sink, waiting)?;
-    part.put_behind(alloc, waiting)?;
-    Ok(())
-}
 
-/// Puts a part behind what waits to be written, and writes all that waits once it is a whole piece.
-pub fn put_next<K: Sink>(
-    alloc: Global,
-    part: Part<'_>,
-    sink: &mut K,
-    waiting: &mut Waiting,
-) -> Result<(), Stop>
-    ensures ok { OnOk result (Sends (K.taken sink.old) (K.taken sink.new) (waiting.old ++ part_text part.entry) waiting.new) }
-    ensures err { OnErr result (SendsPart (K.taken sink.old) (K.taken sink.new) (waiting.old ++ part_text part.entry)) }
-    ensures cause { IsErrOf result Stop.WriteFault → Rose (K.faults sink.old) (K.faults sink.new) }
-    ensures later { K.faults sink.old ≤ K.faults sink.new }
-{
-    put(alloc, part, sink, waiting)?;
-    Ok(flush_piece(sink, waiting)?)
+    /// Puts a passage behind what waits to be written. Where there is no memory for it, what waits is written first, and then it is
+    /// tried again.
+    pub fn put(&mut self, passage: Passage<'_>) -> Result<(), Stop>
+        ensures same { IsSame self.old self.new }
+        ensures ok { OnOk result (HasSent K.taken self.old self.new (self.old.waiting.now ++ passage_text passage.entry)) }
+        ensures err { OnErr result (HasSentPart K.taken self.old self.new self.old.waiting.now) }
+        ensures cause { IsErrOf result Stop.WriteFault → Rose (K.faults self.old.sink.now) (K.faults self.new.sink.now) }
+        ensures later { K.faults self.old.sink.now ≤ K.faults self.new.sink.now }
+    {
+        if self.waiting.put(self.alloc, passage).is_ok() {
+            return Ok(());
+        }
+        self.flush()?;
+        self.waiting.put(self.alloc, passage)?;
+        Ok(())
+    }
+
+    /// Puts a passage behind what waits to be written, and writes all that waits once it is a whole piece.
+    pub fn put_next(&mut self, passage: Passage<'_>) -> Result<(), Stop>
+        ensures same { IsSame self.old self.new }
+        ensures ok { OnOk result (HasSent K.taken self.old self.new (self.old.waiting.now ++ passage_text passage.entry)) }
+        ensures err { OnErr result (HasSentPart K.taken self.old self.new (self.old.waiting.now ++ passage_text passage.entry)) }
+        ensures cause { IsErrOf result Stop.WriteFault → Rose (K.faults self.old.sink.now) (K.faults self.new.sink.now) }
+        ensures later { K.faults self.old.sink.now ≤ K.faults self.new.sink.now }
+    {
+        self.put(passage)?;
+        Ok(self.flush_piece()?)
+    }
 }

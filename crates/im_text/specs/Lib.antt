@@ -8,4 +8,5 @@ pub mod Bodies
 pub mod Replies
 pub mod Entries
 pub mod Report
+pub mod Passages
 pub mod inner

@@ -1,8 +1,8 @@
 ghost use Rattle.std.specs.Prelude.{OnOk};
+ghost use Rattle.im_text.specs.Passages.{passage_text};
 ghost use Rattle.im_text.specs.Replies.{reply_text};
 ghost use Rattle.im_text.specs.Report.{line_text};
 ghost use Rattle.im_text.specs.inner.Pages.{IsReady, Says, Shows};
-ghost use Rattle.im_text.specs.inner.Passages.{passage_text};
 
 use crate::bodies::put_body;
 use crate::entries::put_entry;
@@ -15,15 +15,25 @@ use im_values::NoMemory;
 /// What is put at once behind the text that waits.
 #[derive(Clone, Copy)]
 pub enum Passage<'a> {
-    /// The reply to a line.
+    /// The reply to the line of this number.
     Reply(u64, &'a Body),
-    /// How many entries the history has.
+    /// How many entries the history of a race has.
     History(u64),
-    /// The entry at a place.
+    /// The entry at this place of the history.
     Entry(u64, &'a Entry),
-    /// How the worker of this number ended: whether it was over, what it lacked, and a place.
-    Worker(u32, bool, u64, Option<u64>),
-    /// A line of a race: where it was answered, and its reply.
+    /// How the worker of a number ended.
+    Worker {
+        /// Its number.
+        who: u32,
+        /// Whether it was over, and not its turns spent.
+        over: bool,
+        /// How many of its turns were spent for lack of memory.
+        lacks: u64,
+        /// The place at which it was over; or the last at which it had nothing to do, if there was one.
+        place: Option<u64>,
+    },
+    /// The line of this number in a race: the place at which it was answered, its marks, and its reply. A reply that was settled
+    /// at no place has neither.
     Line(u64, &'a Reply),
 }
 
@@ -55,7 +65,12 @@ fn put_passage(page: &mut Page, passage: Passage<'_>) -> Result<(), NoMemory>
         Passage::Reply(line, body) => put_reply(page, line, body),
         Passage::History(count) => put_history(page, count),
         Passage::Entry(place, entry) => put_entry(page, place, entry),
-        Passage::Worker(who, over, lacks, place) => put_worker(page, who, over, lacks, place),
+        Passage::Worker {
+            who,
+            over,
+            lacks,
+            place,
+        } => put_worker(page, who, over, lacks, place),
         Passage::Line(line, reply) => put_line(page, line, reply),
     }
 }

@@ -1,14 +1,12 @@
 ghost use Rattle.std.specs.Prelude.{◌≡◌, ◌++◌, [], IfOk, OnOk, OnErr};
 ghost use Rattle.im_replies.specs.declared.body.Body.TheVariants.{Inserted};
+ghost use Rattle.im_text.specs.Passages.{passage_text};
 ghost use Rattle.im_text.specs.Replies.{reply_text};
-ghost use Rattle.im_text.specs.Report.{entry_text, history_text, line_text, worker_text};
 ghost use Rattle.im_text.specs.inner.Pages.{IsReady};
-ghost use Rattle.im_text.specs.inner.Passages.{passage_text};
 
 use crate::page::Page;
 use crate::passage::{Passage, put_on_page};
-use im_history::Entry;
-use im_replies::{Body, Reply};
+use im_replies::Body;
 use im_values::NoMemory;
 use itoa::Buffer;
 use std::alloc::Global;
@@ -138,64 +136,17 @@ impl Waiting {
         put
     }
 
-    /// Puts the reply to a line behind what waits. It fails out of memory alone.
-    pub fn put_reply(&mut self, alloc: Global, line: u64, body: &Body) -> Result<(), NoMemory>
-        ensures ok { OnOk result (self.new ≡ self.old ++ reply_text line body.now) }
+    /// Puts a passage behind what waits. It fails out of memory alone.
+    pub fn put(&mut self, alloc: Global, passage: Passage<'_>) -> Result<(), NoMemory>
+        ensures ok { OnOk result (self.new ≡ self.old ++ passage_text passage.entry) }
         ensures err { OnErr result (self.new ≡ self.old) }
     {
-        match body {
-            Body::Inserted { rows, first } => {
+        match passage {
+            Passage::Reply(line, Body::Inserted { rows, first }) => {
                 put_inserted_behind(&mut self.text, line, *rows, *first, &mut self.record)
             }
-            _ => self.put_by_page(alloc, Passage::Reply(line, body)),
+            _ => self.put_by_page(alloc, passage),
         }
-    }
-
-    /// Puts how many entries the history of a race has behind what waits. It fails out of memory alone.
-    pub fn put_history(&mut self, alloc: Global, count: u64) -> Result<(), NoMemory>
-        ensures ok { OnOk result (self.new ≡ self.old ++ history_text count) }
-        ensures err { OnErr result (self.new ≡ self.old) }
-    {
-        self.put_by_page(alloc, Passage::History(count))
-    }
-
-    /// Puts the entry at a place of the history behind what waits. It fails out of memory alone.
-    pub fn put_entry(&mut self, alloc: Global, place: u64, entry: &Entry) -> Result<(), NoMemory>
-        ensures ok { OnOk result (self.new ≡ self.old ++ entry_text place entry.now) }
-        ensures err { OnErr result (self.new ≡ self.old) }
-    {
-        self.put_by_page(alloc, Passage::Entry(place, entry))
-    }
-
-    /// Puts how the worker of a number ended behind what waits. It was over at the place; or its turns were spent, `lacks` of
-    /// them for lack of memory, and the place is the last at which it had nothing to do, if there was one. It fails out of
-    /// memory alone.
-    pub fn put_worker_end(
-        &mut self,
-        alloc: Global,
-        who: u32,
-        over: bool,
-        lacks: u64,
-        place: Option<u64>,
-    ) -> Result<(), NoMemory>
-        ensures ok { OnOk result (self.new ≡ self.old ++ worker_text who over lacks place) }
-        ensures err { OnErr result (self.new ≡ self.old) }
-    {
-        self.put_by_page(alloc, Passage::Worker(who, over, lacks, place))
-    }
-
-    /// Puts a line of a race behind what waits: the place at which it was answered, its marks, and its reply. A reply that was
-    /// settled at no place has neither. It fails out of memory alone.
-    pub fn put_report_line(
-        &mut self,
-        alloc: Global,
-        line: u64,
-        reply: &Reply,
-    ) -> Result<(), NoMemory>
-        ensures ok { OnOk result (self.new ≡ self.old ++ line_text line reply.now) }
-        ensures err { OnErr result (self.new ≡ self.old) }
-    {
-        self.put_by_page(alloc, Passage::Line(line, reply))
     }
 
     /// Lets go of all that waits, and of room past a piece and a short text.

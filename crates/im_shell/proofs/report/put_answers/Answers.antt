@@ -3,16 +3,17 @@ use Rattle.std.proofs.lemmas.List.{at_drop_all}
 use Rattle.im_text.specs.Report.{line_text}
 use Rattle.im_shell.specs.Reports.{answers_text}
 use Rattle.im_shell.proofs.ReportLemmas.{answers-next}
-use Rattle.im_shell.proofs.SentLemmas.{OnErr-always, IsPutTo-start, IsPutTo-next, IsPutTo-end, IsPutTo-stop}
+use Rattle.im_shell.proofs.SentLemmas.{OnErr-always, IsSame-start, IsSame-then, IsPutTo-start, IsPutTo-next, IsPutTo-end, IsPutTo-stop}
 use Rattle.im_shell.proofs.report.put_answers.Goals as goal
 
 pub loop-line-init : goal.loop-line-init
-loop-line-init g c = record { to = IsPutTo-start _ _ _; later = omega arith }
+loop-line-init g c = record { same = IsSame-start _; to = IsPutTo-start _ _ _; later = omega arith }
 
 pub loop-line-preserved : goal.loop-line-preserved
 loop-line-preserved g c =
     let below : c.loop-line.line-index < length c.args.answers.now = omega arith in
     record {
+      same = IsSame-then _ _ _ c.loop-line.invariant.same c.put_next.ensures.same;
       to = IsPutTo-next _ _ _ _ _ _ (line_text c.loop-line-item.result.0 c.loop-line-item.result.1) _ _ c.loop-line.invariant.to
           (answers-next c.args.answers.now c.loop-line.line-index c.loop-line-item.result c.loop-line-item.is below)
           c.in_ok-put_next.ensures.ok;

@@ -4,16 +4,17 @@ use Rattle.im_text.specs.Replies.{reply_text}
 use Rattle.im_shell.specs.declared.shown.Shown.TheVariants.{All}
 use Rattle.im_shell.specs.Texts.{text_of}
 use Rattle.im_shell.proofs.ReportLemmas.{replies-next}
-use Rattle.im_shell.proofs.SentLemmas.{OnErr-always, IsPutTo-start, IsPutTo-next, IsPutTo-end, IsPutTo-stop}
+use Rattle.im_shell.proofs.SentLemmas.{OnErr-always, IsSame-start, IsSame-then, IsPutTo-start, IsPutTo-next, IsPutTo-end, IsPutTo-stop}
 use Rattle.im_shell.proofs.report.put_replies.Goals as goal
 
 pub loop-line-init : goal.loop-line-init
-loop-line-init g c = record { to = IsPutTo-start _ _ _; later = omega arith }
+loop-line-init g c = record { same = IsSame-start _; to = IsPutTo-start _ _ _; later = omega arith }
 
 pub loop-line-preserved : goal.loop-line-preserved
 loop-line-preserved g c =
     let below : c.loop-line.line-index < length c.args.replies.now = omega arith in
     record {
+      same = IsSame-then _ _ _ c.loop-line.invariant.same c.put_next.ensures.same;
       to = IsPutTo-next _ _ _ _ _ _ (reply_text c.loop-line-item.result.0 c.loop-line-item.result.1.body) _ _ c.loop-line.invariant.to
           (replies-next c.args.replies.now c.loop-line.line-index c.loop-line-item.result c.loop-line-item.is below)
           c.in_ok-put_next.ensures.ok;

@@ -1,18 +1,5 @@
-use Rattle.im_shell.proofs.SentLemmas.{OnErr-always, Sends-after, SendsPart-after, SendsPart-nil, Took-sent}
+use Rattle.im_shell.proofs.SentLemmas.{OnErr-always, SendsPart-nil}
 use Rattle.im_shell.proofs.report.write_report.Goals as goal
 
 pub returns-in_err-waiting-clause-err : goal.returns-in_err-waiting-clause-err
 returns-in_err-waiting-clause-err g c = OnErr-always _ (SendsPart-nil _ _)
-
-pub returns-in_err-put_report-clause-err : goal.returns-in_err-put_report-clause-err
-returns-in_err-put_report-clause-err g c = OnErr-always _ (rw c.in_ok-waiting.ensures at c.in_err-put_report.ensures.err)
-
-pub returns-in_err-flush-clause-err : goal.returns-in_err-flush-clause-err
-returns-in_err-flush-clause-err g c =
-    OnErr-always _ (SendsPart-after _ _ _ _ _ (rw c.in_ok-waiting.ensures at c.in_ok-put_report.ensures.ok) c.in_err-flush.ensures.err)
-
-pub returns-clause-ok : goal.returns-clause-ok
-returns-clause-ok g c =
-    Took-sent _ _ _ _
-    (Sends-after _ _ _ _ _ _ (rw c.in_ok-waiting.ensures at c.in_ok-put_report.ensures.ok) c.in_ok-flush.ensures.ok)
-    c.in_ok-flush.ensures.none_left

@@ -1,5 +1,5 @@
 use Rattle.im_shell.proofs.SentLemmas.{OnErr-always, SendsPart-took}
-use Rattle.im_shell.proofs.writing.flush.Goals as goal
+use Rattle.im_shell.proofs.writing.Writer.flush.Goals as goal
 
 pub returns-in_err-write_all-clause-err : goal.returns-in_err-write_all-clause-err
 returns-in_err-write_all-clause-err g c =

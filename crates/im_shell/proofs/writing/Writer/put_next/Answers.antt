@@ -1,5 +1,5 @@
 use Rattle.im_shell.proofs.SentLemmas.{OnErr-always, Sends-after, SendsPart-after, SendsPart-more}
-use Rattle.im_shell.proofs.writing.put_next.Goals as goal
+use Rattle.im_shell.proofs.writing.Writer.put_next.Goals as goal
 
 pub returns-in_err-put-clause-err : goal.returns-in_err-put-clause-err
 returns-in_err-put-clause-err g c = OnErr-always _ (SendsPart-more _ _ _ _ c.in_err-put.ensures.err)
