@@ -73,14 +73,7 @@ fn race_script<R: Threads + Wait + Sync, G: Gate + Sync, K: Sink, L: Ledger>(
         workers: asked.workers,
         turns: asked.turns,
     };
-    let report = race(
-        outside.alloc,
-        outside.rt,
-        outside.gate,
-        options,
-        script,
-        steps,
-    )?;
+    let report = race(outside, options, script, steps)?;
     let written = write_report(outside.alloc, &report, sink, steps);
     drop(report);
     written

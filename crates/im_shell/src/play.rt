@@ -36,15 +36,7 @@ fn play_bytes<R: Wait, H: Reach<ColumnUnit>, G: Gate, L: Ledger>(
         (machine_of (H.known reach.new) players.new.sessions.items players.new.background) steps.old steps.new }
 {
     let line = read_line(outside.alloc, number, bytes);
-    let reply = play_line(
-        outside.alloc,
-        outside.rt,
-        reach,
-        outside.gate,
-        players,
-        &line,
-        steps,
-    );
+    let reply = play_line(outside, reach, players, &line, steps);
     drop(line);
     reply
 }
