@@ -95,13 +95,18 @@ pub fn create<R: Wait, H: Reach<ColumnUnit>, G: Gate>(
         memory,
     } = table;
     let Ok(told) = name.copy(context.outside.alloc) else {
+        drop(name);
+        drop(schema);
         return out_of_memory(context.outside.alloc, entries);
     };
     match reach.create(context.outside.rt, context.who, name, schema, shape) {
-        Ok(made) => match memory {
-            None => created(context.outside.alloc, made),
-            Some(priority) => join_memory(context, reach, made, priority, entries + 1),
-        },
+        Ok(made) => {
+            drop(told);
+            match memory {
+                None => created(context.outside.alloc, made),
+                Some(priority) => join_memory(context, reach, made, priority, entries + 1),
+            }
+        }
         Err(refused) => refused_reply(
             context.outside.alloc,
             Aim::Creating { name: told },

@@ -151,6 +151,7 @@ fn open<R: Wait, H: Reach<ColumnUnit>, G: Gate>(
         kept.new.items (H.known reach.new) }
 {
     if kept.reserve(1).is_err() {
+        drop(bound);
         return out_of_memory(context.outside.alloc, 0);
     }
     let OpenOutcome { reply, cursor } = open_query(context, reach, number, bound);

@@ -179,6 +179,7 @@ fn write_changes<R: Wait, H: Reach<ColumnUnit>, G: Gate>(
     ensures marks { (result.marks ≡ marks) ⊎ IsOutOfMemory result }
 {
     if changes.is_empty() {
+        drop(changes);
         return Reply {
             place: Some(view.place),
             marks,

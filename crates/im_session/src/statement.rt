@@ -43,8 +43,11 @@ pub fn define<R: Wait, H: Reach<ColumnUnit>, G: Gate>(
         return out_of_memory(context.outside.alloc, 0);
     };
     if look.begun.is_none() {
-        return define_named(context, reach, statement, &look, 0);
+        let reply = define_named(context, reach, statement, &look, 0);
+        drop(look);
+        return reply;
     }
+    drop(look);
     match reach.commit(context.outside.rt, context.who) {
         Ok(_) => define_later(context, reach, statement),
         Err(_) => out_of_memory(context.outside.alloc, 0),
@@ -67,7 +70,11 @@ fn define_later<R: Wait, H: Reach<ColumnUnit>, G: Gate>(
         (said result) (H.known reach.new) }
 {
     match reach.look(context.outside.rt, context.who) {
-        Ok(look) => define_named(context, reach, statement, &look, 1),
+        Ok(look) => {
+            let reply = define_named(context, reach, statement, &look, 1);
+            drop(look);
+            reply
+        }
         Err(_) => out_of_memory(context.outside.alloc, 1),
     }
 }

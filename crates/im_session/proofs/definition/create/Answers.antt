@@ -25,14 +25,14 @@ join_memory-requires-clause-may g c =
     created-may c.args.context.now.who c.args.entries (g.H.Reach.known c.args.reach.now) _ c.args.table.name c.args.table.schema c.args.table.shape
     c.in-Ok-create.made c.requires.speaks c.in-Ok-create.ensures.ok c.requires.idle
 
-pub returns-in-Ok-create : goal.returns-in-Ok-create
-returns-in-Ok-create g c =
+pub returns-in-Some : goal.returns-in-Some
+returns-in-Some g c =
     rw c.in-Some.is
     (create-joins c.args.context.now.who c.args.entries (g.H.Reach.known c.args.reach.now) _ c.args.table.name c.args.table.schema c.args.table.shape
     c.in-Ok-create.made c.in-Some.priority _ _ c.in-Ok-create.ensures.ok c.join_memory.ensures)
 
-pub returns : goal.returns
-returns g c =
+pub returns-in-Err : goal.returns-in-Err
+returns-in-Err g c =
     rw (c.refused_reply.ensures, c.in-Ok.ensures)
     (create-refused c.args.context.now.who c.args.entries (g.H.Reach.known c.args.reach.now) _ c.args.table.name c.args.table.schema c.args.table.shape
     c.args.table.memory c.in-Err.refused c.requires.speaks c.requires.shut c.in-Err.ensures.err)

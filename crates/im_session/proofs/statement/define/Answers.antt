@@ -14,8 +14,8 @@ returns-in_default g c = λ state.
     (definition_plan (g.H.Reach.known c.args.reach.now).limits c.args.context.now.who state c.args.statement.now) c.requires.speaks c.requires.shut
     c.in_default.ensures.err)
 
-pub define_named-requires-clause-shut : goal.define_named-requires-clause-shut
-define_named-requires-clause-shut g c =
+pub define_named-reply-requires-clause-shut : goal.define_named-reply-requires-clause-shut
+define_named-reply-requires-clause-shut g c =
     open-went c.args.context.now.who 0 (g.H.Reach.known c.args.reach.now) (g.H.Reach.known c.look.new.self) c.requires.speaks
     (went-found (g.H.Reach.known c.args.reach.now) (g.H.Reach.known c.look.new.self) _ c.in-Ok.ensures.ok) c.requires.shut
 
@@ -24,8 +24,8 @@ returns-then-is_none g c = λ state.
     let look_is = went-log (g.H.Reach.known c.args.reach.now) (g.H.Reach.known c.look.new.self) _ c.in-Ok.ensures.ok in
     let idle : is_open (g.H.Reach.known c.look.new.self).log c.args.context.now.who ≡ false =
     sym (ap (λ (l : Look). is_some l.begun) look_is) ∙ c.if-is_none.ensures in
-    definition-alone c.args.context.now.who (g.H.Reach.known c.args.reach.now) (g.H.Reach.known c.look.new.self) (g.H.Reach.known c.define_named.new.reach) _
-    state c.args.statement.now _ c.in-Ok.ensures.ok idle (c.define_named.ensures state)
+    definition-alone c.args.context.now.who (g.H.Reach.known c.args.reach.now) (g.H.Reach.known c.look.new.self) (g.H.Reach.known c.define_named-reply.new.reach) _
+    state c.args.statement.now _ c.in-Ok.ensures.ok idle (c.define_named-reply.ensures state)
 
 pub define_later-requires-clause-shut : goal.define_later-requires-clause-shut
 define_later-requires-clause-shut g c =
@@ -51,8 +51,8 @@ returns-in-Ok-commit g c = λ state.
     (g.H.Reach.known c.define_later.new.reach) _ _ state c.args.statement.now _ c.in-Ok.ensures.ok open_now c.in-Ok-commit.ensures.ok
     (c.define_later.ensures state)
 
-pub returns : goal.returns
-returns g c = λ state.
+pub returns-in-Err : goal.returns-in-Err
+returns-in-Err g c = λ state.
     let went = went-found (g.H.Reach.known c.args.reach.now) (g.H.Reach.known c.look.new.self) _ c.in-Ok.ensures.ok in
     rw c.out_of_memory-in-Err.ensures
     (rest-look c.args.context.now.who 0 (g.H.Reach.known c.args.reach.now) (g.H.Reach.known c.look.new.self) (g.H.Reach.known c.commit.new.self) _ _ _

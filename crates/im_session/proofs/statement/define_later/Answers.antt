@@ -9,23 +9,23 @@ use Rattle.im_session.proofs.statement.define_later.Goals as goal
 use Rattle.im_statements.specs.Outcomes.{said}
 use Rattle.im_statements.specs.Statements.{looked_up, named_plan}
 
-pub define_named-requires-clause-speaks : goal.define_named-requires-clause-speaks
-define_named-requires-clause-speaks g c =
+pub define_named-reply-requires-clause-speaks : goal.define_named-reply-requires-clause-speaks
+define_named-reply-requires-clause-speaks g c =
     speaks-went c.args.context.now.who (g.H.Reach.known c.args.reach.now) (g.H.Reach.known c.look.new.self)
     (went-found (g.H.Reach.known c.args.reach.now) (g.H.Reach.known c.look.new.self) _ c.in-Ok.ensures.ok) c.requires.speaks
 
-pub define_named-requires-clause-shut : goal.define_named-requires-clause-shut
-define_named-requires-clause-shut g c =
+pub define_named-reply-requires-clause-shut : goal.define_named-reply-requires-clause-shut
+define_named-reply-requires-clause-shut g c =
     open-went c.args.context.now.who 0 (g.H.Reach.known c.args.reach.now) (g.H.Reach.known c.look.new.self) c.requires.speaks
     (went-found (g.H.Reach.known c.args.reach.now) (g.H.Reach.known c.look.new.self) _ c.in-Ok.ensures.ok) c.requires.shut
 
-pub define_named-requires-clause-idle : goal.define_named-requires-clause-idle
-define_named-requires-clause-idle g c =
+pub define_named-reply-requires-clause-idle : goal.define_named-reply-requires-clause-idle
+define_named-reply-requires-clause-idle g c =
     idle-found c.args.context.now.who (g.H.Reach.known c.args.reach.now) (g.H.Reach.known c.look.new.self) _
     c.requires.speaks c.in-Ok.ensures.ok c.requires.idle
 
-pub define_named-requires-clause-look : goal.define_named-requires-clause-look
-define_named-requires-clause-look g c = went-log (g.H.Reach.known c.args.reach.now) (g.H.Reach.known c.look.new.self) _ c.in-Ok.ensures.ok
+pub define_named-reply-requires-clause-look : goal.define_named-reply-requires-clause-look
+define_named-reply-requires-clause-look g c = went-log (g.H.Reach.known c.args.reach.now) (g.H.Reach.known c.look.new.self) _ c.in-Ok.ensures.ok
 
 pub returns-in-Ok : goal.returns-in-Ok
 returns-in-Ok g c = λ state.
@@ -33,9 +33,9 @@ returns-in-Ok g c = λ state.
     (named_plan (g.H.Reach.known c.args.reach.now).limits c.args.context.now.who state c.args.statement.now) _ c.in-Ok.ensures.ok
     (subst (λ (l : Limits).
     IsRest c.args.context.now.who 1 (g.H.Reach.known c.look.new.self)
-    (named_plan l c.args.context.now.who state c.args.statement.now (g.H.Reach.known c.look.new.self).log) (said c.define_named.result)
-    (g.H.Reach.known c.define_named.new.reach))
-    (ap (λ (s : Known). s.limits) c.in-Ok.ensures.ok.now) (c.define_named.ensures state))
+    (named_plan l c.args.context.now.who state c.args.statement.now (g.H.Reach.known c.look.new.self).log) (said c.define_named-reply.result)
+    (g.H.Reach.known c.define_named-reply.new.reach))
+    (ap (λ (s : Known). s.limits) c.in-Ok.ensures.ok.now) (c.define_named-reply.ensures state))
 
 pub returns-in-Err : goal.returns-in-Err
 returns-in-Err g c = λ state.
