@@ -5,7 +5,8 @@
 //! never add an entry of a number that this side speaks for. [`Sole`] is a store that nobody else has: it speaks for every
 //! number, and nobody adds an entry between its calls.
 //!
-//! Start with `specs/Sides.antt`, then `reach.rt`.
+//! Start with `specs/Sides.antt`, then `reach.rt`. What is left of a line that is played over a side is said in
+//! `specs/Rests.antt`, for sessions and the background alike.
 #![tactic(auto)]
 
 mod reach;

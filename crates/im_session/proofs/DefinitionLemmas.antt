@@ -60,10 +60,9 @@ module _ (who k : ℕ) (old middle : Known) (name : List ℕ) (schema : List Col
       → IsRest who k old (create_table name schema grid (Some priority)) outcome new
   create-joins priority outcome new added rest =
       attempt-done who k old middle new (fault_of (aim.Creating name)) (λ at. create_refusal at name) (λ at. what.Create name schema grid) IsMade
-      (λ at. join_memory at priority) outcome added (λ at fact. fact.0)
-      (λ at o.
-      subst (λ (p : Plan Outcome). IsRest who (k + 1) middle p outcome new)
-      (ap (λ (m : Made). decide_by (λ here. what.Memory m.table (Some priority)) (λ here. End (said (created_reply m)))) o.fact.1) rest)
+      (λ at. join_memory at priority) outcome added added.fact.0
+      (subst (λ (p : Plan Outcome). IsRest who (k + 1) middle p outcome new)
+      (ap (λ (m : Made). decide_by (λ here. what.Memory m.table (Some priority)) (λ here. End (said (created_reply m)))) added.fact.1) rest)
 
   module _ (mine : speaks old.side who ≡ true) (added : Added old middle who (λ at. what.Create name schema grid) IsMade) where
     abbrev at : History

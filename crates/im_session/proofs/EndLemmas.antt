@@ -15,6 +15,7 @@ use Rattle.im_plan.specs.Goes.{After, Goes, Others}
 use Rattle.im_plan.specs.Plan.{Plan, End, Turn, made}
 use Rattle.im_plan.proofs.GoesLaws.{after-after, others-go_on}
 use Rattle.im_reach.specs.Sides.{Added, Found, Known, StoreSide, speaks}
+use Rattle.im_reach.proofs.RestLaws.{nobody-came, others-of}
 use Rattle.im_session.specs.declared.cursor.Cursor.{Cursor}
 use Rattle.im_session.specs.Cursors.{query_of}
 use Rattle.im_session.specs.Ends.{IsEnded, close_all, close_each, end_plan, end_without_leave, open_numbers, placed, rising, roll_back_open}
@@ -22,7 +23,7 @@ use Rattle.im_session.specs.Sessions.{Agrees, AreApart, Kept, state_of}
 use Rattle.im_session.specs.inner.Ends.{IsClosing, IsRolledBack, Leads, kept_numbers}
 use Rattle.im_session.specs.inner.Running.{is_number}
 use Rattle.im_session.proofs.KeptLemmas.{apart-filter}
-use Rattle.im_session.proofs.OtherLemmas.{begun-added, begun-after, left-added, left-after, nobody-came, opened-added, opened-after, others-of}
+use Rattle.im_session.proofs.OtherLemmas.{begun-added, begun-after, left-added, left-after, opened-added, opened-after}
 use Rattle.im_statements.specs.Agreement.{AreQueriesOf}
 
 -- ---- numbers in rising order

@@ -150,7 +150,6 @@ definition-committed who old middle third new P Q state s outcome found open_now
     rest-look who 0 old middle new P _ outcome found
     (rw open_now
     (rest-adds who 0 middle third new (λ at. Some what.Commit) (λ at. what.Commit) Q (λ at. looked_up old.limits who state s) outcome added
-    (λ at fact. refl)
-    (λ at o.
-    subst (λ (l : Limits). IsRest who 1 third (looked_up l who state s) outcome new)
+    refl
+    (subst (λ (l : Limits). IsRest who 1 third (looked_up l who state s) outcome new)
     (ap (λ (k : Known). k.limits) added.now ∙ limits-found old middle P found) rest)))

@@ -37,7 +37,7 @@ use Rattle.im_session.specs.inner.Rests.{IsRest}
 use Rattle.im_session.specs.inner.Scans.{IsScan}
 use Rattle.im_session.specs.Cursors.{MayAskIn}
 use Rattle.im_session.proofs.OtherLemmas.{cursor-after, itself}
-use Rattle.im_session.proofs.RestLemmas.{Onward, attempt-done, rest-lacks_here, rest-refused}
+use Rattle.im_session.proofs.RestLemmas.{attempt-done, rest-lacks_here, rest-refused}
 use Rattle.im_session.proofs.TableLemmas.{asks-own, exists-longer, of_table-longer, per-longer, scn-longer}
 use Rattle.im_statements.specs.Outcomes.{Outcome, said}
 use Rattle.im_statements.specs.Scans.{rows_seen, scan, serve_from}
@@ -197,18 +197,19 @@ pub scan-opened : (who k table : ℕ) (old middle new : Known) (view : View) (fi
     → IsRest who k old (scan who table filter (λ at view. tail (length at) view (rows_seen at view))) outcome new
 scan-opened who k table old middle new view filter tail outcome added rest =
     attempt-done who k old middle new (fault_of (aim.Opening 0)) (λ at. open_refusal at who 0) (λ at. Open 0 table)
-    (HasOpened who 0 table view) on outcome added
-    (λ at fact. fact.0) (λ at o. subst (λ (p : Plan Outcome). IsRest who (k + 1) middle p outcome new) (same at o) rest)
+    (HasOpened who 0 table view) on outcome added added.fact.0 (subst (λ (p : Plan Outcome). IsRest who (k + 1) middle p outcome new) same rest)
   where
     on : History → Plan Outcome
     on at = serve_from (view_at at who table) filter 0 (tail (length at) (view_at at who table) (rows_seen at (view_at at who table)))
 
-    same : (at : History) → Onward who old middle (λ at. Open 0 table) (HasOpened who 0 table view) at
-        → serve_from view filter 0 (tail view.place view (seen_all middle.log view)) ≡ on at
-    same at o =
+    at : History
+    at = added.at
+
+    same : serve_from view filter 0 (tail view.place view (seen_all middle.log view)) ≡ on at
+    same =
         ap (λ (rows : List (ℕ × Row)). serve_from view filter 0 (tail view.place view rows))
-        (opening-seen who 0 table old middle at view o.after o.now o.fact.1)
-        ∙ ap (λ (v : View). serve_from v filter 0 (tail v.place v (rows_seen at (view_at at who table)))) o.fact.1
+        (opening-seen who 0 table old middle at view added.after added.now added.fact.1)
+        ∙ ap (λ (v : View). serve_from v filter 0 (tail v.place v (rows_seen at (view_at at who table)))) added.fact.1
 
 -- a cursor of this number was not opened
 pub unopened-rest : (who k number table : ℕ) (old new : Known) (decides : Bool) (tells : Why → Fault) (on : History → Plan Outcome) (refused : Refused)

@@ -2,7 +2,7 @@
 use Rattle.std.proofs.Common.{◌≡◌, ℕ, ◌==◌, ◌&&◌, ◌||◌, Bool, true, false, if◌then◌else◌, [], ◌∷◌, ◌++◌, length, List, Option, is_some, All, refl, sym, ap, ◌∙◌, arith, append-nil, append_assoc}
 use Rattle.std.specs.List.{list_any}
 use Rattle.std.proofs.lemmas.Bool.Decides.{nat_tests}
-use Rattle.std.proofs.lemmas.List.Elements.{All-nil, All-head, All-tail, All-weaker}
+use Rattle.std.proofs.lemmas.List.Elements.{All-head, All-tail, All-weaker}
 use Rattle.im_history.specs.declared.entry.Entry.{Entry}
 use Rattle.im_history.specs.declared.entry.What.{What}
 use Rattle.im_history.specs.Cursors.{Opened, opened, opened_after, is_cursor, is_cursor_open}
@@ -12,24 +12,8 @@ use Rattle.im_history.specs.Transactions.{begun, begun_after, is_open, pending}
 use Rattle.im_history.specs.Transactions as transactions
 use Rattle.im_history.proofs.Laws.{begun-push, opened-push, pending-push}
 use Rattle.im_history.proofs.LeaveLaws.{has_left-push}
-use Rattle.im_plan.specs.Goes.{After, Others}
+use Rattle.im_plan.specs.Goes.{After}
 use Rattle.im_reach.specs.Sides.{Added, AreOthers, Found, Known, StoreSide, speaks}
-
--- others of a side have numbers that it does not speak for
-pub others-of : (side : StoreSide) (old at : History) → After (AreOthers side) old at → After (Others (speaks side)) old at
-others-of side old at after = record { between = after.between; lawful = record { apart = after.lawful.apart }; log = after.log }
-
--- nobody came
-pub nobody-came : (side : StoreSide) (h : History) → After (AreOthers side) h h
-nobody-came side h = record {
-  between = [];
-  lawful = record { alone = λ alone. refl; apart = All-nil (λ (entry : Entry). speaks side entry.who ≡ false) };
-  log = sym (append-nil h);
-}
-
--- what is known was found just now
-pub found-here : (old : Known) → Found old old (λ at. at ≡ old.log)
-found-here old = record { at = old.log; after = nobody-came old.side old.log; now = refl; fact = refl }
 
 other-number : (side : StoreSide) (who number : ℕ) → speaks side who ≡ true → speaks side number ≡ false → (number == who) ≡ false
 other-number side who number mine other = by (number == who) refl

@@ -1,7 +1,6 @@
 -- A scan over a side of a store: what others leave of it, how its extents are served, and how it ends.
-use Rattle.std.proofs.Common.{◌≡◌, ℕ, suc, ◌+◌, ◌-◌, ◌<◌, ◌≤◌, Bool, true, false, if◌then◌else◌, List, [], ◌∷◌, ◌++◌, Option, Some, None, refl, sym, ap, ◌∙◌, subst, arith, append_assoc}
+use Rattle.std.proofs.Common.{◌≡◌, ℕ, suc, ◌+◌, ◌-◌, ◌<◌, ◌≤◌, Bool, true, false, if◌then◌else◌, List, [], ◌∷◌, ◌++◌, Option, Some, None, refl, sym, ap, ◌∙◌, subst, arith}
 use Rattle.std.specs.List.{find}
-use Rattle.std.proofs.lemmas.List.Elements.{All-append}
 use Rattle.im_values.specs.declared.value.Value.{Value}
 use Rattle.im_history.specs.declared.entry.What.TheVariants as what
 use Rattle.im_history.specs.declared.view.View.{View}
@@ -13,17 +12,20 @@ use Rattle.im_history.specs.Tables.{tables}
 use Rattle.im_history.specs.Views.{per_at}
 use Rattle.im_names.specs.Fitting.{OfTable, QueryServes}
 use Rattle.im_core.specs.Answers.{cursor_view, view_of}
-use Rattle.im_plan.specs.Goes.{After, Ends, Goes, Others}
-use Rattle.im_plan.specs.Plan.{Plan, End, made}
-use Rattle.im_plan.proofs.GoesLaws.{others-go_on, rest-amended}
+use Rattle.im_plan.specs.Goes.{After}
+use Rattle.im_plan.specs.Plan.{Plan, End}
+use Rattle.im_reach.specs.Rests.{Logged, Onward}
 use Rattle.im_reach.specs.Sides.{Added, AreOthers, Found, Known, StoreSide, speaks}
+use Rattle.im_reach.proofs.RestLaws.{both-came, keeps-logged}
+use Rattle.im_reach.proofs.RestLaws as laws
 use Rattle.im_replies.specs.declared.reply.Reply.{Reply}
 use Rattle.im_replies.specs.declared.served.Served.{Served}
-use Rattle.im_session.specs.inner.Rests.{IsRest}
+use Rattle.im_session.specs.inner.Rests.{IsDecided, IsRest}
 use Rattle.im_session.specs.Cursors.{IsView, MayAskIn}
 use Rattle.im_session.specs.inner.Scans.{Comes, IsScan, IsShut, Longer, Stops, Went}
-use Rattle.im_session.proofs.OtherLemmas.{cursor-after, opened-after, others-of}
-use Rattle.im_session.proofs.RestLemmas.{ends-here, rest-adds, rest-end, rest-look, rest-went}
+use Rattle.im_session.proofs.OtherLemmas.{cursor-after, opened-after}
+use Rattle.im_session.proofs.RestLemmas.{decided-end, rest-look, rest-went}
+pub use Rattle.im_session.proofs.RestLemmas.{went-found, went-log}
 use Rattle.im_session.proofs.TableLemmas.{exists-longer, of_table-longer, per-longer, scn-longer}
 use Rattle.im_statements.specs.Outcomes.{Outcome, said}
 use Rattle.im_statements.specs.Scans.{end_scan, mark_at, serve}
@@ -33,16 +35,8 @@ use Rattle.im_syntax.specs.Condition.{CondOf}
 
 -- ---- others went on
 
--- a call that added nothing
-pub went-found : (old new : Known) (P : History → Type 0) → Found old new P → Went old new
-went-found old new P found =
-    subst (λ (s : Known). Went old s) (sym found.now) (record { after = found.after; now = refl })
-
 pub found-went : (old new : Known) → Went old new → Found old new (λ at. at ≡ new.log)
 found-went old new went = record { at = new.log; after = went.after; now = went.now; fact = refl }
-
-pub went-log : (old new : Known) (P : History → Type 0) → (found : Found old new P) → P new.log
-went-log old new P found = subst P (sym (ap (λ (s : Known). s.log) found.now)) found.fact
 
 pub side-went : (old new : Known) → Went old new → new.side ≡ old.side
 side-went old new went = ap (λ (s : Known). s.side) went.now
@@ -55,21 +49,11 @@ pub open-went : (who cursor : ℕ) (old new : Known) {b : Bool} → speaks old.s
     → is_cursor_open new.log who cursor ≡ b
 open-went who cursor old new mine went is = cursor-after old.side who cursor old.log new.log mine went.after ∙ is
 
-both-came : (side : StoreSide) (old at new : History) → After (AreOthers side) old at → After (AreOthers side) at new → After (AreOthers side) old new
-both-came side old at new first second = record {
-  between = first.between ++ second.between;
-  lawful = record {
-    alone = λ alone. ap (λ (h : History). h ++ second.between) (first.lawful.alone alone) ∙ second.lawful.alone alone;
-    apart = All-append (λ entry. speaks side entry.who ≡ false) first.between second.between first.lawful.apart second.lawful.apart;
-  };
-  log = second.log ∙ (ap (λ (h : History). h ++ second.between) first.log ∙ append_assoc old first.between second.between);
-}
-
 pub went-on : (old at new : Known) → Went old at → Went at new → Went old new
 went-on old at new first second = record {
   after = both-came old.side old.log at.log new.log first.after
       (subst (λ (side : StoreSide). After (AreOthers side) at.log new.log) (side-went old at first) second.after);
-  now = second.now ∙ ap (λ (s : Known). record s { log = new.log }) first.now;
+  now = keeps-logged.both old at new first.now second.now;
 }
 
 pub longer-went : (old new : Known) → Went old new → Longer old new
@@ -161,37 +145,29 @@ stops-went who k first old new plan later went comes = record { later = later; c
 pub shut-added : (who : ℕ) (old new : Known) (P : History → Type 0) → Added old new who (λ at. what.Shut 0) P → IsShut who old new
 shut-added who old new P added = record { at = added.at; after = added.after; now = added.now }
 
--- cursor 0 is shut, and the line ends
+onward-shut : (who : ℕ) (old new : Known) → (shut : IsShut who old new) → Onward who old new (what.Shut 0) shut.at
+onward-shut who old new shut = record { after = shut.after; now = shut.now }
+
+-- cursor 0 is shut, and the line ends: its deciding entry was made
+pub decided-shut : (who : ℕ) (old new : Known) (reply : Reply) → IsShut who old new → IsDecided who old (end_scan reply) (said reply) new
+decided-shut who old new reply shut =
+    laws.decided-adds Logged keeps-logged who old new new false (λ here. Some (what.Shut 0)) (what.Shut 0) shut.at (λ here. End (said reply)) (said reply)
+    (onward-shut who old new shut) refl (decided-end who new (End (said reply)) (said reply) refl)
+
+-- the same where none was
 pub scan-ended : (who k : ℕ) (old new : Known) (reply : Reply) → IsShut who old new → IsRest who k old (end_scan reply) (said reply) new
 scan-ended who k old new reply shut =
-    rest-adds who k old new new (λ here. Some (what.Shut 0)) (λ here. what.Shut 0) (λ at. Unit {0}) (λ here. End (said reply)) (said reply)
-    (record { at = shut.at; after = shut.after; now = shut.now; fact = tt }) (λ at fact. refl)
-    (λ at o. rest-end who (k + 1) new (End (said reply)) (said reply) refl)
+    laws.rest-decided Logged keeps-logged who (amends who) k old new (end_scan reply) (said reply) (decided-shut who old new reply shut)
 
 -- memory runs out while cursor 0 is open
 pub scan-lacks : (who k : ℕ) (old new : Known) (plan : Plan Outcome) → speaks old.side who ≡ true → is_cursor_open old.log who 0 ≡ true
     → IsShut who old new → IsRest who k old plan (said (memory_reply k)) new
 scan-lacks who k old new plan mine is_open shut =
-    subst (λ (s : Known). IsRest who k old plan (said (memory_reply k)) s) (sym shut.now)
-    (record {
-      kept = refl;
-      rest = rest-amended (Others (speaks old.side)) (others-go_on (speaks old.side)) who (amends who) k old.log plan (said (memory_reply k)) _ goes;
-    })
-  where
-    at : History
-    at = shut.at
-
-    one : made who (if is_cursor_open at who 0 then Some (what.Shut 0) else None) ≡ record { who = who; what = what.Shut 0 } ∷ []
-    one = ap (λ (b : Bool). made who (if b then Some (what.Shut 0) else None)) (cursor-after old.side who 0 old.log at mine shut.after ∙ is_open)
-
-    goes : Goes (Others (speaks old.side)) who old.log (amends who k) (said (memory_reply k)) (at ++ record { who = who; what = what.Shut 0 } ∷ [])
-    goes = (
-      at,
-      others-of old.side old.log at shut.after,
-      subst (λ (added : History). Ends (Others (speaks old.side)) (at ++ added) (said (memory_reply k)) (said (memory_reply k))
-          (at ++ record { who = who; what = what.Shut 0 } ∷ [])) (sym one)
-          (ends-here old.side (at ++ record { who = who; what = what.Shut 0 } ∷ []) (said (memory_reply k))),
-    )
+    laws.rest-lacks Logged keeps-logged who (amends who) k old new plan (said (memory_reply k))
+    (laws.decided-adds Logged keeps-logged who old new new false (λ at. if is_cursor_open at who 0 then Some (what.Shut 0) else None) (what.Shut 0) shut.at
+    (λ at. End (said (memory_reply k))) (said (memory_reply k)) (onward-shut who old new shut)
+    (ap (λ (b : Bool). if b then Some (what.Shut 0) else None) (cursor-after old.side who 0 old.log shut.at mine shut.after ∙ is_open))
+    (decided-end who new (End (said (memory_reply k))) (said (memory_reply k)) refl))
 
 -- memory ran out where a line had stopped
 pub scan-stops : (who k : ℕ) (first old new : Known) (plan : Plan Outcome) → speaks old.side who ≡ true → is_cursor_open old.log who 0 ≡ true

@@ -1,5 +1,5 @@
 -- A line of a session: what it leaves of the cursors that are kept, and that it is played as a whole.
-use Rattle.std.proofs.Common.{◌≡◌, ℕ, Bool, true, false, not, List, [], ◌∷◌, ◌++◌, filter, map, Option, Some, None, Ok, Err, ◌⊎◌, refl, sym, ap, ◌∙◌, subst, inl, inr, append_assoc}
+use Rattle.std.proofs.Common.{◌≡◌, ℕ, Bool, true, false, not, List, [], ◌∷◌, ◌++◌, filter, map, Option, Some, None, Ok, Err, ◌⊎◌, refl, sym, ap, ◌∙◌, subst}
 use Rattle.std.specs.List.{AllByRecursion, list_any}
 use Rattle.std.specs.Prelude.{slice_index_or, slice_set}
 use Rattle.im_history.specs.declared.limits.Limits.{Limits}
@@ -12,9 +12,9 @@ use Rattle.im_names.specs.declared.resolved.Resolved.{Resolved}
 use Rattle.im_names.specs.declared.fault.NameFault.{NameFault}
 use Rattle.im_names.specs.declared.fault.NameFault.TheVariants.{NoMemory}
 use Rattle.im_names.specs.Statements.{resolution}
-use Rattle.im_plan.specs.Goes.{After, Goes, Lacks, Others}
-use Rattle.im_plan.specs.Plan.{End, Plan, Turn, made, counted}
+use Rattle.im_plan.specs.Plan.{End, Plan, counted}
 use Rattle.im_reach.specs.Sides.{Found, Known, speaks}
+use Rattle.im_reach.proofs.RestLaws.{rest-longer}
 use Rattle.im_replies.specs.declared.body.Body.TheVariants.{Error}
 use Rattle.im_replies.specs.declared.fault.Fault.TheVariants as fault
 use Rattle.im_replies.specs.declared.reply.Reply.{Reply}
@@ -41,7 +41,7 @@ use Rattle.im_statements.specs.Cursors.{close, close_query, fetch, fetch_query, 
 use Rattle.im_statements.specs.Outcomes.{Closes, Opens, Outcome, Query, Replied, State, Stays, Steps, query_at, said}
 use Rattle.im_statements.specs.Statements.{definition_plan, is_definition, name_reply, named_plan, resolved_plan, statement_plan}
 use Rattle.im_statements.specs.Transaction.{open_after}
-use Rattle.im_statements.specs.Turns.{amends, memory_reply, settled_reply}
+use Rattle.im_statements.specs.Turns.{memory_reply, settled_reply}
 use Rattle.im_statements.proofs.AgreementLaws.{keep-agreement}
 use Rattle.im_statements.proofs.TransactionLaws.{keep-transaction}
 use Rattle.im_syntax.specs.declared.bound.Bound.{Bound}
@@ -50,49 +50,14 @@ use Rattle.im_syntax.specs.Rules.{IsStmt}
 
 -- ---- a line makes the history longer
 
-record GoesOn (old new : History) : Type 0 where
-  pub more : History
-  pub log : new ≡ old ++ more
-
-through : (others : History → Type 0) (old at entries new : History) → After others old at → GoesOn (at ++ entries) new → GoesOn old new
-through others old at entries new after later = record {
-  more = after.between ++ (entries ++ later.more);
-  log =
-      later.log
-      ∙ (append_assoc at entries later.more
-      ∙ (ap (λ (h : History). h ++ (entries ++ later.more)) after.log ∙ append_assoc old after.between (entries ++ later.more)));
-}
-
-goes-on : (others : History → Type 0) (who : ℕ) (old : History) (plan : Plan Outcome) (outcome : Outcome) (new : History)
-    → Goes others who old plan outcome new → GoesOn old new
-goes-on others who old (End value) outcome new goes = record { more = goes.after.between; log = goes.after.log }
-goes-on others who old (Turn decides adds on) outcome new goes =
-    through others old goes.0 (made who (adds goes.0)) new goes.1
-    (goes-on others who (goes.0 ++ made who (adds goes.0)) (on goes.0) outcome new goes.2)
-
-lacks-on : (others : History → Type 0) (who k : ℕ) (old : History) (plan : Plan Outcome) (outcome : Outcome) (new : History)
-    → Lacks others who (amends who) k old plan outcome new → GoesOn old new
-lacks-on others who k old (End value) outcome new lacks = goes-on others who old (amends who k) outcome new lacks
-lacks-on others who k old (Turn decides adds on) outcome new lacks = elim lacks [
-  | inl amended ↦ goes-on others who old (amends who k) outcome new amended
-  | inr later ↦
-      through others old later.0 (made who (adds later.0)) new later.1
-      (lacks-on others who (counted (adds later.0) k) (later.0 ++ made who (adds later.0)) (on later.0) outcome new later.3)
-]
-
-rest-longer : (who k : ℕ) (old new : Known) (plan : Plan Outcome) (outcome : Outcome) → IsRest who k old plan outcome new → Longer old new
-rest-longer who k old new plan outcome rest =
-    let on : GoesOn old.log new.log = elim rest.rest.played [
-      | inl goes ↦ goes-on (Others (speaks old.side)) who old.log plan outcome new.log goes
-      | inr lacks ↦ lacks-on (Others (speaks old.side)) who k old.log plan outcome new.log lacks
-    ] in
-    record { more = on.more; log = on.log }
+line-longer : (who k : ℕ) (old new : Known) (plan : Plan Outcome) (outcome : Outcome) → IsRest who k old plan outcome new → Longer old new
+line-longer who k old new plan outcome rest = let on = rest-longer old new plan outcome rest in record { more = on.more; log = on.log }
 
 -- what is kept holds after it
 sound-rest : (who k : ℕ) (old new : Known) (plan : Plan Outcome) (outcome : Outcome) (cursors : List Cursor) → IsRest who k old plan outcome new
     → AllByRecursion (λ kept. IsSound kept old) cursors → AllByRecursion (λ kept. IsSound kept new) cursors
 sound-rest who k old new plan outcome cursors rest sound =
-    let longer = rest-longer who k old new plan outcome rest in
+    let longer = line-longer who k old new plan outcome rest in
     all-map (λ kept. IsSound kept old) (λ kept. IsSound kept new) (λ kept is. sound-longer kept old new longer is) cursors sound
 
 -- ---- statements over the cursors

@@ -1,9 +1,9 @@
 -- How a line that rewrites rows ends: with its write, refused or not, or with none.
-use Rattle.std.proofs.Common.{◌⊎◌, ◌≡◌, ℕ, ◌≤◌, true, List, [], ◌∷◌, ◌++◌, length, Option, Some, None, refl, sym, ap, ◌∙◌, subst, inl, inr, arith}
+use Rattle.std.proofs.Common.{◌⊎◌, ◌≡◌, ℕ, ◌≤◌, true, List, [], ◌∷◌, length, Option, Some, None, refl, sym, ap, ◌∙◌, subst, inl, inr, arith}
 use Rattle.std.specs.List.{list_any}
 use Rattle.im_core.specs.Answers.{IsRefusal, cursor_view}
 use Rattle.im_history.specs.declared.change.Change.{Change}
-use Rattle.im_history.specs.declared.entry.What.TheVariants.{Shut, Write}
+use Rattle.im_history.specs.declared.entry.What.TheVariants.{Write}
 use Rattle.im_history.specs.declared.limits.Limits.{Limits}
 use Rattle.im_history.specs.declared.refused.Refused.{Refused}
 use Rattle.im_history.specs.declared.refused.Why.{Why}
@@ -24,26 +24,13 @@ use Rattle.im_replies.specs.Causes.{fault_of}
 use Rattle.im_session.specs.inner.Rests.{IsDecided, IsRest}
 use Rattle.im_session.specs.inner.Scans.{IsScan, IsShut, Went}
 use Rattle.im_session.specs.inner.Writes.{write_reply}
-use Rattle.im_session.proofs.OtherLemmas.{opened-added, others-of}
-use Rattle.im_session.proofs.RestLemmas.{ends-here, rest-decides, rest-nothing, rest-went}
-use Rattle.im_session.proofs.ScanLemmas.{open-went, scan-ended, scan-lacks, scan-went, speaks-went, went-found, view-scan}
+use Rattle.im_session.proofs.OtherLemmas.{opened-added}
+use Rattle.im_session.proofs.RestLemmas.{rest-decides, rest-nothing, rest-went}
+use Rattle.im_session.proofs.ScanLemmas.{decided-shut, open-went, scan-ended, scan-lacks, scan-went, speaks-went, went-found, went-log, view-scan}
 use Rattle.im_statements.specs.Outcomes.{Outcome, said}
 use Rattle.im_statements.specs.Scans.{end_scan}
 use Rattle.im_statements.specs.Turns.{memory_reply, served_reply, unless_refused}
 use Rattle.im_statements.specs.Writes.{or_fault, write_or_end, write_seen}
-
--- cursor 0 is shut, and the line ends: its deciding entry was made
-decided-shut : (who : ℕ) (old new : Known) (reply : Reply) → IsShut who old new → IsDecided who old (end_scan reply) (said reply) new
-decided-shut who old new reply shut =
-    subst (λ (s : Known). IsDecided who old (end_scan reply) (said reply) s) (sym shut.now)
-    (record {
-      kept = refl;
-      goes = (
-        shut.at,
-        others-of old.side old.log shut.at shut.after,
-        ends-here old.side (shut.at ++ record { who = who; what = Shut 0 } ∷ []) (said reply),
-      );
-    })
 
 -- ---- the cursor stays open
 
@@ -74,19 +61,13 @@ module _ (who k : ℕ) (old new late : Known) (view : View) (marks : List Served
       → IsRest who k old (write_seen old.limits who view.scn marks changes body) (said (served_reply place marks body)) late
   write-done place added =
       rest-decides who k old new late true (λ at. unless_refused (write_refusal old.limits at who view.scn changes) (Write changes))
-      (λ at. Write changes) Seen (λ at. end_scan (served_reply (length at) marks (or_fault (write_refusal old.limits at who view.scn changes) body)))
-      (said (served_reply place marks body))
-      (record { at = added.at; after = added.after; now = added.now; fact = (allowed, added.fact.1) })
-      (λ at fact. ap (λ (o : Option Why). unless_refused o (Write changes)) fact.0)
-      (λ at o.
-      subst (λ (p : Plan Outcome). IsDecided who new p (said (served_reply place marks body)) late)
-      (sym (ap (λ (o : Option Why). end_scan (served_reply (length at) marks (or_fault o body))) o.fact.0
-      ∙ ap (λ (n : ℕ). end_scan (served_reply n marks body)) (sym o.fact.1)))
+      (λ at. Write changes) _ (λ at. end_scan (served_reply (length at) marks (or_fault (write_refusal old.limits at who view.scn changes) body)))
+      (said (served_reply place marks body)) added (ap (λ (o : Option Why). unless_refused o (Write changes)) allowed)
+      (subst (λ (p : Plan Outcome). IsDecided who new p (said (served_reply place marks body)) late)
+      (sym (ap (λ (o : Option Why). end_scan (served_reply (length added.at) marks (or_fault o body))) allowed
+      ∙ ap (λ (n : ℕ). end_scan (served_reply n marks body)) (sym added.fact.1)))
       (decided-shut who new late (served_reply place marks body) shut))
     where
-      Seen : History → Type 0
-      Seen at = (write_refusal old.limits at who view.scn changes ≡ None) × (place ≡ length at)
-
       allowed : write_refusal old.limits added.at who view.scn changes ≡ None
       allowed = ap (λ (v : View). write_refusal old.limits added.at who v.scn changes) (sym (view-after added.at added.after)) ∙ added.fact.0
 
@@ -106,27 +87,30 @@ module _ (who k : ℕ) (old new late : Known) (view : View) (marks : List Served
       lacking = rest-went who k old new late plan (said (memory_reply k)) went
           (scan-lacks who k new late plan (speaks-went who old new went mine) (open-went who 0 old new mine went scan.is_open) shut)
 
-      faulty : write_refusal old.limits found.at who view.scn changes ≡ Some told.why
+      is : IsRefusal new.log (write_refusal old.limits new.log who (cursor_view new.log who 0).scn changes) told
+      is = went-log old new _ found
+
+      faulty : write_refusal old.limits new.log who view.scn changes ≡ Some told.why
           → IsRest who k old plan (said (served_reply told.place marks (Error (fault_of aim.Plain told.why)))) late
       faulty cause =
-          rest-nothing who k old new late true (λ at. unless_refused (write_refusal old.limits at who view.scn changes) (Write changes)) _
+          rest-nothing who k old new late true (λ at. unless_refused (write_refusal old.limits at who view.scn changes) (Write changes))
           (λ at. end_scan (served_reply (length at) marks (or_fault (write_refusal old.limits at who view.scn changes) body)))
-          (said (served_reply told.place marks (Error (fault_of aim.Plain told.why)))) found
+          (said (served_reply told.place marks (Error (fault_of aim.Plain told.why)))) went
           (ap (λ (o : Option Why). unless_refused o (Write changes)) cause)
           (subst (λ (p : Plan Outcome). IsRest who k new p (said (served_reply told.place marks (Error (fault_of aim.Plain told.why)))) late)
-          (sym (ap (λ (o : Option Why). end_scan (served_reply (length found.at) marks (or_fault o body))) cause
-          ∙ ap (λ (n : ℕ). end_scan (served_reply n marks (Error (fault_of aim.Plain told.why)))) (sym found.fact.place)))
+          (sym (ap (λ (o : Option Why). end_scan (served_reply (length new.log) marks (or_fault o body))) cause
+          ∙ ap (λ (n : ℕ). end_scan (served_reply n marks (Error (fault_of aim.Plain told.why)))) (sym is.place)))
           (scan-ended who k new late (served_reply told.place marks (Error (fault_of aim.Plain told.why))) shut))
 
       by : (write_reply k told.place marks told.why ≡ memory_reply k)
           ⊎ (write_reply k told.place marks told.why ≡ served_reply told.place marks (Error (fault_of aim.Plain told.why)))
           → IsRest who k old plan (said (write_reply k told.place marks told.why)) late
       by (inl e) = subst (λ (reply : Reply). IsRest who k old plan (said reply) late) (sym e) lacking
-      by (inr e) = elim found.fact.why [
+      by (inr e) = elim is.why [
         | inl lacks ↦ subst (λ (reply : Reply). IsRest who k old plan (said reply) late) (sym (ap (write_reply k told.place marks) lacks)) lacking
         | inr cause ↦ subst (λ (reply : Reply). IsRest who k old plan (said reply) late) (sym e)
             (faulty
-            (ap (λ (v : View). write_refusal old.limits found.at who v.scn changes) (sym (view-after found.at found.after)) ∙ cause))
+            (ap (λ (v : View). write_refusal old.limits new.log who v.scn changes) (sym (view-after new.log went.after)) ∙ cause))
       ]
 
 -- ---- the changes

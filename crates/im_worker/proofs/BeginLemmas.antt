@@ -1,7 +1,5 @@
 -- A build that began, and what the line goes on to.
-use Rattle.std.proofs.Common.{◌≡◌, ℕ, ◌+◌, ◌≤◌, ◌==◌, false, true, List, [], ◌∷◌, ◌++◌, length, Some, None, refl, sym, ap, ap₂, ◌∙◌, subst, append_assoc}
-use Rattle.std.proofs.lemmas.List.Elements.{All-append}
-use Rattle.im_history.specs.declared.entry.Entry.{Entry}
+use Rattle.std.proofs.Common.{◌≡◌, ℕ, ◌+◌, ◌≤◌, ◌==◌, false, true, List, [], ◌∷◌, length, Some, None, refl, sym, ap, ◌∙◌, subst}
 use Rattle.im_worker.proofs.HoldingLaws.{same_number}
 use Rattle.std.specs.Option.{option_map}
 use Rattle.im_history.specs.declared.entry.What.TheVariants.{Cancel}
@@ -16,6 +14,7 @@ use Rattle.im_history.proofs.Laws.{IsLegal-pop}
 use Rattle.im_plan.specs.Goes.{After}
 use Rattle.im_plan.specs.Plan.{Plan}
 use Rattle.im_reach.specs.Sides.{Added, AreOthers, Known, Missed, StoreSide, missed, speaks}
+use Rattle.im_reach.proofs.RestLaws.{both-came, counted-logged, went-missed}
 use Rattle.im_statements.specs.Background.{Answered, Outcome, begin_next, with_choice}
 use Rattle.im_statements.specs.Turns.{memory_reply}
 use Rattle.im_worker.specs.Background.{Ready, tasks_of}
@@ -25,7 +24,7 @@ use Rattle.im_worker.specs.inner.Begun.{Began, IsIdle, IsJust, IsReady, Lacked, 
 use Rattle.im_worker.specs.inner.Rests.{IsRest, Went}
 use Rattle.im_worker.specs.inner.Standing.{Stands}
 use Rattle.im_worker.proofs.CountLemmas.{on-after, one-counted}
-use Rattle.im_worker.proofs.RestLemmas.{kept-log, rest-adds, rest-drops, rest-lacks, rest-nothing, rest-went, stands-went, went-missed}
+use Rattle.im_worker.proofs.RestLemmas.{rest-adds, rest-drops, rest-lacks, rest-nothing, rest-went, stands-went}
 use Rattle.im_worker.proofs.StandingLaws.{stands-after, stands-begun, stands-finished}
 
 -- ---- what the store's calls say
@@ -121,16 +120,6 @@ lacked-of who builds old new P mine lawful stands miss = record {
   stands = stands-went old new who builds [] mine lawful (went-missed old new P miss) stands;
 }
 
-pub after-both : {side : StoreSide} {old at new : History} → After (AreOthers side) old at → After (AreOthers side) at new → After (AreOthers side) old new
-after-both {side} {old} {at} {new} first second = record {
-  between = first.between ++ second.between;
-  lawful = record {
-    alone = λ alone. ap₂ (λ (a b : History). a ++ b) (first.lawful.alone alone) (second.lawful.alone alone);
-    apart = All-append (λ (entry : Entry). speaks side entry.who ≡ false) first.between second.between first.lawful.apart second.lawful.apart;
-  };
-  log = second.log ∙ (ap (λ (h : History). h ++ second.between) first.log ∙ append_assoc old first.between second.between);
-}
-
 id_is : (id : ℕ) → (id == id) ≡ true
 id_is id = same_number id id refl
 
@@ -143,7 +132,7 @@ dropped-of who builds old mid read new task choice P mine lawful after legal sta
   task = task;
   last = cancelled.at;
   began = began-of who old mid task choice cancelled.at added
-      (after-both (subst (λ (side : StoreSide). After (AreOthers side) mid.log read.log) side_mid went.after)
+      (both-came old.side mid.log read.log cancelled.at (subst (λ (side : StoreSide). After (AreOthers side) mid.log read.log) side_mid went.after)
       (subst (λ (side : StoreSide). After (AreOthers side) read.log cancelled.at) side_read cancelled.after));
   now = cancelled.now
       ∙ (ap (λ (s : Known). record s { log = behind cancelled.at who (Cancel task.id false) })
@@ -186,7 +175,7 @@ next-ready who k builds old new last ready on idle outcome is rest =
     (subst (λ (p : Plan Outcome). IsRest who (k + 1) (tasks_of builds) mid p outcome last)
     (sym (ap (with_choice on idle at) is.began.comes ∙ ap on (sym is.began.is)))
     (rest-went who (k + 1) (tasks_of builds) mid new last (on ready.task) outcome
-    (record { after = is.began.later; now = kept-log mid new is.now }) rest))
+    (record { after = is.began.later; now = counted-logged mid new is.now }) rest))
   where
     at : History
     at = is.began.at

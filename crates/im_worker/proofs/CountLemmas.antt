@@ -1,13 +1,15 @@
 -- The rows that builds read from the blocks, counted.
-use Rattle.std.proofs.Common.{◌≡◌, ℕ, ◌+◌, ◌≤◌, List, [], ◌∷◌, ◌++◌, Some, refl, sym, ap, ◌∙◌, subst, arith, inl, inr, append-nil, append_assoc}
+use Rattle.std.proofs.Common.{◌≡◌, ℕ, ◌+◌, ◌≤◌, List, [], ◌∷◌, ◌++◌, Some, refl, sym, ap, ◌∙◌, subst, arith, append-nil, append_assoc}
 use Rattle.im_core.specs.Answers.{task_rows}
 use Rattle.im_history.specs.declared.entry.What.{What}
 use Rattle.im_history.specs.declared.task.Task.{Task}
 use Rattle.im_history.specs.History.{History, behind}
 use Rattle.im_history.specs.Queue.{build_of, next}
-use Rattle.im_plan.specs.Goes.{After, Goes, Lacks, Rest}
-use Rattle.im_plan.specs.Plan.{Plan, End, Turn, made, counted}
+use Rattle.im_plan.specs.Goes.{After}
+use Rattle.im_plan.specs.Plan.{Plan}
 use Rattle.im_reach.specs.Sides.{AreOthers, Known}
+use Rattle.im_reach.proofs.RestLaws.{rest-longer}
+use Rattle.im_statements.specs.Background.{Outcome}
 use Rattle.im_worker.specs.Reads.{AreBegun, IsCounted, Start, WentOn, rows_of_all}
 use Rattle.im_worker.specs.inner.Begun.{IsJust}
 use Rattle.im_worker.specs.inner.Rests.{IsEnded, IsRest, Went}
@@ -42,33 +44,9 @@ pub on-ended : {who : ℕ} {task : Task} (old new : Known) (told : _) → IsEnde
 on-ended {who} old new told ended = on-added (AreOthers old.side) old.log ended.at new.log who _ ended.after (ap (λ (s : Known). s.log) ended.now)
 
 -- a line goes on from where it began
-module _ {R : Type 0} (others : History → Type 0) (who : ℕ) where
-  goes-on : (old : History) (plan : Plan R) (result : R) (new : History) → Goes others who old plan result new → WentOn old new
-  goes-on old (End value) result new goes = on-after others old new goes.after
-  goes-on old (Turn decides adds on) result new goes =
-      on-on old goes.0 new (on-after others old goes.0 goes.1)
-      (on-on goes.0 (goes.0 ++ made who (adds goes.0)) new (record { more = made who (adds goes.0); is = refl })
-      (goes-on (goes.0 ++ made who (adds goes.0)) (on goes.0) result new goes.2))
-
-  lacks-on : (amends : ℕ → Plan R) (k : ℕ) (old : History) (plan : Plan R) (result : R) (new : History) → Lacks others who amends k old plan result new
-      → WentOn old new
-  lacks-on amends k old (End value) result new lacks = goes-on old (amends k) result new lacks
-  lacks-on amends k old (Turn decides adds on) result new lacks = elim lacks [
-    | inl amended ↦ goes-on old (amends k) result new amended
-    | inr later ↦ on-on old later.0 new (on-after others old later.0 later.1)
-        (on-on later.0 (later.0 ++ made who (adds later.0)) new (record { more = made who (adds later.0); is = refl })
-        (lacks-on amends (counted (adds later.0) k) (later.0 ++ made who (adds later.0)) (on later.0) result new later.3))
-  ]
-
-  rest-on : (amends : ℕ → Plan R) (k : ℕ) (old : History) (plan : Plan R) (result : R) (new : History) → Rest others who amends k old plan result new
-      → WentOn old new
-  rest-on amends k old plan result new rest = elim rest.played [
-    | inl goes ↦ goes-on old plan result new goes
-    | inr lacks ↦ lacks-on amends k old plan result new lacks
-  ]
-
-pub on-rest : {who k : ℕ} {builds : List Task} (old new : Known) (plan : _) (outcome : _) → IsRest who k builds old plan outcome new → WentOn old.log new.log
-on-rest {who} {k} {builds} old new plan outcome rest = rest-on _ who _ k old.log plan outcome new.log rest.rest
+pub on-rest : {who k : ℕ} {builds : List Task} (old new : Known) (plan : Plan Outcome) (outcome : Outcome) → IsRest who k builds old plan outcome new
+    → WentOn old.log new.log
+on-rest old new plan outcome rest = let longer = rest-longer old new plan outcome rest in record { more = longer.more; is = longer.log }
 
 -- ---- builds that began
 

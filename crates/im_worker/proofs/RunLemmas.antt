@@ -19,7 +19,9 @@ use Rattle.im_history.proofs.Laws.{IsLegal-pop}
 use Rattle.im_history.proofs.UnitLaws.{is_plain}
 use Rattle.im_plan.specs.Goes.{After, Goes, Others}
 use Rattle.im_plan.specs.Plan.{Plan, End}
+use Rattle.im_reach.specs.Rests.{Counted, Onward}
 use Rattle.im_reach.specs.Sides.{Added, AreOthers, Found, Known, StoreSide, speaks}
+use Rattle.im_reach.proofs.RestLaws.{counted-logged, keeps-counted, nobody-came, others-of}
 use Rattle.im_replies.specs.declared.body.Body.{Body}
 use Rattle.im_replies.specs.declared.body.Body.TheVariants as body
 use Rattle.im_replies.specs.declared.reply.Reply.{Reply}
@@ -41,7 +43,7 @@ use Rattle.im_worker.specs.inner.Running.{IsCommand, IsDropping, IsLast, IsRan, 
 use Rattle.im_worker.specs.inner.Standing.{Stands}
 use Rattle.im_worker.proofs.BeginLemmas.{next-dropped, next-idle, next-lacks, next-ready}
 use Rattle.im_worker.proofs.HoldingLaws.{same_number}
-use Rattle.im_worker.proofs.RestLemmas.{Onward, kept-kept, kept-log, limits-same, nobody-came, others-of, rest-adds, rest-end, rest-lacks, rest-last, rest-nothing, stands-agrees, stands-went, went-found, went-here}
+use Rattle.im_worker.proofs.RestLemmas.{limits-same, rest-adds, rest-end, rest-lacks, rest-last, rest-nothing, stands-agrees, stands-went, went-found, went-here}
 use Rattle.im_worker.proofs.StandingLaws.{ends, stands-after, stands-finished, stands-held, stands-oldest, stands-plain}
 
 -- the reply of a line that is settled at no place
@@ -300,7 +302,7 @@ round-goes who builds so_far old mid new ready ending mine lawful is ended = rec
       (subst
       (λ (e : Ending). IsRest who (2 * length (so_far ++ (built_of ready.task, ending) ∷ [])) (tasks_of builds) new
       (run old.limits who (tasks_of builds) rounds (so_far ++ (built_of ready.task, e) ∷ [])) outcome last) told_is rest)));
-  kept = kept-kept old mid new (kept-log old mid is.now) kept_mid;
+  kept = keeps-counted.both old mid new (counted-logged old mid is.now) kept_mid;
   longer = length-more so_far (built_of ready.task, ending);
   stands = stands-ended who builds mid new ready.task ending (subst (λ (side : StoreSide). speaks side who ≡ true) (sym side_is) mine) lawful is.stands ended;
 }
@@ -322,8 +324,8 @@ round-goes who builds so_far old mid new ready ending mine lawful is ended = rec
     count : 2 * length (so_far ++ (built_of ready.task, ending) ∷ []) ≡ 2 * length so_far + 1 + 1
     count = let longer = length-more so_far (built_of ready.task, ending) in omega (arith, longer)
 
-    kept_mid : new ≡ record mid { log = new.log; misses = new.misses }
-    kept_mid = subst (λ (s : Known). s ≡ record mid { log = s.log; misses = s.misses }) (sym ended.now) refl
+    kept_mid : Counted mid new
+    kept_mid = subst (Counted mid) (sym ended.now) refl
 
 pub round-idle : {place left : ℕ} (who : ℕ) (builds : List Ready) (so_far : List (Built × Ending)) (old new : Known)
     → IsIdle who builds place left old new
@@ -387,7 +389,7 @@ running-next who builds so_far now_far old mid new running round = record {
       (round.onward rounds outcome last
       (subst (λ (limits : Limits). IsRest who (2 * length now_far) (tasks_of builds) new (run limits who (tasks_of builds) rounds now_far) outcome last)
       (sym limits_are) rest))));
-  kept = kept-kept old mid new running.kept round.kept;
+  kept = keeps-counted.both old mid new running.kept round.kept;
   stands = round.stands;
 }
   where

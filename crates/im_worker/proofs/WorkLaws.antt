@@ -18,8 +18,10 @@ use Rattle.im_history.specs.Legal.{IsLawful}
 use Rattle.im_history.specs.Queue.{build_of, next}
 use Rattle.im_history.specs.Units.{held_at, killed_of}
 use Rattle.im_plan.specs.Goes.{After, MayGoOn}
-use Rattle.im_plan.proofs.GoesLaws.{after-after, after-here, after-wider, others-go_on}
+use Rattle.im_plan.proofs.GoesLaws.{after-after, after-wider, others-go_on}
+use Rattle.im_reach.specs.Rests.{Counted}
 use Rattle.im_reach.specs.Sides.{AreOthers, Known, StoreSide, missed, speaks}
+use Rattle.im_reach.proofs.RestLaws.{Mine, both-came, counted-logged, here, keeps-counted, others-of}
 use Rattle.im_replies.specs.declared.task.Ending.{Ending}
 use Rattle.im_statements.specs.Background.{end_by, fits}
 use Rattle.im_worker.specs.declared.work.Ended.TheVariants as ended
@@ -31,10 +33,9 @@ use Rattle.im_worker.specs.inner.Begun.{IsIdle, IsReady, Lacked as LackedAt, Was
 use Rattle.im_worker.specs.inner.Rests.{IsEnded}
 use Rattle.im_worker.specs.inner.Standing.{Stands}
 use Rattle.im_worker.specs.inner.Working.{HasEnded, IsNoted, IsOver, IsRound, IsWorking, misses_by, noted}
-use Rattle.im_worker.proofs.BeginLemmas.{after-both}
 use Rattle.im_worker.proofs.CountLemmas.{on-after, on-behind, on-on}
 use Rattle.im_worker.proofs.HoldingLaws.{same_number}
-use Rattle.im_worker.proofs.RestLemmas.{Mine, kept-kept, kept-log, limits-same, others-of, side-same}
+use Rattle.im_worker.proofs.RestLemmas.{limits-same}
 use Rattle.im_worker.proofs.RunLemmas.{stands-ended}
 
 -- ---- what the history says
@@ -177,9 +178,6 @@ idle-here who place builds old new empty on none stands is = record {
 
 -- ---- one round
 
-here : (side : StoreSide) (h : History) → After (Mine side) h h
-here side h = after-here (Mine side) (others-go_on (speaks side)) h
-
 -- a build began and ended: what was known of that
 record Ends (who : ℕ) (piece : Piece) (old new : Known) : Type 0 where
   pub began : After (AreOthers old.side) old.log piece.began
@@ -190,7 +188,7 @@ record Ends (who : ℕ) (piece : Piece) (old new : Known) : Type 0 where
 round-built : (who : ℕ) (builds : List Ready) (piece : Piece) (old new : Known) → speaks old.side who ≡ true → Ends who piece old new
     → Stands who builds [] new.log → IsRound who builds (Built piece) old new
 round-built who builds piece old new mine ends stands = record {
-  kept = kept-log old new (ends.now ∙ ap (λ (h : History). record old { log = h }) (sym log_is));
+  kept = counted-logged old new (ends.now ∙ ap (λ (h : History). record old { log = h }) (sym log_is));
   worked = (
     others-of old.side old.log piece.began ends.began,
     ends.comes,
@@ -224,7 +222,7 @@ round-ended who sessions builds before after old mid new ready ending mine lawfu
       (record {
         began = ready_is.began.after;
         comes = ready_is.began.comes;
-        later = after-both ready_is.began.later (subst (λ (side : StoreSide). After (AreOthers side) mid.log ends.at) side_is ends.after);
+        later = both-came old.side _ mid.log ends.at ready_is.began.later (subst (λ (side : StoreSide). After (AreOthers side) mid.log ends.at) side_is ends.after);
         now =
             ends.now
             ∙ (ap (λ (s : Known). record s { log = behind ends.at who (end_of s.limits ends.at ready.task true) }) ready_is.now
@@ -479,11 +477,11 @@ idle-round who builds tally (Lacked at) old mid new is on so =
 
 -- a round behind those that were made: its part of the history
 worked-more : (who : ℕ) (builds : List Ready) (rounds : List Round) (round : Round) (old mid new : Known)
-    → mid ≡ record old { log = mid.log; misses = mid.misses } → Worked (Mine old.side) old.limits who rounds old.log mid.log
+    → Counted old mid → Worked (Mine old.side) old.limits who rounds old.log mid.log
     → IsRound who builds round mid new → Worked (Mine old.side) old.limits who (rounds ++ round ∷ []) old.log new.log
 worked-more who builds rounds round old mid new kept worked is =
     worked-append (Mine old.side) (others-go_on (speaks old.side)) old.limits who rounds (round ∷ []) old.log mid.log new.log worked
-    (subst (λ (side : StoreSide). Worked (Mine side) old.limits who (round ∷ []) mid.log new.log) (side-same old mid kept)
+    (subst (λ (side : StoreSide). Worked (Mine side) old.limits who (round ∷ []) mid.log new.log) (keeps-counted.side old mid kept)
     (subst (λ (limits : Limits). Worked (Mine mid.side) limits who (round ∷ []) mid.log new.log) (limits-same old mid kept) is.worked))
 
 begun-more : (who : ℕ) (builds : List Ready) (total : Total) (round : Round) (old mid new : Known) → IsRound who builds round mid new
@@ -504,7 +502,7 @@ pub working-next : (who turns sessions : ℕ) (builds : List Ready) (old mid new
     → IsWorking who turns sessions builds old after new
 working-next who turns sessions builds old mid new before after some working is = record {
   rounds = working.rounds ++ is.round ∷ [];
-  kept = kept-kept old mid new working.kept is.is_round.kept;
+  kept = keeps-counted.both old mid new working.kept is.is_round.kept;
   worked = worked-more who builds working.rounds is.round old mid new working.kept working.worked is.is_round;
   misses = subst (λ (t : Total). IsRise t.misses old.misses new.misses) total_is
       (rise-round (total_of working.rounds) is.round old.misses mid.misses new.misses working.misses is.is_round.misses);
@@ -582,7 +580,7 @@ pub working-over : (who turns sessions : ℕ) (builds : List Ready) (old mid new
 working-over who turns sessions builds old mid new tally place some working is = record {
   worked = record {
     rounds = working.rounds ++ Idled new.log ∷ [];
-    known = kept-kept old mid new working.kept is.is_round.kept;
+    known = keeps-counted.both old mid new working.kept is.is_round.kept;
     worked = worked-more who builds working.rounds (Idled new.log) old mid new working.kept working.worked is.is_round;
     misses = subst (λ (t : Total). IsRise t.misses old.misses new.misses) total_is
         (rise-round (total_of working.rounds) (Idled new.log) old.misses mid.misses new.misses working.misses is.is_round.misses);

@@ -9,6 +9,8 @@ use Rattle.im_history.specs.Serving.{fetched_in, serving_content}
 use Rattle.im_history.specs.Units.{Content}
 use Rattle.im_plan.specs.Goes.{After}
 use Rattle.im_plan.specs.Plan.{Plan}
+use Rattle.im_reach.specs.Rests.{Logged}
+use Rattle.im_reach.specs.Rests as sides
 use Rattle.im_reach.specs.Sides.{AreOthers, Known}
 use Rattle.im_session.specs.Cursors.{IsView}
 use Rattle.im_session.specs.inner.Rests.{IsRest}
@@ -20,9 +22,8 @@ pub record Longer (old new : Known) : Type 0 where
   pub log : new.log ≡ old.log ++ more
 
 -- others alone went on
-pub record Went (old new : Known) : Type 0 where
-  pub after : After (AreOthers old.side) old.log new.log
-  pub now : new ≡ record old { log = new.log }
+abbrev pub Went : Known → Known → Type 0
+Went old new = sides.Went Logged old new
 
 -- others went on, and then cursor 0 was shut
 pub record IsShut (who : ℕ) (old new : Known) : Type 0 where

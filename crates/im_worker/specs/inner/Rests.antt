@@ -6,22 +6,22 @@ use Rattle.im_history.specs.declared.entry.What.TheVariants.{Cancel}
 use Rattle.im_history.specs.declared.task.Task.{Task}
 use Rattle.im_history.specs.History.{History, behind}
 use Rattle.im_history.specs.Units.{held_at, killed_of}
-use Rattle.im_plan.specs.Goes.{After, Others, Rest}
+use Rattle.im_plan.specs.Goes.{After}
 use Rattle.im_plan.specs.Plan.{Plan}
-use Rattle.im_reach.specs.Sides.{AreOthers, Known, speaks}
+use Rattle.im_reach.specs.Rests.{Counted}
+use Rattle.im_reach.specs.Rests as sides
+use Rattle.im_reach.specs.Sides.{AreOthers, Known}
 use Rattle.im_replies.specs.declared.task.Ending.{Ending}
 use Rattle.im_replies.specs.declared.task.Ending.TheVariants as ending
 use Rattle.im_statements.specs.Background.{Outcome, command_amends, end_by, ending_by, fits}
 
 -- k entries of the line having been made, it goes by this plan to its outcome; these builds were held before it
-pub record IsRest (who k : ℕ) (builds : List Task) (old : Known) (plan : Plan Outcome) (outcome : Outcome) (new : Known) : Type 0 where
-  pub kept : new ≡ record old { log = new.log; misses = new.misses }
-  pub rest : Rest (Others (speaks old.side)) who (command_amends who builds) k old.log plan outcome new.log
+abbrev pub IsRest : ℕ → ℕ → List Task → Known → Plan Outcome → Outcome → Known → Type 0
+IsRest who k builds old plan outcome new = sides.IsRest Counted who (command_amends who builds) k old plan outcome new
 
 -- others alone went on, and a call may have begun no build
-pub record Went (old new : Known) : Type 0 where
-  pub after : After (AreOthers old.side) old.log new.log
-  pub now : new ≡ record old { log = new.log; misses = new.misses }
+abbrev pub Went : Known → Known → Type 0
+Went old new = sides.Went Counted old new
 
 -- a build ended whose unit was ready, behind others' entries, and this is what is said of it
 pub record IsEnded (who : ℕ) (old : Known) (task : Task) (ending : Ending) (new : Known) : Type 0 where

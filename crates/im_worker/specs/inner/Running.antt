@@ -8,6 +8,7 @@ use Rattle.im_names.specs.declared.resolved.Resolved.TheVariants as resolved
 use Rattle.im_names.specs.Statements.{resolution}
 use Rattle.im_plan.specs.Goes.{Goes, Others}
 use Rattle.im_plan.specs.Plan.{Plan, Turn}
+use Rattle.im_reach.specs.Rests.{Counted}
 use Rattle.im_reach.specs.Sides.{Known, speaks}
 use Rattle.im_replies.specs.declared.reply.Reply.{Reply}
 use Rattle.im_replies.specs.declared.task.Built.{Built}
@@ -57,7 +58,7 @@ pub record IsRound (who : ℕ) (builds : List Ready) (so_far now_far : List (Bui
       (rounds : ℕ) (outcome : Outcome) (last : Known)
       → IsRest who (2 * length now_far) (tasks_of builds) new (run old.limits who (tasks_of builds) rounds now_far) outcome last
       → IsRest who (2 * length so_far) (tasks_of builds) old (run old.limits who (tasks_of builds) (suc rounds) so_far) outcome last
-  pub kept : new ≡ record old { log = new.log; misses = new.misses }
+  pub kept : Counted old new
   pub longer : length now_far ≡ length so_far + 1
   pub stands : Stands who builds [] new.log
 
@@ -71,7 +72,7 @@ pub record IsRunning (who : ℕ) (builds : List Ready) (so_far : List (Built × 
       (rounds : ℕ) (outcome : Outcome) (last : Known)
       → IsRest who (2 * length so_far) (tasks_of builds) now (run old.limits who (tasks_of builds) rounds so_far) outcome last
       → IsRest who 0 (tasks_of builds) old (run old.limits who (tasks_of builds) (length so_far + rounds) []) outcome last
-  pub kept : now ≡ record old { log = now.log; misses = now.misses }
+  pub kept : Counted old now
   pub stands : Stands who builds [] now.log
 
 -- RUN came to its end

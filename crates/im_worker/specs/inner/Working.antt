@@ -4,6 +4,7 @@ use Rattle.std.specs.List.{list_any}
 use Rattle.im_history.specs.History.{History}
 use Rattle.im_history.specs.Leaves.{leaves}
 use Rattle.im_plan.specs.Goes.{Others}
+use Rattle.im_reach.specs.Rests.{Counted}
 use Rattle.im_reach.specs.Sides.{Known, missed, speaks}
 use Rattle.im_worker.specs.declared.work.Ended.{Ended}
 use Rattle.im_worker.specs.declared.work.Tally.{Tally}
@@ -37,7 +38,7 @@ IsLastAt (Lacked at) log = ⊤
 
 -- a round was made
 pub record IsRound (who : ℕ) (builds : List Ready) (round : Round) (old new : Known) : Type 0 where
-  pub kept : new ≡ record old { log = new.log; misses = new.misses }
+  pub kept : Counted old new
   pub worked : Worked (Others (speaks old.side)) old.limits who (round ∷ []) old.log new.log
   pub misses : new.misses ≡ misses_by round old.misses
   pub begun : builds_begun new.log who ≡ builds_begun old.log who + builds_in round
@@ -64,7 +65,7 @@ IsAround who sessions builds before after old None new = IsNoted who sessions bu
 -- the rounds so far, and the tally of them
 pub record IsWorking (who turns sessions : ℕ) (builds : List Ready) (old : Known) (tally : Tally) (now : Known) : Type 0 where
   pub rounds : List Round
-  pub kept : now ≡ record old { log = now.log; misses = now.misses }
+  pub kept : Counted old now
   pub worked : Worked (Others (speaks old.side)) old.limits who rounds old.log now.log
   pub misses : IsRise (total_of rounds).misses old.misses now.misses
   pub begun : builds_begun now.log who ≡ builds_begun old.log who + (total_of rounds).builds

@@ -1,35 +1,25 @@
-use Rattle.std.proofs.Common.{◌≡◌, ℕ, [], None, false, Result, Ok, Err, refl, sym, append-nil}
+use Rattle.std.proofs.Common.{◌≡◌, ℕ, None, Result, Ok, Err, refl}
 use Rattle.std.specs.Result.{IfOk, OnOk}
-use Rattle.std.proofs.lemmas.List.Elements.{All-nil}
 use Rattle.im_core.specs.Seen.{Seen, Adds}
-use Rattle.im_history.specs.declared.entry.Entry.{Entry}
 use Rattle.im_history.specs.declared.entry.What.TheVariants.{Open}
 use Rattle.im_history.specs.declared.refused.Refused.{Refused}
 use Rattle.im_history.specs.declared.view.View.{View}
-use Rattle.im_history.specs.History.{History}
 use Rattle.im_history.specs.Refusals.{open_refusal}
 use Rattle.im_history.specs.Views.{view_at}
-use Rattle.im_plan.specs.Goes.{After}
-use Rattle.im_reach.specs.Sides.{Added, AreOthers, Known, sole, speaks}
+use Rattle.im_reach.specs.Sides.{Added, Known, sole}
+use Rattle.im_reach.proofs.RestLaws.{nobody-came}
 use Rattle.im_reach.proofs.sole.SoleReach.open_cursor.Goals as goal
 
 -- what a store that nobody else has knows
 abbrev known : Seen → ℕ → Known
 known seen misses = record { side = sole; limits = seen.limits; log = seen.log; misses = misses }
 
-nobody : (h : History) → After (AreOthers sole) h h
-nobody h = record {
-  between = [];
-  lawful = record { alone = λ is. refl; apart = All-nil (λ (entry : Entry). speaks sole entry.who ≡ false) };
-  log = sym (append-nil h);
-}
-
 opened : (result : Result View Refused) (who cursor table misses : ℕ) (old new : Seen) → OnOk result (Adds old who (Open cursor table) new)
     → OnOk result (open_refusal old.log who cursor ≡ None) → IfOk result (λ view. view ≡ view_at old.log who table)
     → IfOk result (λ view. Added (known old misses) (known new misses) who (λ at. Open cursor table) (λ at.
     (open_refusal at who cursor ≡ None) × (view ≡ view_at at who table)))
 opened (Ok view) who cursor table misses old new added allowed is =
-    record { at = old.log; after = nobody old.log; now = rw added refl; fact = (allowed, is) }
+    record { at = old.log; after = nobody-came sole old.log; now = rw added refl; fact = (allowed, is) }
 opened (Err refused) who cursor table misses old new added allowed is = tt
 
 pub returns-clause-ok : goal.returns-clause-ok
