@@ -12,7 +12,7 @@ use Rattle.im_history.specs.Units.{Content}
 use Rattle.im_plan.specs.Goes.{After}
 use Rattle.im_reach.specs.Sides.{Added, AreOthers, Found, IsSwitched, Known, StoreSide, sole}
 use Rattle.im_replies.specs.declared.reply.Reply.{Reply}
-use Rattle.im_session.specs.Sessions.{Agrees, IsPlayed, Kept}
+use Rattle.im_session.specs.Sessions.{Agrees, IsStatementPlayed, Kept}
 use Rattle.im_session.proofs.ForCallers.{agrees-own, played-own}
 use Rattle.im_syntax.specs.declared.statement.Stmt.{Stmt}
 
@@ -69,7 +69,7 @@ went-switched content old new who task (switch.Cancelled place killed) alone is 
 
 -- a line adds entries of its session
 pub went-played : (s : Stmt) (before after : Kept) (old new : Known) (reply : Reply) → before.who ≡ 1 → old.side ≡ sole
-    → IsPlayed s before old reply after new → WentOn 1 old new
+    → IsStatementPlayed s before old reply after new → WentOn 1 old new
 went-played s before after old new reply one alone played =
     let own = played-own s before after old new reply alone played in
     record { kept = played.known; more = own.more; own = subst (λ (n : ℕ). All (λ (entry : Entry). entry.who ≡ n) own.more) one own.own; log = own.log }

@@ -15,10 +15,10 @@ abbrev pub IsSpent : Option (List ℕ) → Type 0
 IsSpent left = IfSome left (λ bytes. bytes ≡ [])
 
 -- What was left is the bytes that came and then what is left now. At the end nothing is left.
-abbrev pub Reads : Got → List ℕ → Option (List ℕ) → Option (List ℕ) → Type 0
-Reads (Bytes n) buffer before after = before ≡ prepend_known (take n buffer) after
-Reads End buffer before after = (after ≡ before) × IsSpent before
-Reads Failed buffer before after = after ≡ before
+abbrev pub HandsOut : Got → List ℕ → Option (List ℕ) → Option (List ℕ) → Type 0
+HandsOut (Bytes n) buffer before after = before ≡ prepend_known (take n buffer) after
+HandsOut End buffer before after = (after ≡ before) × IsSpent before
+HandsOut Failed buffer before after = after ≡ before
 
 -- a fact of a read that failed
 abbrev pub IfReadFailed : Got → Type 0 → Type 0

@@ -1,7 +1,7 @@
 //! Reading a source to its end.
 ghost use Rattle.std.specs.Prelude.{◌≡◌, ◌+◌, ◌<◌, ◌≤◌, length, vec_len, IfOk, OnOk, IsErrOf, IfSome};
 ghost use Rattle.im_edge.specs.Faults.{Rose};
-ghost use Rattle.im_edge.specs.Source.{IsInRoom, IsSpent, Reads, IfReadFailed};
+ghost use Rattle.im_edge.specs.Source.{IsInRoom, IsSpent, HandsOut, IfReadFailed};
 ghost use Rattle.im_edge.specs.Reading.{Gave, KeepsLimit};
 ghost use Rattle.im_edge.specs.declared.reading.ReadError.TheVariants as errors;
 
@@ -37,7 +37,7 @@ impl From<AllocError> for ReadError {
     }
 }
 
-/// Reads a source to its end, and gives all its bytes, of which there may be at most `most`.
+/// HandsOut a source to its end, and gives all its bytes, of which there may be at most `most`.
 ///
 /// It takes at most `most + 1` bytes: the one more shows that there are too many. After an error
 /// the bytes that came are lost.
@@ -68,7 +68,7 @@ fn buffer_of(alloc: Global, size: usize) -> Result<Vec<u8>, AllocError>
     vec![in alloc; 0; size]
 }
 
-/// Reads a source to its end, through a buffer.
+/// HandsOut a source to its end, through a buffer.
 fn read_through<S: Source>(
     alloc: Global,
     source: &mut S,
@@ -119,7 +119,7 @@ fn read_front<S: Source>(source: &mut S, buffer: &mut [u8], room: usize) -> Got
     requires some { 0 < room }
     requires within { room ≤ length buffer.old }
     ensures count { IsInRoom result room }
-    ensures content { Reads result buffer.new (S.left source.old) (S.left source.new) }
+    ensures content { HandsOut result buffer.new (S.left source.old) (S.left source.new) }
     ensures cause { IfReadFailed result (Rose (S.faults source.old) (S.faults source.new)) }
     ensures later { S.faults source.old ≤ S.faults source.new }
 {

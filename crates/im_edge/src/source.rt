@@ -1,7 +1,7 @@
 //! Where bytes come from.
 ghost use Rattle.std.specs.Prelude.{◌≡◌, ℕ, ◌<◌, ◌≤◌, List, Option, length};
 ghost use Rattle.im_edge.specs.Faults.{Rose};
-ghost use Rattle.im_edge.specs.Source.{IsInRoom, Reads, IfReadFailed};
+ghost use Rattle.im_edge.specs.Source.{IsInRoom, HandsOut, IfReadFailed};
 
 /// What a read answers.
 #[derive(Clone, Copy, Debug, PartialEq, Eq)]
@@ -31,7 +31,7 @@ pub trait Source {
     fn read(&mut self, buf: &mut [u8]) -> Got
         requires room { 0 < length buf.old }
         ensures count { IsInRoom result (length buf.old) }
-        ensures content { Reads result buf.new (left self.old) (left self.new) }
+        ensures content { HandsOut result buf.new (left self.old) (left self.new) }
         ensures cause { IfReadFailed result (Rose (faults self.old) (faults self.new)) }
         ensures later { faults self.old ≤ faults self.new };
 }

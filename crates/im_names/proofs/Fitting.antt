@@ -1,4 +1,4 @@
--- A literal that literal_fits a column may be stored there.
+-- A literal that fits a column may be stored there.
 use Rattle.std.proofs.Common.{◌≡◌, ℕ, true, List, [], ◌∷◌, length, None, Some, refl}
 use Rattle.std.specs.Prelude.{nat_le, if◌then◌else◌}
 use Rattle.std.specs.Option.{option_or}

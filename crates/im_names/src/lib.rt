@@ -1,6 +1,6 @@
 //! Names to numbers: what a statement means among the tables of a look, or the first thing that is wrong with it.
 //!
-//! The model is one function on definitions, `answer` (`specs/Statements.antt`): for a list of tables and a statement
+//! The model is one function on definitions, `resolution` (`specs/Statements.antt`): for a list of tables and a statement
 //! it gives the statement with numbers for its names, or a fault. It lists the checks in their order: the table, the
 //! names of columns in the order of the text, the lengths of tuples, the kinds and lengths of values, the grouping.
 //! [`resolve`] answers exactly that, or that it is out of memory. What it answers fits the tables (`specs/Fitting.antt`):

@@ -14,7 +14,7 @@ use Rattle.im_plan.proofs.AloneLaws.{line_alone as line-machine}
 use Rattle.im_reach.specs.Sides.{Known, sole, speaks}
 use Rattle.im_replies.specs.declared.reply.Reply.{Reply}
 use Rattle.im_session.specs.Reads.{IsCounted, reading_of}
-use Rattle.im_session.specs.Sessions.{Agrees, IsPlayed, Kept, state_of}
+use Rattle.im_session.specs.Sessions.{Agrees, IsStatementPlayed, Kept, state_of}
 use Rattle.im_session.proofs.ForCallers.{IsOwn, agrees-other, agrees-own, line-alone, line-own, played-alone, played-own}
 use Rattle.im_play.specs.Machine.{IsAnswer, IsAnswered, IsCommandAnswer, Machine, state_in}
 use Rattle.im_play.specs.Requests.{BACKGROUND, asked, script_limits}
@@ -147,7 +147,7 @@ holding-new kept now who agrees = record {
 
 -- ---- a session plays a statement
 
-module _ (s : Stmt) (before after : Kept) (old new : Known) (reply : Reply) (alone : old.side ≡ sole) (played : IsPlayed s before old reply after new) where
+module _ (s : Stmt) (before after : Kept) (old new : Known) (reply : Reply) (alone : old.side ≡ sole) (played : IsStatementPlayed s before old reply after new) where
   own_of : IsOwn before.who old.log new.log
   own_of = played-own s before after old new reply alone played
 
@@ -179,7 +179,7 @@ module _ (sessions : List Kept) (at : ℕ) (before : Kept) (kept : background.Ke
   pub session-number : at ≤ SESSIONS → before.who < NUMBERS
   session-number within = let e = number-is in omega (arith, e, within)
 
-  module _ (s : Stmt) (after : Kept) (new : Known) (reply : Reply) (steps later : ℕ) (played : IsPlayed s before old reply after new)
+  module _ (s : Stmt) (after : Kept) (new : Known) (reply : Reply) (steps later : ℕ) (played : IsStatementPlayed s before old reply after new)
       (agrees : Agrees after new)
       (counted : IsCounted (reading_of s) (state_of before.cursors) before.who reply steps later old.log new.log) where
     pub between-after : IsBetween new (slice_set sessions at after) kept
@@ -246,7 +246,7 @@ answers-session area before after line who s old new reply is answer = record {
 -- ---- the background plays a statement
 
 module _ (sessions : List Kept) (kept after : background.Kept) (old new : Known) (between : IsBetween old sessions kept) (s : Stmt) (reply : Reply)
-    (steps later : ℕ) (played : background.IsPlayed s kept old reply after new) (agrees : background.Agrees after new)
+    (steps later : ℕ) (played : background.IsCommandPlayed s kept old reply after new) (agrees : background.Agrees after new)
     (counted : builds.IsCounted kept.who steps later old.log new.log) where
   who-is : kept.who ≡ BACKGROUND
   who-is = between.holding.who
@@ -297,7 +297,7 @@ module _ (sessions : List Kept) (kept after : background.Kept) (old new : Known)
       tasks : List Task
       tasks = tasks_of kept.builds
 
-      outcome : command.Outcome
+      outcome : command.CommandOutcome
       outcome = Answered reply (tasks_of after.builds)
 
 -- a line of the background

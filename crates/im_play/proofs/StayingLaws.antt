@@ -46,11 +46,11 @@ use Rattle.im_syntax.specs.declared.statement.Stmt.{Stmt}
 use Rattle.im_syntax.specs.declared.statement.Stmt.TheVariants as stmt
 use Rattle.im_syntax.specs.Condition.{CondOf}
 use Rattle.im_statements.specs.Background as command
-use Rattle.im_statements.specs.Background.{answer_with, begin_next, built_of, cancel, command_amends, command_plan, drop_all, end_by, ending_by, evict_found, evicted, finish, fits, run, stray, switch, with_choice}
+use Rattle.im_statements.specs.Background.{answer_with, begin_next, built_of, cancel, command_amends, command_plan, drop_all, end_by, ending_by, evict_found, evicted, finish, fits_area, run, stray, switch, with_choice}
 use Rattle.im_statements.specs.Cursors.{close_query, close_with, fetch_query, fetch_reply, step_query, with_query}
 use Rattle.im_statements.specs.Definitions.{create_table, created, join_memory}
 use Rattle.im_play.specs.Leaving.{NobodyLeaves, NobodyLeavesBehind, NobodyLeavesDropped}
-use Rattle.im_statements.specs.Outcomes.{Opens, Outcome, Query, Replied, State, query_at}
+use Rattle.im_statements.specs.Outcomes.{Opens, Outcome, OpenQuery, Replied, State, query_at}
 use Rattle.im_statements.specs.Scans.{end_scan, explained, mark_at, rows_seen, scan, serve, serve_from}
 use Rattle.im_statements.specs.Statements.{found_plan, is_definition, named_plan, resolved_plan, statement_plan}
 use Rattle.im_statements.specs.Turns.{amends, answer_at, or_refused, served_reply, settled_reply, unless_refused}
@@ -177,7 +177,7 @@ keeps-create name schema grid (Some priority) =
     keeps-attempt false (fault_of (aim.Creating name)) (λ at. create_refusal at name) (λ at. what.Create name schema grid) (λ at. join_memory at priority)
     (λ at. refl) (λ at here. (refl, tt))
 
-keeps-with : (cursor : ℕ) (at : History) (query : Option Query) (on : Query → Plan Outcome) → ((query : Query) → Keeps (on query))
+keeps-with : (cursor : ℕ) (at : History) (query : Option OpenQuery) (on : OpenQuery → Plan Outcome) → ((query : OpenQuery) → Keeps (on query))
     → Keeps (with_query cursor at query on)
 keeps-with cursor at (Some query) on rest = rest query
 keeps-with cursor at None on rest = tt
@@ -249,25 +249,25 @@ keeps-begin : (o : Option Choice) (at : History) → Stays (option_map (build_of
 keeps-begin None at = tt
 keeps-begin (Some choice) at = refl
 
-keeps-choice : (on : Task → Plan command.Outcome) (idle : Plan command.Outcome) (at : History) (o : Option Choice)
+keeps-choice : (on : Task → Plan command.CommandOutcome) (idle : Plan command.CommandOutcome) (at : History) (o : Option Choice)
     → ((task : Task) → Keeps (on task)) → Keeps idle → Keeps (with_choice on idle at o)
 keeps-choice on idle at None each rest = rest
 keeps-choice on idle at (Some choice) each rest = each (task_of at choice)
 
-keeps-next : (on : Task → Plan command.Outcome) (idle : Plan command.Outcome) → ((task : Task) → Keeps (on task)) → Keeps idle
+keeps-next : (on : Task → Plan command.CommandOutcome) (idle : Plan command.CommandOutcome) → ((task : Task) → Keeps (on task)) → Keeps idle
     → Keeps (begin_next on idle)
 keeps-next on idle each rest = λ at. (keeps-begin (next at) at, keeps-choice on idle at (next at) each rest)
 
-keeps-end : (id : ℕ) (killed : Option ℕ) (fits : Bool) → is_leave (end_by id killed fits) ≡ false
-keeps-end id (Some place) fits = refl
+keeps-end : (id : ℕ) (killed : Option ℕ) (fits_area : Bool) → is_leave (end_by id killed fits_area) ≡ false
+keeps-end id (Some place) fits_area = refl
 keeps-end id None true = refl
 keeps-end id None false = refl
 
-keeps-finish : (decides : Bool) (limits : Limits) (who : ℕ) (task : Task) (on : Ending → Plan command.Outcome)
+keeps-finish : (decides : Bool) (limits : Limits) (who : ℕ) (task : Task) (on : Ending → Plan command.CommandOutcome)
     → ((end : Ending) → Keeps (on end)) → Keeps (finish decides limits who task on)
 keeps-finish decides limits who task on each = λ at. (
-  keeps-end task.id (killed_of (held_at at task.id)) (fits limits at task),
-  each (ending_by limits who at task (killed_of (held_at at task.id)) (fits limits at task)),
+  keeps-end task.id (killed_of (held_at at task.id)) (fits_area limits at task),
+  each (ending_by limits who at task (killed_of (held_at at task.id)) (fits_area limits at task)),
 )
 
 keeps-run : (limits : Limits) (who : ℕ) (builds : List Task) (rounds : ℕ) (so_far : List (Built × Ending))
@@ -277,7 +277,7 @@ keeps-run limits who builds (suc rounds) so_far =
     keeps-next (λ task. finish false limits who task (on task)) (answer_with builds (body.Ran so_far))
     (λ task. keeps-finish false limits who task (on task) (λ end. keeps-run limits who builds rounds (so_far ++ (built_of task, end) ∷ []))) tt
   where
-    on : Task → Ending → Plan command.Outcome
+    on : Task → Ending → Plan command.CommandOutcome
     on task end = run limits who builds rounds (so_far ++ (built_of task, end) ∷ [])
 
 keeps-switch : (limits : Limits) (who : ℕ) (builds : List Task) → Keeps (switch limits who builds)

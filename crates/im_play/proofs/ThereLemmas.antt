@@ -9,7 +9,7 @@ use Rattle.im_play.specs.Between.{AreThere}
 use Rattle.im_play.proofs.StayingLaws.{nobody-leaves, nobody-leaves-behind, nobody-leaves-dropped}
 use Rattle.im_reach.specs.Sides.{Known, StoreSide, sole, speaks}
 use Rattle.im_replies.specs.declared.reply.Reply.{Reply}
-use Rattle.im_session.specs.Sessions.{IsPlayed, Kept, state_of}
+use Rattle.im_session.specs.Sessions.{IsStatementPlayed, Kept, state_of}
 use Rattle.im_session.proofs.ForCallers.{IsOwn, played-own}
 use Rattle.im_statements.specs.Background.{Answered}
 use Rattle.im_statements.specs.Outcomes.{Replied}
@@ -42,7 +42,7 @@ mine side number alone = ap (λ (s : StoreSide). speaks s number) alone
 
 -- a session played a statement
 pub there-session : (s : Stmt) (before after : Kept) (old new : Known) (reply : Reply) → old.side ≡ sole → before.who ≤ SESSIONS
-    → IsPlayed s before old reply after new → AreThere old.log → AreThere new.log
+    → IsStatementPlayed s before old reply after new → AreThere old.log → AreThere new.log
 there-session s before after old new reply alone within played =
     there-own before.who old.log new.log within (played-own s before after old new reply alone played) (λ number.
     nobody-leaves (speaks old.side) old.limits before.who number (state_of before.cursors) s old.log (Replied reply played.effect) new.log
@@ -50,7 +50,7 @@ there-session s before after old new reply alone within played =
 
 -- the background played a statement
 pub there-command : (s : Stmt) (before after : background.Kept) (old new : Known) (reply : Reply) → old.side ≡ sole → before.who ≤ SESSIONS
-    → IsOwn before.who old.log new.log → background.IsPlayed s before old reply after new → AreThere old.log → AreThere new.log
+    → IsOwn before.who old.log new.log → background.IsCommandPlayed s before old reply after new → AreThere old.log → AreThere new.log
 there-command s before after old new reply alone within own played =
     there-own before.who old.log new.log within own (λ number.
     nobody-leaves-behind (speaks old.side) old.limits before.who number played.rounds (tasks_of before.builds) s old.log

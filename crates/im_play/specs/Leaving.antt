@@ -25,7 +25,7 @@ NobodyLeaves =
 abbrev pub NobodyLeavesBehind : Type 0
 NobodyLeavesBehind =
     (mine : ℕ → Bool) (limits : Limits) (who number rounds : ℕ) (builds : List Task) (statement : Stmt) (old : History)
-    (outcome : background.Outcome) (new : History)
+    (outcome : background.CommandOutcome) (new : History)
     → mine number ≡ true
     → PlayedLine (Others mine) who (command_amends who builds) old (command_plan limits who rounds builds statement) outcome new
     → has_left new number ≡ has_left old number

@@ -3,7 +3,7 @@ use Rattle.std.specs.Prelude.{◌≡◌, ℕ, zero, suc, ◌+◌, ◌≤◌, Lis
 use Rattle.im_history.specs.declared.task.Task.{Task}
 use Rattle.im_history.specs.History.{History}
 use Rattle.im_plan.specs.Alone.{IsMachine, play}
-use Rattle.im_play.specs.Requests.{BACKGROUND, Command, Request, Demand, Nothing, Told, Asks, Orders}
+use Rattle.im_play.specs.Requests.{BACKGROUND, Command, Request, LineDemand, Nothing, Told, Asks, Orders}
 use Rattle.im_replies.specs.declared.reply.Reply.{Reply}
 use Rattle.im_session.specs.Reads.{IsCounted, reading_of}
 use Rattle.im_statements.specs.Background.{Answered, drop_all}
@@ -64,7 +64,7 @@ pub record IsStill (before after : ℕ) (old new : Machine) : Type 0 where
   pub steps : after ≡ before
 
 -- where nothing is asked for there is no reply, and the machine stays; it stays too where a line has its one reply
-abbrev pub IsAnswered : ℕ → ℕ → Demand → Machine → Option Reply → Machine → Type 0
+abbrev pub IsAnswered : ℕ → ℕ → LineDemand → Machine → Option Reply → Machine → Type 0
 IsAnswered before after Nothing old None new = IsStill before after old new
 IsAnswered before after Nothing old (Some reply) new = ⊥
 IsAnswered before after (Told number told) old None new = ⊥
@@ -77,7 +77,7 @@ IsAnswered before after (Orders command) old (Some reply) new = IsCommandAnswer 
 -- ---- the lines of a script
 
 -- the number of the line that asks for this, where it asks for anything
-abbrev pub number_of : Demand → ℕ
+abbrev pub number_of : LineDemand → ℕ
 number_of Nothing = 0
 number_of (Told number reply) = number
 number_of (Asks request) = request.number
@@ -89,7 +89,7 @@ put number None answers = answers
 put number (Some reply) answers = (number, reply) ∷ answers
 
 -- what lines ask for comes, one after the other, to these replies and this machine, and the steps grew by the rows that were read at most
-abbrev pub Comes : Machine → List Demand → List (ℕ × Reply) → Machine → ℕ → ℕ → Type 0
+abbrev pub Comes : Machine → List LineDemand → List (ℕ × Reply) → Machine → ℕ → ℕ → Type 0
 Comes machine [] answers end before after = (answers ≡ []) × (end ≡ machine) × (after ≤ before)
 Comes machine (demand ∷ demands) answers end before after =
     (reply : Option Reply) × (rest : List (ℕ × Reply)) × (next : Machine) × (between : ℕ)

@@ -33,34 +33,34 @@ pub record Request : Type 0 where
 -- builds are held, and how it is amended where it runs out of memory after so many entries
 pub record Command : Type 0 where
   pub number : ℕ
-  pub plan : ℕ → List Task → Plan background.Outcome
-  pub amends : List Task → ℕ → Plan background.Outcome
+  pub plan : ℕ → List Task → Plan background.CommandOutcome
+  pub amends : List Task → ℕ → Plan background.CommandOutcome
 
 -- what a line asks for: nothing; one reply, for which no memory is needed; that a session's statement is played; or that a statement
 -- of the background is
-pub data Demand : Type 0 where
-  Nothing : Demand
-  Told : (number : ℕ) → Reply → Demand
-  Asks : Request → Demand
-  Orders : Command → Demand
+pub data LineDemand : Type 0 where
+  Nothing : LineDemand
+  Told : (number : ℕ) → Reply → LineDemand
+  Asks : Request → LineDemand
+  Orders : Command → LineDemand
 
 -- the number of the background, which is no session's
 abbrev pub BACKGROUND : ℕ
 BACKGROUND = 0
 
 -- the reply of a line that no player is asked for, where it has one
-abbrev pub settled_reply : LineKind → Option Reply
-settled_reply line.Skip = None
-settled_reply line.Race = None
-settled_reply (line.Long length) = Some (fault_reply (fault.LineTooLong length))
-settled_reply (line.Bad byte) = Some (fault_reply (fault.Syntax byte))
-settled_reply (line.Session who statement) = None
-settled_reply (line.Background statement) = None
-settled_reply line.NoMemory = Some (memory_reply 0)
+abbrev pub unasked_reply : LineKind → Option Reply
+unasked_reply line.Skip = None
+unasked_reply line.Race = None
+unasked_reply (line.Long length) = Some (fault_reply (fault.LineTooLong length))
+unasked_reply (line.Bad byte) = Some (fault_reply (fault.Syntax byte))
+unasked_reply (line.Session who statement) = None
+unasked_reply (line.Background statement) = None
+unasked_reply line.NoMemory = Some (memory_reply 0)
 
 -- what a line of this kind asks for: blanks, comments and the end of a prelude for nothing; a line that is too long, that is
 -- no statement, or for whose reading there was no memory has its one reply; and a statement is played
-abbrev pub asked : ℕ → ℕ → LineKind → Demand
+abbrev pub asked : ℕ → ℕ → LineKind → LineDemand
 asked area number line.Skip = Nothing
 asked area number line.Race = Nothing
 asked area number (line.Long length) = Told number (fault_reply (fault.LineTooLong length))
@@ -80,9 +80,9 @@ asked area number (line.Background statement) = Orders (record {
 asked area number line.NoMemory = Told number (memory_reply 0)
 
 -- what a line asks for
-abbrev pub demand_of : ℕ → Line → Demand
+abbrev pub demand_of : ℕ → Line → LineDemand
 demand_of area line = asked area line.number line.kind
 
 -- what lines ask for, in order
-abbrev pub demands_of : ℕ → List Line → List Demand
+abbrev pub demands_of : ℕ → List Line → List LineDemand
 demands_of area lines = map (demand_of area) lines

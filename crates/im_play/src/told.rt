@@ -1,5 +1,5 @@
 ghost use Rattle.std.specs.Prelude.{◌≡◌};
-ghost use Rattle.im_play.specs.Requests.{settled_reply};
+ghost use Rattle.im_play.specs.Requests.{unasked_reply};
 
 use im_replies::{Fault, Reply};
 use im_script::LineKind;
@@ -8,7 +8,7 @@ use std::alloc::Global;
 /// The reply of a line that no player is asked for, where it has one: it is too long, it is no statement, or there was no memory to
 /// read it.
 pub fn settled(alloc: Global, kind: &LineKind) -> Option<Reply>
-    ensures { result ≡ settled_reply kind.now }
+    ensures { result ≡ unasked_reply kind.now }
 {
     match kind {
         LineKind::Long(length) => Some(Reply::refusal(

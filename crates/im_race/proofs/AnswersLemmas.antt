@@ -6,8 +6,8 @@ use Rattle.std.proofs.lemmas.Bool.Decides.{nat_tests}
 use Rattle.std.proofs.lemmas.List.{get_or-set_other, get_or-set_same, length-set}
 use Rattle.std.proofs.lemmas.List.Elements.{All-cons, All-head, All-nil, All-tail}
 use Rattle.im_history.specs.History.{History}
-use Rattle.im_play.specs.Requests.{asked, demand_of, settled_reply}
-use Rattle.im_race.specs.inner.Answering.{answers_by, first_of, left_by, or_nothing, reply_by, shown}
+use Rattle.im_play.specs.Requests.{asked, demand_of, unasked_reply}
+use Rattle.im_race.specs.inner.Answering.{answers_by, first_reply, left_by, or_nothing, reply_by, shown}
 use Rattle.im_race.specs.inner.Doing.{HasEnded}
 use Rattle.im_race.specs.Jobs.{Answer, HasPlayed}
 use Rattle.im_race.specs.Lines.{as_raced, has_reply, names, raced_of}
@@ -50,11 +50,11 @@ left-own replies (Some number) who own inside =
     ∙ get_or-set_same replies who (drop 1 (slice_index_or replies who [])) [] inside
 
 reply-own : (replies : List (List Reply)) (speaker : Option ℕ) (line : Line) (who : ℕ) → names who speaker ≡ true
-    → reply_by replies speaker line ≡ or_nothing (first_of (slice_index_or replies who []))
+    → reply_by replies speaker line ≡ or_nothing (first_reply (slice_index_or replies who []))
 reply-own replies None line who own = absurd (false≢true own)
 reply-own replies (Some number) line who own =
     let same : number ≡ who = grind (arith, nat_tests) in
-    ap (λ (n : ℕ). or_nothing (first_of (slice_index_or replies n []))) same
+    ap (λ (n : ℕ). or_nothing (first_reply (slice_index_or replies n []))) same
 
 -- the answers to the lines in which this session speaks
 abbrev own : ℕ → List Answer → List Answer
@@ -80,7 +80,7 @@ own-cons true replies line lines who (answer ∷ answers) behind is inside lines
     let of : answer.line ≡ line = cc in
     let rest : map (λ (a : Answer). a.line) answers ≡ filter (λ (l : Line). names who l.who) lines = cc in
     let reply : reply_by replies line.who line ≡ answer.reply =
-    reply-own replies line.who line who is ∙ ap (λ (rs : List Reply). or_nothing (first_of rs)) (sym replies_are) in
+    reply-own replies line.who line who is ∙ ap (λ (rs : List Reply). or_nothing (first_reply rs)) (sym replies_are) in
     let left : map (λ (a : Answer). a.reply) answers ≡ slice_index_or (left_by replies line.who) who [] =
     ap (drop 1) replies_are ∙ sym (left-own replies line.who who is inside) in
     let tail : own who (answers_by (left_by replies line.who) lines) ≡ answers =
@@ -113,7 +113,7 @@ abbrev IsAnswered : ℕ → Answer → Type 0
 IsAnswered area answer = answer.line.who ≡ None → IsReplyForNobody answer.reply (demand_of area answer.line)
 
 told-kind : (area number : ℕ) (of : LineKind) → has_reply of ≡ true → SpeaksAs None of
-    → IsReplyForNobody (or_nothing (settled_reply of)) (asked area number of)
+    → IsReplyForNobody (or_nothing (unasked_reply of)) (asked area number of)
 told-kind area number kind.Skip has speaks = absurd (false≢true has)
 told-kind area number kind.Race has speaks = absurd (false≢true has)
 told-kind area number (kind.Long bytes) has speaks = refl

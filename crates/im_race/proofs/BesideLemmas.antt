@@ -16,8 +16,8 @@ use Rattle.im_play.specs.Between.{AreSessions, AreThere}
 use Rattle.im_play.specs.Requests.{script_limits}
 use Rattle.im_race.specs.declared.job.Done.{Done}
 use Rattle.im_race.specs.declared.job.Job.{Job}
-use Rattle.im_race.specs.declared.job.Outcome.{Outcome}
-use Rattle.im_race.specs.declared.job.Outcome.TheVariants as outcome
+use Rattle.im_race.specs.declared.job.JobOutcome.{JobOutcome}
+use Rattle.im_race.specs.declared.job.JobOutcome.TheVariants as outcome
 use Rattle.im_race.specs.declared.job.Player.{Player}
 use Rattle.im_race.specs.declared.job.Player.TheVariants as player
 use Rattle.im_race.specs.inner.Answering.{IsOfSession, answers_by, ends_after, is_whole, no_replies, replies_after, shown}
@@ -145,7 +145,7 @@ record IsBack (turn : TurnId) (pass : PassState Entry) : Type 0 where
   pub idle : pass.holding ≡ false
 
 module _ (area turns sessions : ℕ) (lines : List Line) where
-  of-session : (base : History) (who : ℕ) (p : Player) (o : Outcome) (new : History) → MayBegin base who p
+  of-session : (base : History) (who : ℕ) (p : Player) (o : JobOutcome) (new : History) → MayBegin base who p
       → CameOf area turns sessions lines who p base o new → IsOfSession who o
   of-session base who (player.Session session) (outcome.Replies replies) new may came = may.1
   of-session base who (player.Session session) (outcome.Ended ended) new may came = tt
@@ -251,7 +251,7 @@ not-among lines workers n numbers all apart there =
 
 -- ---- all of it
 
-come : (area turns sessions : ℕ) (kept : List Kept) (lines : List Line) (base log : History) (who : ℕ) (o : Outcome)
+come : (area turns sessions : ℕ) (kept : List Kept) (lines : List Line) (base log : History) (who : ℕ) (o : JobOutcome)
     → IsFinished area turns sessions kept lines base log who o
     → HasCome (λ n replies. HasEnded area n (kept_by area turns sessions kept lines base log n) base lines replies log) who o
 come area turns sessions kept lines base log who (outcome.Replies replies) finished = finished.2

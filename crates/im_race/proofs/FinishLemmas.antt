@@ -9,8 +9,8 @@ use Rattle.im_plan.proofs.GoesLaws.{others-go_on}
 use Rattle.im_play.specs.Requests.{script_limits}
 use Rattle.im_race.specs.declared.job.Done.{Done}
 use Rattle.im_race.specs.declared.job.Job.{Job}
-use Rattle.im_race.specs.declared.job.Outcome.{Outcome}
-use Rattle.im_race.specs.declared.job.Outcome.TheVariants as outcome
+use Rattle.im_race.specs.declared.job.JobOutcome.{JobOutcome}
+use Rattle.im_race.specs.declared.job.JobOutcome.TheVariants as outcome
 use Rattle.im_race.specs.declared.job.Player.{Player}
 use Rattle.im_race.specs.declared.job.Player.TheVariants as player
 use Rattle.im_race.specs.inner.Answering.{ends_after, is_whole, with_end}
@@ -38,7 +38,7 @@ module _ (area turns sessions : ℕ) (kept : List Kept) (behind : List Line) (ba
   kept_by who = slice_index_or (map (λ (s : Kept). state_of s.cursors) kept) who fresh
 
   -- what came of the job of a number, over the whole history
-  abbrev pub IsFinished : ℕ → Outcome → Type 0
+  abbrev pub IsFinished : ℕ → JobOutcome → Type 0
   IsFinished who (outcome.Replies replies) = (1 ≤ who) × (who ≤ SESSIONS) × HasEnded area who (kept_by who) base behind replies log
   IsFinished who (outcome.Ended ended) = (SESSIONS < who) × Worker (script_limits area) turns sessions who base ended log
   IsFinished who outcome.NoMemory = ⊥
@@ -64,7 +64,7 @@ module _ (area turns sessions : ℕ) (kept : List Kept) (behind : List Line) (ba
     told = worker.told;
   }
 
-  finish-cases : (who : ℕ) (p : Player) (o : Outcome) (seen : History) → MayBegin base who p → IsFrom kept who p
+  finish-cases : (who : ℕ) (p : Player) (o : JobOutcome) (seen : History) → MayBegin base who p → IsFrom kept who p
       → CameOf area turns sessions behind who p base o seen → After (OthersThan who) seen log → is_whole o ≡ true → IsFinished who o
   finish-cases who (player.Session session) (outcome.Replies replies) seen may from came after whole =
       (may.0, may.1, ended-after who session replies seen from came after)
@@ -129,7 +129,7 @@ module _ (area turns sessions : ℕ) (kept : List Kept) (behind : List Line) (ba
   abbrev AllFinished : List Done → Type 0
   AllFinished = All (λ (done : Done). IsFinished done.who done.outcome)
 
-  with-worker : (who : ℕ) (o : Outcome) (rest : List Done) (number count : ℕ) (known : List Ended) → IsFinished who o → who ≡ number → SESSIONS < number
+  with-worker : (who : ℕ) (o : JobOutcome) (rest : List Done) (number count : ℕ) (known : List Ended) → IsFinished who o → who ≡ number → SESSIONS < number
       → ((more : List Ended) → AreEnds (suc number) count more (fold ends_after more rest))
       → AreEnds number (suc count) known (fold ends_after (with_end known o) rest)
   with-worker who (outcome.Replies replies) rest number count known finished same above on =
@@ -156,7 +156,7 @@ module _ (area turns sessions : ℕ) (kept : List Kept) (behind : List Line) (ba
       (λ more. ends-of_workers (suc number) count dones more (let same : map (λ (d : Done). d.who) dones ≡ numbers_from (suc number) count = cc in same)
       (omega (arith, above)) (All-tail (λ (d : Done). IsFinished d.who d.outcome) done dones finished))
 
-  no-end : (who : ℕ) (o : Outcome) (known : List Ended) → IsFinished who o → who ≤ SESSIONS → with_end known o ≡ known
+  no-end : (who : ℕ) (o : JobOutcome) (known : List Ended) → IsFinished who o → who ≤ SESSIONS → with_end known o ≡ known
   no-end who (outcome.Replies replies) known finished within = refl
   no-end who (outcome.Ended ended) known finished within = let above = finished.0 in absurd (omega (arith, above, within))
   no-end who outcome.NoMemory known finished within = absurd finished

@@ -3,8 +3,8 @@ use Rattle.std.proofs.Common.{◌≡◌, ℕ, zero, suc, ◌+◌, ◌<◌, ◌�
 use Rattle.std.specs.Prelude.{Contains, fold, slice_index_or}
 use Rattle.std.proofs.lemmas.List.{get_or-set_other, get_or-set_same, length-map, length-set}
 use Rattle.im_race.specs.declared.job.Done.{Done}
-use Rattle.im_race.specs.declared.job.Outcome.{Outcome}
-use Rattle.im_race.specs.declared.job.Outcome.TheVariants as outcome
+use Rattle.im_race.specs.declared.job.JobOutcome.{JobOutcome}
+use Rattle.im_race.specs.declared.job.JobOutcome.TheVariants as outcome
 use Rattle.im_race.specs.inner.Answering.{Rises, no_replies, replies_after, with_replies}
 use Rattle.im_race.specs.Lines.{has_job, numbers_from, sessions_in}
 use Rattle.im_race.specs.Race.{FIRST_WORKER}
@@ -24,7 +24,7 @@ no_replies-push before now count none is empty more =
     let next : suc count ≡ count + 1 = omega arith in
     more ∙ ((λ t. is t ++ empty t ∷ []) ∙ (no_replies-more count ∙ ap no_replies next))
 
-pub length-with_replies : (replies : List (List Reply)) (who : ℕ) (came : Outcome) → length (with_replies replies who came) ≡ length replies
+pub length-with_replies : (replies : List (List Reply)) (who : ℕ) (came : JobOutcome) → length (with_replies replies who came) ≡ length replies
 length-with_replies replies who (outcome.Replies of_job) = length-set replies who of_job
 length-with_replies replies who (outcome.Ended ended) = refl
 length-with_replies replies who outcome.NoMemory = refl
@@ -34,13 +34,13 @@ pub length-replies : (dones : List Done) (start : List (List Reply)) → length 
 length-replies [] start = refl
 length-replies (done ∷ dones) start = length-replies dones (replies_after start done) ∙ length-with_replies start done.who done.outcome
 
-with-other : (replies : List (List Reply)) (other who : ℕ) (came : Outcome) → (who ≡ other → ⊥)
+with-other : (replies : List (List Reply)) (other who : ℕ) (came : JobOutcome) → (who ≡ other → ⊥)
     → slice_index_or (with_replies replies other came) who [] ≡ slice_index_or replies who []
 with-other replies other who (outcome.Replies of_job) apart = get_or-set_other replies other who of_job [] apart
 with-other replies other who (outcome.Ended ended) apart = refl
 with-other replies other who outcome.NoMemory apart = refl
 
-with-own : (replies : List (List Reply)) (at who : ℕ) (came : Outcome) (of_job : List Reply) → at ≡ who → came ≡ outcome.Replies of_job
+with-own : (replies : List (List Reply)) (at who : ℕ) (came : JobOutcome) (of_job : List Reply) → at ≡ who → came ≡ outcome.Replies of_job
     → who < length replies → slice_index_or (with_replies replies at came) who [] ≡ of_job
 with-own replies at who came of_job same is inside =
     (λ t. slice_index_or (with_replies replies (same t) (is t)) who []) ∙ get_or-set_same replies who of_job [] inside
@@ -99,12 +99,12 @@ done-of dones numbers who are there =
     done-at dones there_too.0 who (omega (arith, within, long)) there_too.2
 
 -- this holds of the replies of each session, and a worker ended
-abbrev pub HasCome : (ℕ → List Reply → Type 0) → ℕ → Outcome → Type 0
+abbrev pub HasCome : (ℕ → List Reply → Type 0) → ℕ → JobOutcome → Type 0
 HasCome Held who (outcome.Replies of_job) = Held who of_job
 HasCome Held who (outcome.Ended ended) = SESSIONS < who
 HasCome Held who outcome.NoMemory = ⊥
 
-held-replies : (Held : ℕ → List Reply → Type 0) (found : List Reply) (at who : ℕ) (came : Outcome) → at ≡ who → who ≤ SESSIONS → HasCome Held at came
+held-replies : (Held : ℕ → List Reply → Type 0) (found : List Reply) (at who : ℕ) (came : JobOutcome) → at ≡ who → who ≤ SESSIONS → HasCome Held at came
     → ((of_job : List Reply) → came ≡ outcome.Replies of_job → found ≡ of_job) → Held who found
 held-replies Held found at who (outcome.Replies of_job) same within come finds =
     subst (λ (n : ℕ). Held n found) same (subst (Held at) (sym (finds of_job refl)) come)

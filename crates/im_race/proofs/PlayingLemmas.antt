@@ -12,7 +12,7 @@ use Rattle.im_play.specs.Requests.{asked, demand_of, script_limits}
 use Rattle.im_play.proofs.StayingLaws.{nobody-leaves}
 use Rattle.im_race.specs.inner.Doing.{HasEnded, HavePlayed, PlaysAll}
 use Rattle.im_race.specs.inner.Playing.{IsAmong, Went}
-use Rattle.im_race.specs.Jobs.{Answer, HasPlayed, OthersThan, Plays, Worker}
+use Rattle.im_race.specs.Jobs.{Answer, HasPlayed, OthersThan, PlaysDemand, Worker}
 use Rattle.im_race.specs.Lines.{has_reply, names, speaks_in}
 use Rattle.im_reach.specs.Sides.{Known, StoreSide, is_number, speaks}
 use Rattle.im_replies.specs.declared.reply.Reply.{Reply}
@@ -21,7 +21,7 @@ use Rattle.im_script.specs.declared.line.LineKind.{LineKind}
 use Rattle.im_script.specs.declared.line.LineKind.TheVariants as kind
 use Rattle.im_script.specs.Lines.{NamesOneOf16, SpeaksAs}
 use Rattle.im_session.specs.Ends.{IsEnded, end_plan}
-use Rattle.im_session.specs.Sessions.{Agrees, IsPlayed, Kept, state_of}
+use Rattle.im_session.specs.Sessions.{Agrees, IsStatementPlayed, Kept, state_of}
 use Rattle.im_statements.specs.Outcomes.{Replied, State}
 use Rattle.im_statements.specs.Statements.{statement_plan}
 use Rattle.im_statements.specs.Turns.{amends}
@@ -59,8 +59,8 @@ statement-own who number s line is named own =
 -- its line is played
 module _ (number : ℕ) (s : Stmt) (line : Line) (before after : Kept) (old new : Known) (reply : Reply) (side_is : old.side.number ≡ Some before.who)
     (limits_is : old.limits ≡ script_limits old.limits.area) (is : line.kind ≡ kind.Session number s) (named : NamesOneOf16 line)
-    (own : speaks_in before.who line ≡ true) (played : IsPlayed s before old reply after new) where
-  asked-own : Plays before.who (state_of before.cursors) old.log reply (asked old.limits.area line.number (kind.Session before.who s))
+    (own : speaks_in before.who line ≡ true) (played : IsStatementPlayed s before old reply after new) where
+  asked-own : PlaysDemand before.who (state_of before.cursors) old.log reply (asked old.limits.area line.number (kind.Session before.who s))
       (state_of after.cursors) new.log
   asked-own = (
     played.effect,
@@ -71,9 +71,9 @@ module _ (number : ℕ) (s : Stmt) (line : Line) (before after : Kept) (old new 
         (statement_plan old.limits before.who (state_of before.cursors) s) (Replied reply played.effect) new.log) old.side before.who side_is played.line),
   )
 
-  pub plays-statement : Plays before.who (state_of before.cursors) old.log reply (demand_of old.limits.area line) (state_of after.cursors) new.log
+  pub plays-statement : PlaysDemand before.who (state_of before.cursors) old.log reply (demand_of old.limits.area line) (state_of after.cursors) new.log
   plays-statement =
-      subst (λ (k : LineKind). Plays before.who (state_of before.cursors) old.log reply (asked old.limits.area line.number k) (state_of after.cursors) new.log)
+      subst (λ (k : LineKind). PlaysDemand before.who (state_of before.cursors) old.log reply (asked old.limits.area line.number k) (state_of after.cursors) new.log)
       (sym (is ∙ ap (λ (n : ℕ). kind.Session n s) (statement-own before.who number s line is named own))) asked-own
 
   -- behind it nobody has left
@@ -88,13 +88,13 @@ module _ (number : ℕ) (s : Stmt) (line : Line) (before after : Kept) (old new 
 
 -- one more line behind those that were played
 plays-more : (area who : ℕ) (state : State) (old : History) (answers : List Answer) (kept : State) (at : History) (answer : Answer) (next : State)
-    (new : History) → PlaysAll area who state old answers kept at → Plays who kept at answer.reply (demand_of area answer.line) next new
+    (new : History) → PlaysAll area who state old answers kept at → PlaysDemand who kept at answer.reply (demand_of area answer.line) next new
     → PlaysAll area who state old (answers ++ answer ∷ []) next new
 plays-more area who state old [] kept at answer next new before plays = (
   next,
   new,
-  subst (λ (s : State). Plays who s old answer.reply (demand_of area answer.line) next new) before.0
-      (subst (λ (h : History). Plays who kept h answer.reply (demand_of area answer.line) next new) before.1 plays),
+  subst (λ (s : State). PlaysDemand who s old answer.reply (demand_of area answer.line) next new) before.0
+      (subst (λ (h : History). PlaysDemand who kept h answer.reply (demand_of area answer.line) next new) before.1 plays),
   (refl, refl),
 )
 plays-more area who state old (first ∷ answers) kept at answer next new before plays = (
@@ -149,15 +149,15 @@ module _ (who : ℕ) (session : Kept) (old : Known) (lines : List Line) (index :
     }
 
     module _ (after : Kept) (new : Known) (reply : Reply) (own : speaks_in who line ≡ true) (went : Went who old after new)
-        (plays : Plays now.who (state_of now.cursors) known.log reply (demand_of known.limits.area line) (state_of after.cursors) new.log) where
+        (plays : PlaysDemand now.who (state_of now.cursors) known.log reply (demand_of known.limits.area line) (state_of after.cursors) new.log) where
       abbrev and_reply : Answer
       and_reply = record { line = line; reply = reply }
 
-      plays-own : Plays who (state_of now.cursors) known.log reply (demand_of old.limits.area line) (state_of after.cursors) new.log
+      plays-own : PlaysDemand who (state_of now.cursors) known.log reply (demand_of old.limits.area line) (state_of after.cursors) new.log
       plays-own =
-          subst (λ (n : ℕ). Plays n (state_of now.cursors) known.log reply (demand_of old.limits.area line) (state_of after.cursors) new.log)
+          subst (λ (n : ℕ). PlaysDemand n (state_of now.cursors) known.log reply (demand_of old.limits.area line) (state_of after.cursors) new.log)
           among.went.number
-          (subst (λ (area : ℕ). Plays now.who (state_of now.cursors) known.log reply (demand_of area line) (state_of after.cursors) new.log)
+          (subst (λ (area : ℕ). PlaysDemand now.who (state_of now.cursors) known.log reply (demand_of area line) (state_of after.cursors) new.log)
           (ap (λ (k : Known). k.limits.area) among.went.known) plays)
 
       -- a line in which it speaks

@@ -4,7 +4,7 @@ ghost use Rattle.im_play.specs.Lines.{IsKnown};
 ghost use Rattle.im_race.specs.inner.Doing.{AreDone, IsDone, IsReady};
 ghost use Rattle.im_script.specs.Lines.{NamesOneOf16};
 
-use crate::job::{Done, Job, Outcome, Player};
+use crate::job::{Done, Job, JobOutcome, Player};
 use crate::playing::{play_session, play_worker};
 use im_edge::{Gate, Outside};
 use im_script::Line;
@@ -61,7 +61,7 @@ fn play_counting<R: Threads + Wait, G: Gate, L: Ledger>(
         Player::Session(session) => {
             play_session(outside, &mut side, session, who, course.lines, &mut steps)
         }
-        Player::Worker => Outcome::Ended(play_worker(
+        Player::Worker => JobOutcome::Ended(play_worker(
             outside,
             &mut side,
             who,

@@ -27,7 +27,7 @@ pub struct Job {
 
 /// What came of a job.
 #[derive(Drop)]
-pub enum Outcome {
+pub enum JobOutcome {
     /// The replies to a session's lines, in order.
     Replies(Replies),
     /// How a worker ended.
@@ -41,5 +41,5 @@ pub enum Outcome {
 pub struct Done {
     pub who: u32,
     pub pass: Pass<ColumnUnit>,
-    pub outcome: Outcome,
+    pub outcome: JobOutcome,
 }

@@ -4,13 +4,13 @@ ghost use Rattle.im_history.specs.Leaves.{has_left};
 ghost use Rattle.im_play.specs.Lines.{IsKnown};
 ghost use Rattle.im_play.specs.Requests.{demand_of, script_limits};
 ghost use Rattle.im_race.specs.inner.Doing.{CameOfSession, HavePlayed};
-ghost use Rattle.im_race.specs.Jobs.{Plays, Worker};
+ghost use Rattle.im_race.specs.Jobs.{PlaysDemand, Worker};
 ghost use Rattle.im_race.specs.Lines as spec;
 ghost use Rattle.im_script.specs.Lines.{NamesOneOf16};
 ghost use Rattle.im_session.specs.Sessions.{Agrees, state_of};
 ghost use Rattle.im_worker.specs.Background.{builds_of};
 
-use crate::job::Outcome;
+use crate::job::JobOutcome;
 use crate::lines::speaks_in;
 use crate::replies::Replies;
 use im_edge::{Gate, Outside};
@@ -26,7 +26,7 @@ use im_worker::{Background, Ended};
 use std::sync::Wait;
 use std::sync::ledger::Ledger;
 
-/// Plays a line of a session.
+/// PlaysDemand a line of a session.
 fn play_line<R: Wait, H: Reach<ColumnUnit>, G: Gate, L: Ledger>(
     outside: &Outside<R, G>,
     reach: &mut H,
@@ -45,7 +45,7 @@ fn play_line<R: Wait, H: Reach<ColumnUnit>, G: Gate, L: Ledger>(
     requires stays { has_left (H.known reach.old).log session.old.who ≡ false }
     ensures who { session.new.who ≡ session.old.who }
     ensures known { H.known reach.new ≡ record (H.known reach.old) { log = (H.known reach.new).log } }
-    ensures plays { Plays session.old.who (state_of session.old.cursors) (H.known reach.old).log result
+    ensures plays { PlaysDemand session.old.who (state_of session.old.cursors) (H.known reach.old).log result
         (demand_of (H.known reach.old).limits.area line.now) (state_of session.new.cursors) (H.known reach.new).log }
     ensures agrees { Agrees session.new (H.known reach.new) }
     ensures stays { has_left (H.known reach.new).log session.old.who ≡ false }
@@ -63,7 +63,7 @@ fn play_line<R: Wait, H: Reach<ColumnUnit>, G: Gate, L: Ledger>(
     }
 }
 
-/// Plays those of these lines in which a session speaks, one after the other, and answers the replies.
+/// PlaysDemand those of these lines in which a session speaks, one after the other, and answers the replies.
 fn play_lines<R: Wait, H: Reach<ColumnUnit>, G: Gate, L: Ledger>(
     outside: &Outside<R, G>,
     reach: &mut H,
@@ -106,7 +106,7 @@ pub fn play_session<R: Wait, H: Reach<ColumnUnit>, G: Gate, L: Ledger>(
     who: u32,
     lines: &[Line],
     steps: &mut Steps<L>,
-) -> Outcome
+) -> JobOutcome
     requires some { 1 ≤ who }
     requires session { who ≤ SESSIONS }
     requires number { session.who ≡ who }
@@ -121,11 +121,11 @@ pub fn play_session<R: Wait, H: Reach<ColumnUnit>, G: Gate, L: Ledger>(
         (H.known reach.new).log }
 {
     let Ok(replies) = play_lines(outside, reach, &mut session, who, lines, steps) else {
-        return Outcome::NoMemory;
+        return JobOutcome::NoMemory;
     };
     match session.end(outside.rt, reach) {
-        Ok(()) => Outcome::Replies(Replies::of(replies)),
-        Err(NoMemory) => Outcome::NoMemory,
+        Ok(()) => JobOutcome::Replies(Replies::of(replies)),
+        Err(NoMemory) => JobOutcome::NoMemory,
     }
 }
 

@@ -32,7 +32,7 @@ impl Replies {
 
     /// The next one.
     pub fn next(&mut self) -> Option<Reply>
-        ensures next { result ≡ spec.first_of self.old }
+        ensures next { result ≡ spec.first_reply self.old }
         ensures left { self.new ≡ drop 1 self.old }
     {
         self.waiting.pop_front()

@@ -4,7 +4,7 @@ ghost use Rattle.im_race.specs.inner.Answering as spec;
 ghost use Rattle.im_race.specs.Lines.{as_raced, raced_of};
 ghost use Rattle.im_script.specs.Lines.{NamesOneOf16};
 
-use crate::job::{Done, Outcome};
+use crate::job::{Done, JobOutcome};
 use crate::lines::has_reply;
 use crate::replies::Replies;
 use im_play::{BACKGROUND, settled};
@@ -64,9 +64,9 @@ impl Outcomes {
         let Done { who, pass, outcome } = done;
         self.passes.push(pass)?;
         match outcome {
-            Outcome::Replies(replies) => self.replies[who as usize] = replies,
-            Outcome::Ended(ended) => self.ends.push(ended)?,
-            Outcome::NoMemory => return Err(NoMemory),
+            JobOutcome::Replies(replies) => self.replies[who as usize] = replies,
+            JobOutcome::Ended(ended) => self.ends.push(ended)?,
+            JobOutcome::NoMemory => return Err(NoMemory),
         }
         Ok(())
     }

@@ -10,7 +10,7 @@ use Rattle.im_history.specs.declared.view.View.{View}
 use Rattle.im_history.specs.Rows.{Row, row_after}
 use Rattle.im_history.specs.Units.{Content}
 use Rattle.im_group.specs.Partials.{Numbered}
-use Rattle.im_scan.specs.Parts.{MayAsk, unit_row, fetched_after, taken_row}
+use Rattle.im_scan.specs.Parts.{MayAsk, row_in_unit, fetched_after, taken_row}
 use Rattle.im_scan.specs.inner.Steps.{numbered, numbered_from}
 use Rattle.im_scan.proofs.SlotLemmas.{AreTaken}
 
@@ -31,7 +31,7 @@ all-at P (x ∷ xs) d each = (each 0 (omega arith), all-at P xs d (λ i within. 
 -- ---- the row that a scan takes
 
 unit-fits : (bound : Bound) (unit : Option Content) (rid : ℕ)
-    → ForSome unit (λ content. AllByRecursion (MayAsk bound) content.rows) → MayAsk bound (unit_row unit rid)
+    → ForSome unit (λ content. AllByRecursion (MayAsk bound) content.rows) → MayAsk bound (row_in_unit unit rid)
 unit-fits bound None rid fits = no_row bound
 unit-fits bound (Some content) rid fits = by (nat_lt rid content.first)
   where
@@ -67,8 +67,8 @@ pub record MayScan (bound : Bound) (unit : Option Content) (fetched : List (ℕ 
 taken-fits : (bound : Bound) (unit : Option Content) (fetched : List (ℕ × Option Row)) (view : View) (rid : ℕ)
     → MayScan bound unit fetched view.own → MayAsk bound (taken_row unit fetched view rid)
 taken-fits bound unit fetched view rid may =
-    own-fits bound view.own view.table rid (fold (fetched_after rid) (unit_row unit rid) fetched) may.own_fits
-    (fetched-fits bound fetched rid (unit_row unit rid) may.fetched_fits (unit-fits bound unit rid may.unit_fits))
+    own-fits bound view.own view.table rid (fold (fetched_after rid) (row_in_unit unit rid) fetched) may.own_fits
+    (fetched-fits bound fetched rid (row_in_unit unit rid) may.fetched_fits (unit-fits bound unit rid may.unit_fits))
 
 pub slots-fit : (bound : Bound) (unit : Option Content) (fetched : List (ℕ × Option Row)) (view : View) (first count : ℕ)
     (slots : List (Option Row))

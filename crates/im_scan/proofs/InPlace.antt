@@ -7,7 +7,7 @@ use Rattle.std.proofs.lemmas.List.{length-map, length-take-le, map_push, take_mo
 use Rattle.std.proofs.lemmas.List.FromFn.{length-map-range_with_len}
 use denote.Ref.{Bor}
 use Rattle.im_history.specs.Rows.{Row}
-use Rattle.im_scan.specs.Parts.{unit_row, fetched_after}
+use Rattle.im_scan.specs.Parts.{row_in_unit, fetched_after}
 use Rattle.im_scan.specs.inner.Steps.{lent, unit_rows, with_fetched}
 use Rattle.im_scan.proofs.SlotLemmas.{length-with_fetched, at-with_fetched}
 
@@ -79,7 +79,7 @@ in-place first fetched slots are =
     shown = unit_rows None first (length fetched)
 
     shown_long : length shown ≡ length fetched
-    shown_long = length-map-range_with_len (unit_row None) first (length fetched)
+    shown_long = length-map-range_with_len (row_in_unit None) first (length fetched)
 
     long : length (rows_of fetched) ≡ length (with_fetched first shown fetched)
     long = length-map fetched (λ row. row.1) ∙ sym (length-with_fetched first shown fetched ∙ shown_long)

@@ -14,7 +14,7 @@ use Rattle.im_history.specs.Views.{per_at, seen_by}
 use Rattle.im_history.proofs.StaleLaws.{rows-mended}
 use Rattle.im_history.specs.Serving.{rows_in, committed_in, fetched_by}
 use Rattle.im_unit.specs.Holding.{row_of}
-use Rattle.im_scan.specs.Parts.{unit_row, fetched_after, taken_row, taken_rows}
+use Rattle.im_scan.specs.Parts.{row_in_unit, fetched_after, taken_row, taken_rows}
 use Rattle.im_scan.specs.Pinned.{Serves, IsPinned, seen_in}
 
 -- ---- a row number among those fetched
@@ -104,7 +104,7 @@ within-per view extent per rid is from below = rw (← is) (from, omega (arith, 
 
 committed-row : (h : History) (view : View) (extent rid : ℕ) (unit : Option Content) (fetched : List (ℕ × Option Row))
     → IsPinned h view extent unit fetched → extent * view.per ≤ rid → rid < extent * view.per + rows_in view extent
-    → fold (fetched_after rid) (unit_row unit rid) fetched ≡ rows h view.table view.scn rid
+    → fold (fetched_after rid) (row_in_unit unit rid) fetched ≡ rows h view.table view.scn rid
 committed-row h view extent rid None fetched pinned from below =
     ap (fold (fetched_after rid) None) pinned.is ∙ fetched-committed h view extent rid from below
 committed-row h view extent rid (Some content) fetched pinned from below =

@@ -16,7 +16,7 @@ use Rattle.im_history.specs.Rows.{Row, row_after, present}
 use Rattle.im_history.proofs.LastLaws.{put-more, put-all}
 use Rattle.im_history.specs.Units.{Content}
 use Rattle.im_group.specs.Partials.{Numbered}
-use Rattle.im_scan.specs.Parts.{unit_row, fetched_after, taken_row}
+use Rattle.im_scan.specs.Parts.{row_in_unit, fetched_after, taken_row}
 use Rattle.im_scan.specs.inner.Steps.{lent, unit_rows, put_at, with_fetched, with_change, with_changes, gathered, numbered, numbered_from}
 
 -- ---- one row put
@@ -68,7 +68,7 @@ at-put_at first slots rid i row within =
 -- ---- what a unit has, one row number more
 
 pub unit_rows-more : (unit : Option Content) (first rid : ℕ) (row : Option (Bor Row)) (slots longer : List (Option (Bor Row)))
-    → first ≤ rid → lent slots ≡ unit_rows unit first (rid - first) → option_copied row ≡ unit_row unit rid
+    → first ≤ rid → lent slots ≡ unit_rows unit first (rid - first) → option_copied row ≡ row_in_unit unit rid
     → longer ≡ slots ++ row ∷ [] → lent longer ≡ unit_rows unit first (rid + 1 - first)
 unit_rows-more unit first rid row slots longer from so_far is pushed =
     let more : rid - first + 1 ≡ rid + 1 - first = omega (arith, from) in
@@ -77,7 +77,7 @@ unit_rows-more unit first rid row slots longer from so_far is pushed =
     ∙ (map_push option_copied slots row
     ∙ (ap (λ (l : List (Option Row)). l ++ option_copied row ∷ []) so_far
     ∙ (ap (λ (r : Option Row). unit_rows unit first (rid - first) ++ r ∷ []) is
-    ∙ (sym (map-range_with_len_more (unit_row unit) first (rid - first) rid here)
+    ∙ (sym (map-range_with_len_more (row_in_unit unit) first (rid - first) rid here)
     ∙ ap (unit_rows unit first) more))))
 
 -- ---- all that was fetched, and all changes
@@ -166,7 +166,7 @@ are_taken unit fetched view first count = record {
     shown = unit_rows unit first count
 
     shown_long : length shown ≡ count
-    shown_long = length-map-range_with_len (unit_row unit) first count
+    shown_long = length-map-range_with_len (row_in_unit unit) first count
 
     fetched_long : length (with_fetched first shown fetched) ≡ count
     fetched_long = length-with_fetched first shown fetched ∙ shown_long
@@ -181,7 +181,7 @@ are_taken unit fetched view first count = record {
         ∙ ap (λ (row : Option Row). fold (row_after view.table (first + i)) row view.own)
         (at-with_fetched first shown fetched i (omega (arith, inside, shown_long))
         ∙ ap (λ (row : Option Row). fold (fetched_after (first + i)) row fetched)
-        (get_or-map-range_with_len (unit_row unit) first count i (first + i) None inside refl))
+        (get_or-map-range_with_len (row_in_unit unit) first count i (first + i) None inside refl))
 
 -- a vector after a call that changed its slice, keeping its length
 written_back : {X : Type 0} (n : ℕ) (xs ys : List X) → n ≡ length ys → length xs ≡ length ys
@@ -201,7 +201,7 @@ pub length-committed : (unit : Option Content) (fetched : List (ℕ × Option Ro
 length-committed unit fetched first count slots is =
     sym (length-map slots option_copied)
     ∙ (ap length is
-    ∙ (length-with_fetched first (unit_rows unit first count) fetched ∙ length-map-range_with_len (unit_row unit) first count))
+    ∙ (length-with_fetched first (unit_rows unit first count) fetched ∙ length-map-range_with_len (row_in_unit unit) first count))
 
 -- what was fetched, put over what the unit has
 pub fetched-back : (unit : Option Content) (fetched : List (ℕ × Option Row)) (first count n : ℕ)

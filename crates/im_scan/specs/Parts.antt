@@ -11,9 +11,9 @@ use Rattle.im_group.specs.Partials.{Numbered, Parts, partial}
 use Rattle.im_unit.specs.Holding.{row_of}
 
 -- the row that a unit has at a row number; without a unit there is none
-abbrev pub unit_row : Option Content → ℕ → Option Row
-unit_row None rid = None
-unit_row (Some content) rid = row_of content rid
+abbrev pub row_in_unit : Option Content → ℕ → Option Row
+row_in_unit None rid = None
+row_in_unit (Some content) rid = row_of content rid
 
 -- what stands at a row number once a row was fetched: what was fetched, if it is of this row number
 abbrev pub fetched_after : ℕ → Option Row → ℕ × Option Row → Option Row
@@ -23,7 +23,7 @@ fetched_after rid row fetched = if fetched.0 == rid then fetched.1 else row
 -- own changes, in order
 abbrev pub taken_row : Option Content → List (ℕ × Option Row) → View → ℕ → Option Row
 taken_row unit fetched view rid =
-    fold (row_after view.table rid) (fold (fetched_after rid) (unit_row unit rid) fetched) view.own
+    fold (row_after view.table rid) (fold (fetched_after rid) (row_in_unit unit rid) fetched) view.own
 
 -- the rows that a scan takes of an extent: those at the row numbers of the extent that the view has
 abbrev pub taken_rows : Option Content → List (ℕ × Option Row) → View → ℕ → List Numbered

@@ -2,7 +2,7 @@ ghost use Rattle.std.specs.Prelude.{◌≡◌, ◌+◌, ◌<◌, ◌^◌, length
 ghost use Rattle.std.specs.Option.{ForSome, option_copied};
 ghost use Rattle.im_scan.specs.Faces.{unit_of};
 ghost use Rattle.im_unit.specs.Holding as holding;
-ghost use Rattle.im_scan.specs.Parts.{unit_row};
+ghost use Rattle.im_scan.specs.Parts.{row_in_unit};
 ghost use Rattle.im_scan.specs.inner.Steps.{AreRowsOf, gathered, lent, put_at, unit_rows, with_changes, with_fetched};
 
 use crate::faces::Face;
@@ -35,7 +35,7 @@ fn row_of<'a>(unit: &ColumnUnit, held: &'a [Option<Row>], rid: u64) -> Option<&'
 /// The row that a face shows at a row number.
 fn shown<'a>(face: Face<'a>, held: &'a [Option<Row>], rid: u64) -> Option<&'a Row>
     requires { AreRowsOf face held.now }
-    ensures { option_copied result ≡ unit_row (unit_of face.entry) rid }
+    ensures { option_copied result ≡ row_in_unit (unit_of face.entry) rid }
 {
     match face {
         Face::Whole(unit) => row_of(unit, held, rid),

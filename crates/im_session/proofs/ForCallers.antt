@@ -14,7 +14,7 @@ use Rattle.im_reach.specs.Sides.{Known, StoreSide, sole, speaks}
 use Rattle.im_replies.specs.declared.reply.Reply.{Reply}
 use Rattle.im_session.specs.declared.cursor.Cursor.{Cursor}
 use Rattle.im_session.specs.Cursors.{IsSound}
-use Rattle.im_session.specs.Sessions.{Agrees, IsPlayed, Kept, state_of}
+use Rattle.im_session.specs.Sessions.{Agrees, IsStatementPlayed, Kept, state_of}
 use Rattle.im_session.proofs.CursorLemmas.{sound-longer}
 use Rattle.im_session.proofs.KeptLemmas.{all-map}
 use Rattle.im_statements.specs.Agreement.{AreQueriesOf}
@@ -126,7 +126,7 @@ line-own who amend old plan result new line = elim line.whole.played [
 
 -- the line that a session played over a store that nobody else has
 pub played-alone : (s : Stmt) (before after : Kept) (old new : Known) (reply : Reply) → old.side ≡ sole
-    → (played : IsPlayed s before old reply after new)
+    → (played : IsStatementPlayed s before old reply after new)
     → PlayedLine Nobody before.who (amends before.who) old.log (statement_plan old.limits before.who (state_of before.cursors) s)
     (Replied reply played.effect) new.log
 played-alone s before after old new reply alone played =
@@ -159,13 +159,13 @@ agrees-own who other old new own apart agrees = record {
     same = opened-after (λ number. number == other.who) other.who old.log new.log (grind (arith, nat_tests)) after_old
 
 -- a line of a session adds entries of its own number alone
-pub played-own : (s : Stmt) (before after : Kept) (old new : Known) (reply : Reply) → old.side ≡ sole → IsPlayed s before old reply after new
+pub played-own : (s : Stmt) (before after : Kept) (old new : Known) (reply : Reply) → old.side ≡ sole → IsStatementPlayed s before old reply after new
     → IsOwn before.who old.log new.log
 played-own s before after old new reply alone played =
     line-own before.who (amends before.who) old.log _ _ new.log (played-alone s before after old new reply alone played)
 
 -- another session agrees as it did
 pub agrees-other : (s : Stmt) (before after other : Kept) (old new : Known) (reply : Reply) → old.side ≡ sole
-    → IsPlayed s before old reply after new → (before.who == other.who) ≡ false → Agrees other old → Agrees other new
+    → IsStatementPlayed s before old reply after new → (before.who == other.who) ≡ false → Agrees other old → Agrees other new
 agrees-other s before after other old new reply alone played apart =
     agrees-own before.who other old new (played-own s before after old new reply alone played) apart

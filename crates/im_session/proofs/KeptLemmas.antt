@@ -11,7 +11,7 @@ use Rattle.im_session.specs.inner.Cursors.{query_after}
 use Rattle.im_session.specs.inner.Running.{is_number}
 use Rattle.im_session.proofs.OtherLemmas.{itself}
 use Rattle.im_statements.specs.Agreement.{AreQueriesOf}
-use Rattle.im_statements.specs.Outcomes.{Query, is_query, query_at, stepped}
+use Rattle.im_statements.specs.Outcomes.{OpenQuery, is_query, query_at, stepped}
 
 -- ---- one is found
 
@@ -111,14 +111,14 @@ no-place number listed cursors place same is none =
 
 -- ---- it is open
 
-pub find-open : (number : ℕ) (queries : List Query) (cursors : List Opened) (query : Query) → AreQueriesOf queries cursors
+pub find-open : (number : ℕ) (queries : List OpenQuery) (cursors : List Opened) (query : OpenQuery) → AreQueriesOf queries cursors
     → find (is_query number) queries ≡ Some query → find (is_cursor number) cursors ≡ Some (record { cursor = query.cursor; view = query.view })
 find-open number [] cursors query are is = absurd cc
 find-open number (q ∷ qs) [] query are is = absurd are
 find-open number (q ∷ qs) (c ∷ cs) query are is =
     by (is_query number q) (is_cursor number c) (ap (λ (n : ℕ). n == number) (sym are.0.same)) is (λ e. find-open number qs cs query are.1 e)
   where
-    some-inj : {a b : Query} → Some a ≡ Some b → a ≡ b
+    some-inj : {a b : OpenQuery} → Some a ≡ Some b → a ≡ b
     some-inj e = cc
 
     by : (this that : Bool) → that ≡ this → (if this then Some q else find (is_query number) qs) ≡ Some query
@@ -127,7 +127,7 @@ find-open number (q ∷ qs) (c ∷ cs) query are is =
         → (if that then Some c else find (is_cursor number) cs) ≡ Some (record { cursor = query.cursor; view = query.view })
     by true that same e on =
         rw same
-        (subst (λ (asked : Query). Some c ≡ Some (record { cursor = asked.cursor; view = asked.view })) (some-inj e)
+        (subst (λ (asked : OpenQuery). Some c ≡ Some (record { cursor = asked.cursor; view = asked.view })) (some-inj e)
         (rw (are.0.same, are.0.view) refl))
     by false that same e on = rw same (on e)
 
@@ -188,7 +188,7 @@ set-stays (first ∷ others) zero kept now is same = let e : first ≡ kept = so
   where
     some-inj : {a b : Cursor} → Some a ≡ Some b → a ≡ b
     some-inj e = cc
-set-stays (first ∷ others) (suc at) kept now is same = ap (λ (qs : List Query). query_of first ∷ qs) (set-stays others at kept now is same)
+set-stays (first ∷ others) (suc at) kept now is same = ap (λ (qs : List OpenQuery). query_of first ∷ qs) (set-stays others at kept now is same)
 
 module _ (P : Cursor → Type 0) where
   pub all-set : (cursors : List Cursor) (at : ℕ) (now : Cursor) → AllByRecursion P cursors → P now → AllByRecursion P (slice_set cursors at now)
@@ -262,19 +262,19 @@ state-filter number (first ∷ others) = by (is_number number first) (state-filt
     left : List Cursor
     left = filter (λ kept. not (is_number number kept)) others
 
-    rest : List Query
+    rest : List OpenQuery
     rest = filter (λ query. not (is_query number query)) (map query_of others)
 
     by : (b : Bool) → map query_of left ≡ rest
         → map query_of (if not b then first ∷ left else left) ≡ (if not b then query_of first ∷ rest else rest)
     by true same = same
-    by false same = ap (λ (qs : List Query). query_of first ∷ qs) same
+    by false same = ap (λ (qs : List OpenQuery). query_of first ∷ qs) same
 
 -- ---- one comes to the others
 
 pub state-last : (cursors : List Cursor) (kept : Cursor) → map query_of (cursors ++ kept ∷ []) ≡ map query_of cursors ++ query_of kept ∷ []
 state-last [] kept = refl
-state-last (first ∷ others) kept = ap (λ (qs : List Query). query_of first ∷ qs) (state-last others kept)
+state-last (first ∷ others) kept = ap (λ (qs : List OpenQuery). query_of first ∷ qs) (state-last others kept)
 
 -- a number that is not open is none of those that are kept
 not-among : (number : ℕ) (cursors : List Cursor) (opened : List Opened) → AreQueriesOf (map query_of cursors) opened

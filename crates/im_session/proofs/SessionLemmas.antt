@@ -23,7 +23,7 @@ use Rattle.im_session.specs.declared.playing.Use.{Use}
 use Rattle.im_session.specs.declared.playing.Use.TheVariants.{Step, Fetch, Close}
 use Rattle.im_session.specs.Cursors.{IsSound, query_of}
 use Rattle.im_session.specs.Reads.{IsCounted, Reading}
-use Rattle.im_session.specs.Sessions.{Agrees, AreApart, IsPlayed, Kept, state_of}
+use Rattle.im_session.specs.Sessions.{Agrees, AreApart, IsStatementPlayed, Kept, state_of}
 use Rattle.im_session.specs.inner.Cursors.{IsKept, fetch_outcome, opening_outcome, query_after, step_outcome}
 use Rattle.im_session.specs.inner.Names.{reading_in}
 use Rattle.im_session.specs.inner.Rests.{IsRest}
@@ -38,7 +38,7 @@ use Rattle.im_session.proofs.RestLemmas.{rest-end, rest-lacks, rest-look}
 use Rattle.im_session.proofs.ScanLemmas.{longer-went, open-went, speaks-went, went-found, went-log}
 use Rattle.im_statements.specs.Agreement.{Agrees as AreOpen, AreQueriesOf}
 use Rattle.im_statements.specs.Cursors.{close, close_query, fetch, fetch_query, open_query, step, step_query, with_query}
-use Rattle.im_statements.specs.Outcomes.{Closes, Opens, Outcome, Query, Replied, State, Stays, Steps, query_at, said}
+use Rattle.im_statements.specs.Outcomes.{Closes, Opens, Outcome, OpenQuery, Replied, State, Stays, Steps, query_at, said}
 use Rattle.im_statements.specs.Statements.{definition_plan, is_definition, name_reply, named_plan, resolved_plan, statement_plan}
 use Rattle.im_statements.specs.Transaction.{open_after}
 use Rattle.im_statements.specs.Turns.{memory_reply, settled_reply}
@@ -81,13 +81,13 @@ module _ (who : ℕ) (cursors : List Cursor) (old new : Known) (reply : Reply) (
   run-opened plan kept rest agree fresh is = record {
     effect = Opens (query_of kept);
     rest = rest;
-    keeps = ap (λ (qs : List Query). record { queries = qs }) (state-last cursors kept);
+    keeps = ap (λ (qs : List OpenQuery). record { queries = qs }) (state-last cursors kept);
     sound = all-last (λ kept. IsSound kept new) cursors kept (sound-rest who 0 old new plan _ cursors rest sound) is;
     apart = fresh-apart cursors kept _ agree.queries fresh apart;
   }
 
   -- what a line over a cursor that is kept does
-  with-found : (number at : ℕ) (on : Query → Plan Outcome) (outcome : Outcome) → (found : IsFound number cursors at)
+  with-found : (number at : ℕ) (on : OpenQuery → Plan Outcome) (outcome : Outcome) → (found : IsFound number cursors at)
       → IsRest who 0 old (on (query_of found.kept)) outcome new
       → IsRest who 0 old (with_query number old.log (query_at (state_of cursors) number) on) outcome new
   with-found number at on outcome found rest = rw found.query rest
@@ -100,16 +100,16 @@ module _ (who : ℕ) (cursors : List Cursor) (old new : Known) (reply : Reply) (
   run-stepped number at after true found rest same is = record {
     effect = Steps found.kept.number;
     rest = with-found number at (step_query old.log) _ found rest;
-    keeps = ap (λ (qs : List Query). record { queries = qs }) (set-steps cursors at found.kept after apart found.is same);
+    keeps = ap (λ (qs : List OpenQuery). record { queries = qs }) (set-steps cursors at found.kept after apart found.is same);
     sound = all-set (λ kept. IsSound kept new) cursors at after (sound-rest who 0 old new _ _ cursors rest sound) is;
-    apart = apart-set cursors at found.kept after found.is (ap (λ (q : Query). q.cursor) same) apart;
+    apart = apart-set cursors at found.kept after found.is (ap (λ (q : OpenQuery). q.cursor) same) apart;
   }
   run-stepped number at after false found rest same is = record {
     effect = Stays;
     rest = with-found number at (step_query old.log) _ found rest;
-    keeps = ap (λ (qs : List Query). record { queries = qs }) (set-stays cursors at found.kept after found.is same);
+    keeps = ap (λ (qs : List OpenQuery). record { queries = qs }) (set-stays cursors at found.kept after found.is same);
     sound = all-set (λ kept. IsSound kept new) cursors at after (sound-rest who 0 old new _ _ cursors rest sound) is;
-    apart = apart-set cursors at found.kept after found.is (ap (λ (q : Query). q.cursor) same) apart;
+    apart = apart-set cursors at found.kept after found.is (ap (λ (q : OpenQuery). q.cursor) same) apart;
   }
 
   -- it was closed
@@ -118,7 +118,7 @@ module _ (who : ℕ) (cursors : List Cursor) (old new : Known) (reply : Reply) (
   closed-run number at plan found rest = record {
     effect = Closes number;
     rest = rest;
-    keeps = ap (λ (qs : List Query). record { queries = qs }) (state-filter number cursors);
+    keeps = ap (λ (qs : List OpenQuery). record { queries = qs }) (state-filter number cursors);
     sound = all-filter (λ kept. IsSound kept new) (λ kept. not (is_number number kept)) cursors (sound-rest who 0 old new _ _ cursors rest sound);
     apart = apart-filter (λ kept. not (is_number number kept)) cursors apart;
   }
@@ -145,7 +145,7 @@ module _ (who : ℕ) (cursors : List Cursor) (old new : Known) (reply : Reply) (
       (with-found number at (λ query. close_query query.cursor) _ found rest))
 
 -- no cursor of this number is kept
-pub run-unknown : (who number : ℕ) (cursors : List Cursor) (old : Known) (look : Look) (on : Query → Plan Outcome)
+pub run-unknown : (who number : ℕ) (cursors : List Cursor) (old : Known) (look : Look) (on : OpenQuery → Plan Outcome)
     → AllByRecursion (λ kept. IsSound kept old) cursors → AreApart cursors → look ≡ look_at old.log who
     → query_at (state_of cursors) number ≡ None
     → IsRun who (with_query number old.log (query_at (state_of cursors) number) on) cursors old
@@ -153,7 +153,7 @@ pub run-unknown : (who number : ℕ) (cursors : List Cursor) (old : Known) (look
 run-unknown who number cursors old look on sound apart look_is none =
     run-stays who cursors old old _ sound apart _
     (rest-end who 0 old _ _
-    (ap (λ (q : Option Query). with_query number old.log q on) none
+    (ap (λ (q : Option OpenQuery). with_query number old.log q on) none
     ∙ ap (λ (l : Look). End (said (settled_reply l.place (Error (fault.CursorUnknown number))))) (sym look_is)))
 
 -- ---- what a call of a session found and did
@@ -348,7 +348,7 @@ module _ (who : ℕ) (cursors : List Cursor) (s : Stmt) (old : Known) where
 pub played : (s : Stmt) (before after : Kept) (now : Bool) (old new : Known) (reply : Reply) → after.who ≡ before.who
     → now ≡ open_after s reply before.in_transaction
     → IsRun before.who (statement_plan old.limits before.who (state_of before.cursors) s) before.cursors old reply after.cursors new
-    → IsPlayed s before old reply (record after { in_transaction = now }) new
+    → IsStatementPlayed s before old reply (record after { in_transaction = now }) new
 played s before after now old new reply same told run = record {
   same = same;
   known = run.rest.kept;
@@ -394,9 +394,9 @@ module _ (session : Kept) (who : ℕ) (cursors : List Cursor) (before : Bool)
 
   module _ (s : Stmt) (after : List Cursor) (now : Bool) (new : Known) (reply : Reply) (told : now ≡ open_after s reply before)
       (run : IsRun who (statement_plan old.limits who (state_of cursors) s) cursors old reply after new) where
-    pub session-played : IsPlayed s session old reply (record { who = who; cursors = after; in_transaction = now }) new
+    pub session-played : IsStatementPlayed s session old reply (record { who = who; cursors = after; in_transaction = now }) new
     session-played =
-        subst (λ (k : Kept). IsPlayed s k old reply (record { who = who; cursors = after; in_transaction = now }) new) (sym is)
+        subst (λ (k : Kept). IsStatementPlayed s k old reply (record { who = who; cursors = after; in_transaction = now }) new) (sym is)
         (played s (record { who = who; cursors = cursors; in_transaction = before })
         (record { who = who; cursors = after; in_transaction = before }) now old new reply refl told run)
 

@@ -14,12 +14,12 @@ use Rattle.im_reach.specs.Sides.{Known}
 use Rattle.im_scan.specs.Parts.{MayAsk}
 use Rattle.im_scan.specs.Pinned.{seen_to}
 use Rattle.im_session.specs.declared.cursor.Cursor.{Cursor}
-use Rattle.im_statements.specs.Outcomes.{Query}
+use Rattle.im_statements.specs.Outcomes.{OpenQuery}
 use Rattle.im_syntax.specs.declared.bound.Bound.{Bound}
 use Rattle.im_syntax.specs.BoundQuery.{IsQuery}
 
 -- what plans know of a cursor that is kept
-abbrev pub query_of : Cursor → Query
+abbrev pub query_of : Cursor → OpenQuery
 query_of kept = record { cursor = kept.number; bound = kept.bound; view = kept.view; next = kept.next }
 
 -- a view of a table that is there, no newer than what is known, with its row numbers cut into extents

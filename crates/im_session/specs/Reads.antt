@@ -9,7 +9,7 @@ use Rattle.im_history.specs.Serving.{fetched_in}
 use Rattle.im_replies.specs.declared.reply.Reply.{Reply}
 use Rattle.im_replies.specs.declared.served.Served.{Served}
 use Rattle.im_replies.specs.Mixes.{reads}
-use Rattle.im_statements.specs.Outcomes.{Query, State, query_at}
+use Rattle.im_statements.specs.Outcomes.{OpenQuery, State, query_at}
 use Rattle.im_statements.specs.Turns.{memory_reply}
 use Rattle.im_syntax.specs.declared.statement.Stmt.{Stmt}
 use Rattle.im_syntax.specs.declared.statement.Stmt.TheVariants as stmt
@@ -40,10 +40,10 @@ pub record Span : Type 0 where
   pub upto : ℕ
 
 -- those that are left of a query, and the next one alone
-abbrev pub span_left : Query → Span
+abbrev pub span_left : OpenQuery → Span
 span_left query = record { cursor = query.cursor; view = query.view; from = query.next; upto = query.view.extents }
 
-abbrev pub span_next : Query → Span
+abbrev pub span_next : OpenQuery → Span
 span_next query = record (span_left query) { upto = min (query.next + 1) query.view.extents }
 
 -- all those of a view, by a statement's own scan

@@ -39,7 +39,7 @@ pub record Agrees (session : Kept) (now : Known) : Type 0 where
 
 -- the session played a line: it went by the plan of its statement, whatever others did meanwhile, or ran out of memory and was
 -- amended; and what the session keeps now is what comes of that line and what its reply says
-pub record IsPlayed (statement : Stmt) (before : Kept) (old : Known) (reply : Reply) (after : Kept) (new : Known) : Type 0 where
+pub record IsStatementPlayed (statement : Stmt) (before : Kept) (old : Known) (reply : Reply) (after : Kept) (new : Known) : Type 0 where
   pub same : after.who ≡ before.who
   pub known : new ≡ record old { log = new.log }
   pub effect : Effect

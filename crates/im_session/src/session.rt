@@ -3,7 +3,7 @@ ghost use Rattle.im_history.specs.Leaves.{has_left};
 ghost use Rattle.im_reach.specs.Sides.{speaks};
 ghost use Rattle.im_session.specs.Ends.{IsEnded, end_plan, end_without_leave};
 ghost use Rattle.im_session.specs.Reads.{IsCounted, reading_of};
-ghost use Rattle.im_session.specs.Sessions.{Agrees, IsPlayed, state_of};
+ghost use Rattle.im_session.specs.Sessions.{Agrees, IsStatementPlayed, state_of};
 ghost use Rattle.im_syntax.specs.Rules.{IsStmt};
 
 use crate::context::Context;
@@ -77,7 +77,7 @@ impl Session {
         requires speaks { speaks (H.known reach.old).side self.old.who ≡ true }
         requires statement { IsStmt statement.now }
         requires agrees { Agrees self.old (H.known reach.old) }
-        ensures played { IsPlayed statement.now self.old (H.known reach.old) result self.new (H.known reach.new) }
+        ensures played { IsStatementPlayed statement.now self.old (H.known reach.old) result self.new (H.known reach.new) }
         ensures agrees { Agrees self.new (H.known reach.new) }
         ensures ticks { IsCounted (reading_of statement.now) (state_of self.old.cursors) self.old.who result steps.old steps.new
             (H.known reach.old).log (H.known reach.new).log }

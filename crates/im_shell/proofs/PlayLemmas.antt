@@ -4,7 +4,7 @@ use Rattle.im_edge.specs.Writing.{Took}
 use Rattle.im_edge.proofs.ForCallers.{Took-nil}
 use Rattle.im_history.specs.declared.limits.Limits.{Limits}
 use Rattle.im_play.specs.Machine.{Comes, IsAnswered, IsStill, Machine, idle, number_of, put}
-use Rattle.im_play.specs.Requests.{Demand, asked, demand_of, demands_of}
+use Rattle.im_play.specs.Requests.{LineDemand, asked, demand_of, demands_of}
 use Rattle.im_play.proofs.ComesLaws.{HasNumber, asked-number, line_first}
 use Rattle.im_replies.specs.declared.reply.Reply.{Reply}
 use Rattle.im_script.specs.declared.form.Form.{Form}
@@ -15,7 +15,7 @@ use Rattle.im_script.specs.declared.line.LineKind.TheVariants as kind
 use Rattle.im_script.specs.Forms.{lines_of, first_of, form_of, who_of}
 use Rattle.im_script.specs.Lines.{AreLines, IsLine, HasKind, no_memory}
 use Rattle.im_shell.specs.declared.shown.Shown.{Shown}
-use Rattle.im_shell.specs.Play.{ComesOf, IsPlayed, Writes, WritesPart}
+use Rattle.im_shell.specs.Play.{ComesOf, IsScriptPlayed, Writes, WritesPart}
 use Rattle.im_shell.specs.Texts.{text_of, text_shown}
 use Rattle.im_shell.specs.inner.Going.{text_put, IsSoFar, PlaysNext, PlaysNextPart}
 use Rattle.im_shell.specs.inner.Sent.{Sends, SendsPart}
@@ -52,12 +52,12 @@ are_lines n (line ∷ lines) =
 -- such lines ask for no statement: their replies are told, and no row is read
 module _ (area : ℕ) (machine : Machine) where
   -- what these come to is played with nothing to choose, at these steps
-  record AreTold (demands : List Demand) (steps : ℕ) : Type 0 where
+  record AreTold (demands : List LineDemand) (steps : ℕ) : Type 0 where
     pub answers : List (ℕ × Reply)
     pub comes : Comes machine demands answers machine steps steps
 
   -- one more, which is answered so
-  told-first : (demand : Demand) (reply : Option Reply) (demands : List Demand) (steps : ℕ) → IsAnswered steps steps demand machine reply machine
+  told-first : (demand : LineDemand) (reply : Option Reply) (demands : List LineDemand) (steps : ℕ) → IsAnswered steps steps demand machine reply machine
       → AreTold demands steps → AreTold (demand ∷ demands) steps
   told-first demand reply demands steps answered told = record {
     answers = put (number_of demand) reply told.answers;
@@ -67,7 +67,7 @@ module _ (area : ℕ) (machine : Machine) where
   still : (steps : ℕ) → IsStill steps steps machine machine
   still steps = record { machine = refl; steps = refl }
 
-  one_told : (f : Form) (line : List ℕ) (n : ℕ) (demands : List Demand) (steps : ℕ) → AreTold demands steps
+  one_told : (f : Form) (line : List ℕ) (n : ℕ) (demands : List LineDemand) (steps : ℕ) → AreTold demands steps
       → AreTold (asked area n (kind_by f line) ∷ demands) steps
   one_told form.Long line n demands steps told = told-first _ (Some _) demands steps (refl, still steps) told
   one_told form.Skip line n demands steps told = told-first _ None demands steps (still steps) told
@@ -134,7 +134,7 @@ text-one shown number (Some reply) = append-nil (text_shown shown number reply.b
 
 -- what is behind the end of a script comes to nothing
 pub IsSoFar-end : (shown : Shown) (area : ℕ) (script : List ℕ) (answers : List (ℕ × Reply)) (number : ℕ) (h : Machine) (rest : List ℕ) (first now : ℕ)
-    → IsSoFar area script answers number h rest first now → rest ≡ [] → IsPlayed shown area script first now (text_of shown answers)
+    → IsSoFar area script answers number h rest first now → rest ≡ [] → IsScriptPlayed shown area script first now (text_of shown answers)
 IsSoFar-end shown area script answers number h rest first now so_far none =
     let no_lines : lines_of rest ≡ [] = ap lines_of none ∙ lines_of-nil in
     record {
@@ -152,7 +152,7 @@ IsSoFar-end shown area script answers number h rest first now so_far none =
 -- a prefix of what was written is a prefix of what the script comes to
 pub IsSoFar-part : (shown : Shown) (area : ℕ) (script : List ℕ) (answers : List (ℕ × Reply)) (number : ℕ) (h : Machine) (rest front more : List ℕ)
     (first now : ℕ) (before after : Option (List ℕ)) → IsSoFar area script answers number h rest first now → text_of shown answers ≡ front ++ more
-    → Took before after front → WritesPart (IsPlayed shown area script first now) before after
+    → Took before after front → WritesPart (IsScriptPlayed shown area script first now) before after
 IsSoFar-part shown area script answers number h rest front more first now before after so_far split took = record {
   text = front;
   rest = more ++ text_of shown others;
@@ -238,7 +238,7 @@ IsGoing-next shown area script before now between after number h new rest behind
 
 pub IsGoing-end : (shown : Shown) (area : ℕ) (script : List ℕ) (before now after : Option (List ℕ)) (number : ℕ) (h : Machine)
     (rest waiting new_waiting : List ℕ) (first steps : ℕ) → IsGoing shown area script before now number h rest waiting first steps → length rest ≤ 0
-    → Sends now after waiting new_waiting → new_waiting ≡ [] → Writes (IsPlayed shown area script first steps) before after
+    → Sends now after waiting new_waiting → new_waiting ≡ [] → Writes (IsScriptPlayed shown area script first steps) before after
 IsGoing-end shown area script before now after number h rest waiting new_waiting first steps going over sends none =
     let all = Sends-after before now after (text_of shown going.answers) waiting new_waiting going.sends sends in
     record {
@@ -254,7 +254,7 @@ IsGoing-end shown area script before now after number h rest waiting new_waiting
 -- where it stops the sink took a prefix of the text
 pub IsGoing-part : (shown : Shown) (area : ℕ) (script : List ℕ) (before now after : Option (List ℕ)) (number : ℕ) (h : Machine) (rest waiting : List ℕ)
     (first steps : ℕ) → IsGoing shown area script before now number h rest waiting first steps → SendsPart now after waiting
-    → WritesPart (IsPlayed shown area script first steps) before after
+    → WritesPart (IsScriptPlayed shown area script first steps) before after
 IsGoing-part shown area script before now after number h rest waiting first steps going part =
     let all = Sends-after before now after (text_of shown going.answers) waiting part.left going.sends part.sends in
     IsSoFar-part shown area script going.answers number h rest all.sent part.left first steps before after going.so_far all.split all.took
@@ -264,7 +264,7 @@ pub IsGoing-stuck : (shown : Shown) (area : ℕ) (script : List ℕ) (before now
     (rest behind line waiting middle : List ℕ) (first steps later : ℕ) → IsGoing shown area script before now number h rest waiting first steps
     → lines_of rest ≡ line ∷ lines_of behind → length behind + 1 ≤ length rest
     → PlaysNext shown area line number h new now between waiting middle steps later → SendsPart between after middle
-    → WritesPart (IsPlayed shown area script first later) before after
+    → WritesPart (IsScriptPlayed shown area script first later) before after
 IsGoing-stuck shown area script before now between after number h new rest behind line waiting middle first steps later going lines_are shorter next part =
     IsGoing-part shown area script before between after (number + 1) new behind middle first later
     (IsGoing-next shown area script before now between between number h new rest behind line waiting middle middle first steps later going lines_are
@@ -275,7 +275,7 @@ IsGoing-stuck shown area script before now between after number h new rest behin
 pub IsGoing-stopped : (shown : Shown) (area : ℕ) (script : List ℕ) (before now after : Option (List ℕ)) (number : ℕ) (h new : Machine)
     (rest behind line waiting : List ℕ) (first steps later : ℕ) → IsGoing shown area script before now number h rest waiting first steps
     → lines_of rest ≡ line ∷ lines_of behind → PlaysNextPart area line number h new now after waiting steps later
-    → WritesPart (IsPlayed shown area script first later) before after
+    → WritesPart (IsScriptPlayed shown area script first later) before after
 IsGoing-stopped shown area script before now after number h new rest behind line waiting first steps later going lines_are next =
     let text = text_put shown number next.reply in
     let all = Sends-after before now after (text_of shown going.answers) waiting next.sends.left going.sends next.sends.sends in
@@ -291,7 +291,7 @@ IsGoing-stopped shown area script before now after number h new rest behind line
 
 -- before its first byte a prefix of every script's text was written, and no row was read
 pub WritesPart-nil : (shown : Shown) (area : ℕ) (script : List ℕ) (taken now : Option (List ℕ)) (steps later : ℕ) → now ≡ taken → later ≡ steps
-    → WritesPart (IsPlayed shown area script steps later) taken now
+    → WritesPart (IsScriptPlayed shown area script steps later) taken now
 WritesPart-nil shown area script taken now steps later same unread =
     rw (same, unread)
     (IsSoFar-part shown area script [] 1 idle script [] [] steps steps taken taken (IsSoFar-start area script steps) refl (Took-nil taken))

@@ -27,7 +27,7 @@ pub record ComesOf (area : ℕ) (lines : List (List ℕ)) (answers : List (ℕ �
   pub comes : Comes idle (demands_of area read) answers end before after
 
 -- this is the text of the replies to a script that are shown, and the steps grow so
-pub record IsPlayed (shown : Shown) (area : ℕ) (script : List ℕ) (before after : ℕ) (text : List ℕ) : Type 0 where
+pub record IsScriptPlayed (shown : Shown) (area : ℕ) (script : List ℕ) (before after : ℕ) (text : List ℕ) : Type 0 where
   pub answers : List (ℕ × Reply)
   pub end : Machine
   pub comes : ComesOf area (lines_of script) answers end before after
@@ -65,9 +65,9 @@ OfScript Gen asked left P = P (generated asked.seed asked.rows)
 
 -- this is the text of a mode with a script, and the steps grow so, of which a race says nothing
 abbrev pub IsTextOf : Mode → Asked → List ℕ → ℕ → ℕ → List ℕ → Type 0
-IsTextOf Run asked script before after text = IsPlayed All asked.area script before after text
+IsTextOf Run asked script before after text = IsScriptPlayed All asked.area script before after text
 IsTextOf Race asked script before after text = IsRaced asked.area asked.workers asked.turns script text
-IsTextOf Gen asked script before after text = IsPlayed Outcomes asked.area script before after text
+IsTextOf Gen asked script before after text = IsScriptPlayed Outcomes asked.area script before after text
 
 -- good words ask for what stands in them
 abbrev pub AreMeant : List (List ℕ) → Asked → Type 0

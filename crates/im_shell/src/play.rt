@@ -1,7 +1,7 @@
 ghost use Rattle.std.specs.Prelude.{◌≡◌, ◌≤◌, ◌+◌, [], ◌++◌, OnOk, OnErr, IsErrOf};
 ghost use Rattle.im_edge.specs.Faults.{Rose};
 ghost use Rattle.im_play.specs.Between.{IsBetween, machine_of, nothing_in, unused_background, unused_from};
-ghost use Rattle.im_shell.specs.Play.{IsPlayed, Writes, WritesPart};
+ghost use Rattle.im_shell.specs.Play.{IsScriptPlayed, Writes, WritesPart};
 ghost use Rattle.im_shell.specs.inner.Going.{text_put, PlaysBytes, PlaysNext, PlaysNextPart};
 ghost use Rattle.im_shell.specs.inner.Writers.{IsSame, HasSent, HasSentPart};
 
@@ -108,9 +108,9 @@ fn play_lines<R: Wait, H: Reach<ColumnUnit>, G: Gate, K: Sink, L: Ledger>(
     requires unused_background { players.old.background ≡ unused_background }
     requires none_waits { writer.old.waiting.now ≡ [] }
     ensures same { IsSame writer.old writer.new }
-    ensures ok { OnOk result (Writes (IsPlayed writer.old.shown (H.known reach.old).limits.area script.now steps.old steps.new)
+    ensures ok { OnOk result (Writes (IsScriptPlayed writer.old.shown (H.known reach.old).limits.area script.now steps.old steps.new)
         (K.taken writer.old.sink.now) (K.taken writer.new.sink.now)) }
-    ensures err { OnErr result (WritesPart (IsPlayed writer.old.shown (H.known reach.old).limits.area script.now steps.old steps.new)
+    ensures err { OnErr result (WritesPart (IsScriptPlayed writer.old.shown (H.known reach.old).limits.area script.now steps.old steps.new)
         (K.taken writer.old.sink.now) (K.taken writer.new.sink.now)) }
     ensures cause { IsErrOf result Stop.WriteFault → Rose (K.faults writer.old.sink.now) (K.faults writer.new.sink.now) }
     ensures later { K.faults writer.old.sink.now ≤ K.faults writer.new.sink.now }
@@ -137,8 +137,8 @@ pub fn play_script<R: Wait, G: Gate, K: Sink, L: Ledger>(
     sink: &mut K,
     steps: &mut Steps<L>,
 ) -> Result<(), Stop>
-    ensures ok { OnOk result (Writes (IsPlayed shown area script.now steps.old steps.new) (K.taken sink.old) (K.taken sink.new)) }
-    ensures err { OnErr result (WritesPart (IsPlayed shown area script.now steps.old steps.new) (K.taken sink.old) (K.taken sink.new)) }
+    ensures ok { OnOk result (Writes (IsScriptPlayed shown area script.now steps.old steps.new) (K.taken sink.old) (K.taken sink.new)) }
+    ensures err { OnErr result (WritesPart (IsScriptPlayed shown area script.now steps.old steps.new) (K.taken sink.old) (K.taken sink.new)) }
     ensures cause { IsErrOf result Stop.WriteFault → Rose (K.faults sink.old) (K.faults sink.new) }
     ensures later { K.faults sink.old ≤ K.faults sink.new }
 {

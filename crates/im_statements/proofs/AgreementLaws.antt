@@ -46,7 +46,7 @@ use Rattle.im_syntax.specs.Rules.{IsStmt}
 use Rattle.im_statements.specs.Agreement.{AreQueriesOf, IsQueryOf, KeepAgreement, kept_by}
 use Rattle.im_statements.specs.Cursors.{close, close_with, fetch, open_query, step, with_query}
 use Rattle.im_statements.specs.Definitions.{create_table, created, join_memory, roll_back, set_mode}
-use Rattle.im_statements.specs.Outcomes.{Opens, Outcome, Query, Replied, State, is_query, query_at, stepped}
+use Rattle.im_statements.specs.Outcomes.{Opens, Outcome, OpenQuery, Replied, State, is_query, query_at, stepped}
 use Rattle.im_statements.specs.Scans.{end_scan, explain, explained, mark_at, rows_seen, scan, select, serve, serve_from}
 use Rattle.im_statements.specs.Statements.{found_plan, is_definition, looked_up, named_plan, resolved_plan, statement_plan}
 use Rattle.im_statements.specs.Turns.{answer_at, look, or_refused, served_reply, settled_reply, unless_refused}
@@ -156,28 +156,28 @@ plain-roll_back who at = plain-if (is_open at who) _ _ (λ here. (false, stays f
 
 -- ---- queries of cursors
 
-queries-append : (queries : List Query) (cursors : List Opened) (query : Query) (cursor : Opened) → AreQueriesOf queries cursors
+queries-append : (queries : List OpenQuery) (cursors : List Opened) (query : OpenQuery) (cursor : Opened) → AreQueriesOf queries cursors
     → IsQueryOf query cursor → AreQueriesOf (queries ++ query ∷ []) (cursors ++ cursor ∷ [])
 queries-append [] [] query cursor are is = (is, tt)
 queries-append [] (c ∷ cs) query cursor are is = absurd are
 queries-append (q ∷ qs) [] query cursor are is = absurd are
 queries-append (q ∷ qs) (c ∷ cs) query cursor are is = (are.0, queries-append qs cs query cursor are.1 is)
 
-stepped-is : (number : ℕ) (query : Query) (cursor : Opened) → IsQueryOf query cursor → IsQueryOf (stepped number query) cursor
+stepped-is : (number : ℕ) (query : OpenQuery) (cursor : Opened) → IsQueryOf query cursor → IsQueryOf (stepped number query) cursor
 stepped-is number query cursor is = by (query.cursor == number)
   where
     by : (b : Bool) → IsQueryOf (if b then record query { next = query.next + 1 } else query) cursor
     by true = record { same = is.same; view = is.view }
     by false = is
 
-queries-stepped : (number : ℕ) (queries : List Query) (cursors : List Opened) → AreQueriesOf queries cursors
+queries-stepped : (number : ℕ) (queries : List OpenQuery) (cursors : List Opened) → AreQueriesOf queries cursors
     → AreQueriesOf (map (stepped number) queries) cursors
 queries-stepped number [] [] are = tt
 queries-stepped number [] (c ∷ cs) are = absurd are
 queries-stepped number (q ∷ qs) [] are = absurd are
 queries-stepped number (q ∷ qs) (c ∷ cs) are = (stepped-is number q c are.0, queries-stepped number qs cs are.1)
 
-queries-filter : (number : ℕ) (queries : List Query) (cursors : List Opened) → AreQueriesOf queries cursors
+queries-filter : (number : ℕ) (queries : List OpenQuery) (cursors : List Opened) → AreQueriesOf queries cursors
     → AreQueriesOf (filter (λ query. not (is_query number query)) queries) (filter (λ cursor. not (is_cursor number cursor)) cursors)
 queries-filter number [] [] are = tt
 queries-filter number [] (c ∷ cs) are = absurd are
@@ -185,7 +185,7 @@ queries-filter number (q ∷ qs) [] are = absurd are
 queries-filter number (q ∷ qs) (c ∷ cs) are =
     by (is_cursor number c) (is_query number q) (ap (λ (n : ℕ). n == number) are.0.same) (queries-filter number qs cs are.1)
   where
-    left : List Query
+    left : List OpenQuery
     left = filter (λ query. not (is_query number query)) qs
 
     others : List Opened
@@ -244,8 +244,8 @@ module _ (who : ℕ) (state : State) (cursors : List Opened) (steady : Steady st
   good-serve view filter (suc left) extent marks on rest =
       good-look _ (λ at. good-serve view filter left (extent + 1) (marks ++ mark_at at view filter extent ∷ []) on rest)
 
-  good-with : (cursor : ℕ) (at : History) (query : Option Query) (on : Query → Plan Outcome)
-      → ((query : Query) → IsGood who state cursors (on query)) → IsGood who state cursors (with_query cursor at query on)
+  good-with : (cursor : ℕ) (at : History) (query : Option OpenQuery) (on : OpenQuery → Plan Outcome)
+      → ((query : OpenQuery) → IsGood who state cursors (on query)) → IsGood who state cursors (with_query cursor at query on)
   good-with cursor at (Some query) on rest = rest query
   good-with cursor at None on rest = plain-good who state cursors steady _ (refl, refl)
 
@@ -278,7 +278,7 @@ module _ (who : ℕ) (state : State) (cursors : List Opened) (steady : Steady st
     stops = (closes, λ at free. stops at (open_refusal at who cursor) free);
   }
     where
-      query : History → Query
+      query : History → OpenQuery
       query at = record { cursor = cursor; bound = bound; view = view_at at who bound.table; next = 0 }
 
       opening : History → Plan Outcome

@@ -52,7 +52,7 @@ use Rattle.im_statements.specs.declared.rewriting.Rewriting.{Rewriting}
 use Rattle.im_statements.specs.declared.rewriting.Rewriting.TheVariants.{Updating, Deleting}
 use Rattle.im_statements.specs.Cursors.{close, close_query, close_with, fetch, fetch_query, fetch_reply, open_query, step, step_query, step_reply, with_query}
 use Rattle.im_statements.specs.Definitions.{alter_table, create_table, created, join_memory, roll_back, set_mode}
-use Rattle.im_statements.specs.Outcomes.{Effect, Outcome, Query, Replied, State, Steps, Unfinished, query_at}
+use Rattle.im_statements.specs.Outcomes.{Effect, Outcome, OpenQuery, Replied, State, Steps, Unfinished, query_at}
 use Rattle.im_statements.specs.Scans.{end_scan, explain, explained, mark_at, rows_seen, scan, select, serve, serve_from}
 use Rattle.im_statements.specs.Statements.{definition_plan, found_plan, is_definition, looked_up, named_plan, resolved_plan}
 use Rattle.im_statements.specs.Transaction.{KeepTransaction, open_by, open_by_definition}
@@ -298,7 +298,7 @@ module _ (who : ℕ) (before : Bool) where
   says-open k cursor bound =
       says-turn true k (fault_of (aim.Opening cursor)) (λ at. open_refusal at who cursor) (λ at. what.Open cursor bound.table) _ (λ at. (λ f. absurd cc, refl))
 
-  says-with : (k cursor : ℕ) (at : History) (query : Option Query) (on : Query → Plan Outcome) → ((query : Query) → Says k (on query))
+  says-with : (k cursor : ℕ) (at : History) (query : Option OpenQuery) (on : OpenQuery → Plan Outcome) → ((query : OpenQuery) → Says k (on query))
       → Says k (with_query cursor at query on)
   says-with k cursor at (Some query) on rest = rest query
   says-with k cursor at None on rest = (λ f. refl, refl)

@@ -6,17 +6,17 @@ use Rattle.im_history.specs.declared.limits.Limits.{Limits}
 use Rattle.im_plan.specs.Goes.{PlayedLine, Others}
 use Rattle.im_syntax.specs.Rules.{IsStmt}
 use Rattle.im_syntax.specs.declared.statement.Stmt.{Stmt}
-use Rattle.im_statements.specs.Outcomes.{Outcome, Query, Replied, State, Unfinished, kept_after}
+use Rattle.im_statements.specs.Outcomes.{Outcome, OpenQuery, Replied, State, Unfinished, kept_after}
 use Rattle.im_statements.specs.Statements.{statement_plan}
 use Rattle.im_statements.specs.Turns.{amends}
 
 -- a query is that of an open cursor, with its view
-pub record IsQueryOf (query : Query) (cursor : Opened) : Type 0 where
+pub record IsQueryOf (query : OpenQuery) (cursor : Opened) : Type 0 where
   pub same : query.cursor ≡ cursor.cursor
   pub view : query.view ≡ cursor.view
 
 -- queries are those of open cursors, in order
-abbrev pub AreQueriesOf : List Query → List Opened → Type 0
+abbrev pub AreQueriesOf : List OpenQuery → List Opened → Type 0
 AreQueriesOf [] [] = ⊤
 AreQueriesOf [] (cursor ∷ cursors) = ⊥
 AreQueriesOf (query ∷ queries) [] = ⊥

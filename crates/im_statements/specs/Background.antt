@@ -36,16 +36,16 @@ use Rattle.im_statements.specs.Turns.{memory_reply, unless_refused}
 
 -- what comes of a line of the background: its reply, and the builds that are held then, the oldest first; or it did not come to
 -- its end in so many rounds
-pub data Outcome : Type 0 where
-  Answered : Reply → List Task → Outcome
-  OutOfRounds : Outcome
+pub data CommandOutcome : Type 0 where
+  Answered : Reply → List Task → CommandOutcome
+  OutOfRounds : CommandOutcome
 
 -- a reply that is settled at no place
 abbrev pub said : Body → Reply
 said body = record { place = None; marks = []; body = body }
 
 -- the line ends with this reply, and these builds are held
-abbrev pub answer_with : List Task → Body → Plan Outcome
+abbrev pub answer_with : List Task → Body → Plan CommandOutcome
 answer_with builds body = End (Answered (said body) builds)
 
 -- ---- builds
@@ -55,87 +55,87 @@ abbrev pub built_of : Task → Built
 built_of task = record { id = task.id; table = task.table; extent = task.extent; scn = task.scn; trickle = task.trickle }
 
 -- the line goes on with the build that began behind this history, or with none
-abbrev pub with_choice : (Task → Plan Outcome) → Plan Outcome → History → Option Choice → Plan Outcome
+abbrev pub with_choice : (Task → Plan CommandOutcome) → Plan CommandOutcome → History → Option Choice → Plan CommandOutcome
 with_choice on idle at None = idle
 with_choice on idle at (Some choice) = on (task_of at choice)
 
 -- the build that comes next begins, where there is one
-abbrev pub begin_next : (Task → Plan Outcome) → Plan Outcome → Plan Outcome
+abbrev pub begin_next : (Task → Plan CommandOutcome) → Plan CommandOutcome → Plan CommandOutcome
 begin_next on idle = Turn false (λ at. option_map (build_of at) (next at)) (λ at. with_choice on idle at (next at))
 
 -- the unit of a build fits into the area beside all that is there
-abbrev pub fits : Limits → History → Task → Bool
-fits limits at task = nat_le (used at + task_bytes at task) limits.area
+abbrev pub fits_area : Limits → History → Task → Bool
+fits_area limits at task = nat_le (used at + task_bytes at task) limits.area
 
 -- the entry that ends a build whose unit is ready: it is cancelled where another entry killed it, its unit becomes current where
 -- that fits, and else it is cancelled as one that does not fit
 abbrev pub end_by : ℕ → Option ℕ → Bool → What
-end_by id (Some place) fits = what.Cancel id false
+end_by id (Some place) fits_area = what.Cancel id false
 end_by id None true = what.Switch id
 end_by id None false = what.Cancel id true
 
 -- what is said of that end
 abbrev pub ending_by : Limits → ℕ → History → Task → Option ℕ → Bool → Ending
-ending_by limits who at task (Some place) fits = ending.Cancelled task.id place
+ending_by limits who at task (Some place) fits_area = ending.Cancelled task.id place
 ending_by limits who at task None true = ending.Switch task.id (task_bytes at task) (used (behind at who (what.Switch task.id)))
 ending_by limits who at task None false = ending.Full task.id (task_bytes at task) (limits.area - used at)
 
 -- the end of a build whose unit is ready, which may be the entry that decides the line
-abbrev pub finish : Bool → Limits → ℕ → Task → (Ending → Plan Outcome) → Plan Outcome
+abbrev pub finish : Bool → Limits → ℕ → Task → (Ending → Plan CommandOutcome) → Plan CommandOutcome
 finish decides limits who task on =
-    Turn decides (λ at. Some (end_by task.id (killed_of (held_at at task.id)) (fits limits at task)))
-    (λ at. on (ending_by limits who at task (killed_of (held_at at task.id)) (fits limits at task)))
+    Turn decides (λ at. Some (end_by task.id (killed_of (held_at at task.id)) (fits_area limits at task)))
+    (λ at. on (ending_by limits who at task (killed_of (held_at at task.id)) (fits_area limits at task)))
 
 -- ---- the statements
 
 -- RUN: builds begin and end until none is left. So many rounds may be played, one for each build and one that finds none
-abbrev pub run : Limits → ℕ → List Task → ℕ → List (Built × Ending) → Plan Outcome
+abbrev pub run : Limits → ℕ → List Task → ℕ → List (Built × Ending) → Plan CommandOutcome
 run limits who builds zero so_far = End OutOfRounds
 run limits who builds (suc rounds) so_far =
     begin_next (λ task. finish false limits who task (λ end. run limits who builds rounds (so_far ++ (built_of task, end) ∷ [])))
     (answer_with builds (body.Ran so_far))
 
 -- BEGIN: a build begins, and is held
-abbrev pub begin : List Task → Plan Outcome
+abbrev pub begin : List Task → Plan CommandOutcome
 begin builds = begin_next (λ task. answer_with (builds ++ task ∷ []) (body.Build (built_of task))) (answer_with builds body.Idle)
 
 -- SWITCH: the oldest build that is held ends, its unit being ready
-abbrev pub switch : Limits → ℕ → List Task → Plan Outcome
+abbrev pub switch : Limits → ℕ → List Task → Plan CommandOutcome
 switch limits who [] = answer_with [] body.Nothing
 switch limits who (task ∷ builds) = finish true limits who task (λ end. answer_with builds (body.Ended end))
 
 -- CANCEL: the oldest build that is held ends without its unit
-abbrev pub cancel : List Task → Plan Outcome
+abbrev pub cancel : List Task → Plan CommandOutcome
 cancel [] = answer_with [] body.Nothing
 cancel (task ∷ builds) = Turn true (λ at. Some (what.Cancel task.id false)) (λ at. answer_with builds (body.Ended (ending.Dropped task.id)))
 
 -- TRICKLE: so many builds more may be begun ahead of the threshold
-abbrev pub trickle : ℕ → List Task → ℕ → Plan Outcome
+abbrev pub trickle : ℕ → List Task → ℕ → Plan CommandOutcome
 trickle who builds count =
     Turn true (λ at. Some (what.Trickle count)) (λ at. answer_with builds (body.Trickle (credits (behind at who (what.Trickle count)))))
 
 -- EVICT of an extent of a table, unless it has no unit
-abbrev pub evicted : ℕ → List Task → ℕ → ℕ → History → Option Why → Plan Outcome
+abbrev pub evicted : ℕ → List Task → ℕ → ℕ → History → Option Why → Plan CommandOutcome
 evicted who builds table extent at None = answer_with builds (body.Evicted table extent (used (behind at who (what.Evict table extent))))
 evicted who builds table extent at (Some cause) = answer_with builds (body.Error (fault_of (aim.Evicting table extent) cause))
 
-abbrev pub evict : ℕ → List Task → ℕ → ℕ → Plan Outcome
+abbrev pub evict : ℕ → List Task → ℕ → ℕ → Plan CommandOutcome
 evict who builds table extent =
     Turn true (λ at. unless_refused (evict_refusal at table extent) (what.Evict table extent))
     (λ at. evicted who builds table extent at (evict_refusal at table extent))
 
 -- a line that does nothing: a statement of a session is not the background's
-abbrev pub nothing : List Task → Plan Outcome
+abbrev pub nothing : List Task → Plan CommandOutcome
 nothing builds = answer_with builds body.Nothing
 
 -- EVICT, once the table's name was looked up
-abbrev pub evict_found : ℕ → List Task → Result Resolved NameFault → Plan Outcome
+abbrev pub evict_found : ℕ → List Task → Result Resolved NameFault → Plan CommandOutcome
 evict_found who builds (Ok (resolved.Evict table extent)) = evict who builds table extent
 evict_found who builds (Ok other) = nothing builds
 evict_found who builds (Err fault) = answer_with builds (body.Error (name_fault fault))
 
 -- the plan of a statement of the background, of this number, that holds these builds
-abbrev pub command_plan : Limits → ℕ → ℕ → List Task → Stmt → Plan Outcome
+abbrev pub command_plan : Limits → ℕ → ℕ → List Task → Stmt → Plan CommandOutcome
 command_plan limits who rounds builds stmt.Run = run limits who builds rounds []
 command_plan limits who rounds builds stmt.Begin = begin builds
 command_plan limits who rounds builds stmt.Switch = switch limits who builds
@@ -157,7 +157,7 @@ stray at who builds = find (λ held. (held.who == who) && not (is_among builds h
 
 -- a line that ran out of memory after k entries: a build that it began, and neither holds nor ended, is cancelled. Those that
 -- were held are held on
-abbrev pub command_amends : ℕ → List Task → ℕ → Plan Outcome
+abbrev pub command_amends : ℕ → List Task → ℕ → Plan CommandOutcome
 command_amends who builds k =
     Turn false (λ at. option_map (λ (held : Held). what.Cancel held.task.id false) (stray at who builds))
     (λ at. End (Answered (memory_reply k) builds))

@@ -13,7 +13,7 @@ use Rattle.im_replies.specs.declared.reply.Reply.{Reply}
 use Rattle.im_replies.specs.declared.served.Served.{Served}
 use Rattle.im_replies.specs.declared.aim.Aim.TheVariants as aim
 use Rattle.im_replies.specs.Causes.{fault_of}
-use Rattle.im_statements.specs.Outcomes.{Outcome, Query, State, query_at, Replied, Opens, Steps, Closes}
+use Rattle.im_statements.specs.Outcomes.{Outcome, OpenQuery, State, query_at, Replied, Opens, Steps, Closes}
 use Rattle.im_statements.specs.Scans.{mark_at, rows_seen, serve_from}
 use Rattle.im_statements.specs.Turns.{answer_at, decide, decide_by, look, served_reply, settled_reply}
 
@@ -32,7 +32,7 @@ abbrev pub step_reply : Served → Reply
 step_reply mark = served_reply mark.place (mark ∷ []) (Step mark.extent mark.how)
 
 -- STEP: the next extent is served, unless none is left
-abbrev pub step_query : History → Query → Plan Outcome
+abbrev pub step_query : History → OpenQuery → Plan Outcome
 step_query at query =
     if nat_lt query.next query.view.extents
     then look (λ here. End (Replied (step_reply (mark_at here query.view query.bound.filter query.next)) (Steps query.cursor)))
@@ -43,12 +43,12 @@ abbrev pub close_with : ℕ → (History → Reply) → Plan Outcome
 close_with cursor reply = decide_by (λ here. Shut cursor) (λ here. End (Replied (reply here) (Closes cursor)))
 
 -- the reply of a FETCH at this history, which was served so
-abbrev pub fetch_reply : History → Query → List Served → Reply
+abbrev pub fetch_reply : History → OpenQuery → List Served → Reply
 fetch_reply at query marks = served_reply (length at) marks (Answer query.view.scn (answer query.bound (rows_seen at query.view)))
 
 -- FETCH: all extents that are left are served, and the cursor is closed. The answer is over the rows that the view sees in all
 -- its extents, and is settled at the look
-abbrev pub fetch_query : History → Query → Plan Outcome
+abbrev pub fetch_query : History → OpenQuery → Plan Outcome
 fetch_query at query =
     serve_from query.view query.bound.filter query.next (λ marks. close_with query.cursor (λ here. fetch_reply at query marks))
 
@@ -59,12 +59,12 @@ close_query cursor = close_with cursor (λ here. settled_reply (length here) (Cl
 -- ---- cursors by their numbers
 
 -- what a line does with the query of a cursor, or it is refused where that is not open
-abbrev pub with_query : ℕ → History → Option Query → (Query → Plan Outcome) → Plan Outcome
+abbrev pub with_query : ℕ → History → Option OpenQuery → (OpenQuery → Plan Outcome) → Plan Outcome
 with_query cursor at (Some query) on = on query
 with_query cursor at None on = answer_at at (Error (fault.CursorUnknown cursor))
 
 -- a line over a cursor, which was looked for at this history
-abbrev pub with_cursor : State → History → ℕ → (Query → Plan Outcome) → Plan Outcome
+abbrev pub with_cursor : State → History → ℕ → (OpenQuery → Plan Outcome) → Plan Outcome
 with_cursor state at cursor on = with_query cursor at (query_at state cursor) on
 
 abbrev pub step : State → History → ℕ → Plan Outcome

@@ -6,7 +6,7 @@ use Rattle.im_syntax.specs.declared.bound.Bound.{Bound}
 use Rattle.im_replies.specs.declared.reply.Reply.{Reply}
 
 -- what a session keeps of an open cursor: its query, its view, and the next extent that a step serves
-pub record Query : Type 0 where
+pub record OpenQuery : Type 0 where
   pub cursor : ℕ
   pub bound : Bound
   pub view : View
@@ -14,29 +14,29 @@ pub record Query : Type 0 where
 
 -- what a session keeps between its lines
 pub record State : Type 0 where
-  pub queries : List Query
+  pub queries : List OpenQuery
 
 -- nothing
 abbrev pub fresh : State
 fresh = record { queries = [] }
 
 -- the query is that of a cursor of this number
-abbrev pub is_query : ℕ → Query → Bool
+abbrev pub is_query : ℕ → OpenQuery → Bool
 is_query cursor query = query.cursor == cursor
 
 -- the query of a cursor
-abbrev pub query_at : State → ℕ → Option Query
+abbrev pub query_at : State → ℕ → Option OpenQuery
 query_at state cursor = find (is_query cursor) state.queries
 
 -- what a line does to what its session keeps: nothing; a cursor is opened; its next extent was served; it is closed
 pub data Effect : Type 0 where
   Stays : Effect
-  Opens : Query → Effect
+  Opens : OpenQuery → Effect
   Steps : (cursor : ℕ) → Effect
   Closes : (cursor : ℕ) → Effect
 
 -- the query, once the next extent of a cursor was served
-abbrev pub stepped : ℕ → Query → Query
+abbrev pub stepped : ℕ → OpenQuery → OpenQuery
 stepped cursor query = if query.cursor == cursor then record query { next = query.next + 1 } else query
 
 -- what a session keeps after a line

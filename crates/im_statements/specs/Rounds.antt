@@ -7,10 +7,10 @@ use Rattle.im_plan.specs.Alone.{Played, may_lack, play_or_cut}
 use Rattle.im_plan.specs.Goes.{PlayedLine, Others}
 use Rattle.im_replies.specs.declared.reply.Reply.{Reply}
 use Rattle.im_syntax.specs.declared.statement.Stmt.{Stmt}
-use Rattle.im_statements.specs.Background.{Answered, OutOfRounds, Outcome, command_amends, command_plan}
+use Rattle.im_statements.specs.Background.{Answered, OutOfRounds, CommandOutcome, command_amends, command_plan}
 
 -- a line has come to its end in its rounds
-abbrev pub is_answered : Outcome → Bool
+abbrev pub is_answered : CommandOutcome → Bool
 is_answered (Answered reply builds) = true
 is_answered OutOfRounds = false
 
@@ -25,7 +25,7 @@ pub record Order : Type 0 where
   pub old : History
 
 -- what comes of it in so many rounds
-abbrev pub played_in : ℕ → Order → Played Outcome
+abbrev pub played_in : ℕ → Order → Played CommandOutcome
 played_in rounds order =
     play_or_cut order.who (command_amends order.who order.builds) order.lacked order.old
     (command_plan order.limits order.who rounds order.builds order.statement)

@@ -15,12 +15,12 @@ use Rattle.im_plan.specs.Goes.{After}
 use Rattle.im_plan.specs.Plan.{Plan}
 use Rattle.im_reach.specs.Sides.{Added, AreOthers, Known, Missed, StoreSide, missed, speaks}
 use Rattle.im_reach.proofs.RestLaws.{both-came, counted-logged, went-missed}
-use Rattle.im_statements.specs.Background.{Answered, Outcome, begin_next, with_choice}
+use Rattle.im_statements.specs.Background.{Answered, CommandOutcome, begin_next, with_choice}
 use Rattle.im_statements.specs.Turns.{memory_reply}
 use Rattle.im_worker.specs.Background.{Ready, tasks_of}
 use Rattle.im_worker.specs.Reads.{IsCounted, WentOn}
 use Rattle.im_core.specs.Answers.{task_rows}
-use Rattle.im_worker.specs.inner.Begun.{Began, IsIdle, IsJust, IsReady, Lacked, WasDropped}
+use Rattle.im_worker.specs.inner.Beginning.{Began, IsIdle, IsJust, IsReady, Lacked, WasDropped}
 use Rattle.im_worker.specs.inner.Rests.{IsRest, Went}
 use Rattle.im_worker.specs.inner.Standing.{Stands}
 use Rattle.im_worker.proofs.CountLemmas.{on-after, one-counted}
@@ -165,14 +165,14 @@ dropped-of who builds old mid read new task choice P mine lawful after legal sta
 -- ---- the line's plan
 
 -- the build began, and its unit is ready
-pub next-ready : (who k : ℕ) (builds : List Ready) (old new last : Known) (ready : Ready) (on : Task → Plan Outcome) (idle : Plan Outcome) (outcome : Outcome)
+pub next-ready : (who k : ℕ) (builds : List Ready) (old new last : Known) (ready : Ready) (on : Task → Plan CommandOutcome) (idle : Plan CommandOutcome) (outcome : CommandOutcome)
     → IsReady who builds old ready new → IsRest who (k + 1) (tasks_of builds) new (on ready.task) outcome last
     → IsRest who k (tasks_of builds) old (begin_next on idle) outcome last
 next-ready who k builds old new last ready on idle outcome is rest =
     rest-adds who k (tasks_of builds) old mid last (λ at. option_map (build_of at) (next at)) (build_of at choice) at
     (λ at. with_choice on idle at (next at)) outcome (record { after = is.began.after; now = refl })
     (ap (option_map (build_of at)) is.began.comes)
-    (subst (λ (p : Plan Outcome). IsRest who (k + 1) (tasks_of builds) mid p outcome last)
+    (subst (λ (p : Plan CommandOutcome). IsRest who (k + 1) (tasks_of builds) mid p outcome last)
     (sym (ap (with_choice on idle at) is.began.comes ∙ ap on (sym is.began.is)))
     (rest-went who (k + 1) (tasks_of builds) mid new last (on ready.task) outcome
     (record { after = is.began.later; now = counted-logged mid new is.now }) rest))
@@ -187,21 +187,21 @@ next-ready who k builds old new last ready on idle outcome is rest =
     mid = record old { log = behind at who (build_of at choice) }
 
 -- there was none
-pub next-idle : {place left : ℕ} (who k : ℕ) (builds : List Ready) (old new last : Known) (on : Task → Plan Outcome) (idle : Plan Outcome)
-    (outcome : Outcome) → IsIdle who builds place left old new
+pub next-idle : {place left : ℕ} (who k : ℕ) (builds : List Ready) (old new last : Known) (on : Task → Plan CommandOutcome) (idle : Plan CommandOutcome)
+    (outcome : CommandOutcome) → IsIdle who builds place left old new
     → IsRest who k (tasks_of builds) new idle outcome last → IsRest who k (tasks_of builds) old (begin_next on idle) outcome last
 next-idle who k builds old new last on idle outcome is rest =
     rest-nothing who k (tasks_of builds) old new last false (λ at. option_map (build_of at) (next at)) (λ at. with_choice on idle at (next at)) outcome is.went
     (ap (option_map (build_of new.log)) is.none)
-    (subst (λ (p : Plan Outcome). IsRest who k (tasks_of builds) new p outcome last) (sym (ap (with_choice on idle new.log) is.none)) rest)
+    (subst (λ (p : Plan CommandOutcome). IsRest who k (tasks_of builds) new p outcome last) (sym (ap (with_choice on idle new.log) is.none)) rest)
 
 -- memory lacked
-pub next-lacks : (who k : ℕ) (builds : List Ready) (old new : Known) (plan : Plan Outcome) → Lacked who builds old new
+pub next-lacks : (who k : ℕ) (builds : List Ready) (old new : Known) (plan : Plan CommandOutcome) → Lacked who builds old new
     → IsRest who k (tasks_of builds) old plan (Answered (memory_reply k) (tasks_of builds)) new
 next-lacks who k builds old new plan lacked = rest-lacks who k builds old new plan lacked.went lacked.stands
 
 -- and the build that had begun was cancelled
-pub next-dropped : (who k : ℕ) (builds : List Ready) (old new : Known) (on : Task → Plan Outcome) (idle : Plan Outcome) → IsLegal new.limits new.log
+pub next-dropped : (who k : ℕ) (builds : List Ready) (old new : Known) (on : Task → Plan CommandOutcome) (idle : Plan CommandOutcome) → IsLegal new.limits new.log
     → WasDropped who builds old new → IsRest who k (tasks_of builds) old (begin_next on idle) (Answered (memory_reply (k + 1)) (tasks_of builds)) new
 next-dropped who k builds old new on idle legal is =
     rest-adds who k (tasks_of builds) old mid new (λ at. option_map (build_of at) (next at)) (build_of at choice) at

@@ -9,9 +9,9 @@ use Rattle.im_plan.specs.Goes.{After}
 use Rattle.im_plan.specs.Plan.{Plan}
 use Rattle.im_reach.specs.Sides.{AreOthers, Known}
 use Rattle.im_reach.proofs.RestLaws.{rest-longer}
-use Rattle.im_statements.specs.Background.{Outcome}
+use Rattle.im_statements.specs.Background.{CommandOutcome}
 use Rattle.im_worker.specs.Reads.{AreBegun, IsCounted, Start, WentOn, rows_of_all}
-use Rattle.im_worker.specs.inner.Begun.{IsJust}
+use Rattle.im_worker.specs.inner.Beginning.{IsJust}
 use Rattle.im_worker.specs.inner.Rests.{IsEnded, IsRest, Went}
 use Rattle.im_worker.proofs.UnitLemmas.{rows-just}
 
@@ -44,7 +44,7 @@ pub on-ended : {who : ℕ} {task : Task} (old new : Known) (told : _) → IsEnde
 on-ended {who} old new told ended = on-added (AreOthers old.side) old.log ended.at new.log who _ ended.after (ap (λ (s : Known). s.log) ended.now)
 
 -- a line goes on from where it began
-pub on-rest : {who k : ℕ} {builds : List Task} (old new : Known) (plan : Plan Outcome) (outcome : Outcome) → IsRest who k builds old plan outcome new
+pub on-rest : {who k : ℕ} {builds : List Task} (old new : Known) (plan : Plan CommandOutcome) (outcome : CommandOutcome) → IsRest who k builds old plan outcome new
     → WentOn old.log new.log
 on-rest old new plan outcome rest = let longer = rest-longer old new plan outcome rest in record { more = longer.more; is = longer.log }
 

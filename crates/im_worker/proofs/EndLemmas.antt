@@ -17,7 +17,7 @@ use Rattle.im_plan.specs.Goes.{After}
 use Rattle.im_reach.specs.Sides.{AreOthers, IsSwitched, Known}
 use Rattle.im_replies.specs.declared.task.Ending.{Ending}
 use Rattle.im_replies.specs.declared.task.Ending.TheVariants as ending
-use Rattle.im_statements.specs.Background.{end_by, ending_by, fits}
+use Rattle.im_statements.specs.Background.{end_by, ending_by, fits_area}
 use Rattle.im_worker.specs.inner.Rests.{IsEnded, told_by}
 use Rattle.im_worker.proofs.StandingLaws.{content-later, legal-before, scn-own}
 
@@ -36,7 +36,7 @@ bytes-at old new who task bytes unit what at legal own holds is after now =
 
 -- the facts of an end, by whether something killed the build and whether its unit fits
 ended-by : (old new : Known) (who : ℕ) (task : Task) (at : History) (killed : Option ℕ) (fit : _) (told : Ending) → After (AreOthers old.side) old.log at
-    → new ≡ record old { log = behind at who (end_by task.id killed fit) } → killed_of (held_at at task.id) ≡ killed → fits old.limits at task ≡ fit
+    → new ≡ record old { log = behind at who (end_by task.id killed fit) } → killed_of (held_at at task.id) ≡ killed → fits_area old.limits at task ≡ fit
     → told ≡ ending_by old.limits who at task killed fit → IsEnded who old task told new
 ended-by old new who task at killed fit told after now killed_is fit_is told_is = record {
   at = at;
@@ -62,6 +62,6 @@ ended content old new who task (Cancelled place killed) bytes unit legal own hol
   after = added.after;
   now = added.now
       ∙ ap (λ (what : What). record old { log = behind added.at who what })
-      (sym (ap (λ (o : Option ℕ). end_by task.id o (fits old.limits added.at task)) added.fact.0));
-  told = sym (ap (λ (o : Option ℕ). ending_by old.limits who added.at task o (fits old.limits added.at task)) added.fact.0);
+      (sym (ap (λ (o : Option ℕ). end_by task.id o (fits_area old.limits added.at task)) added.fact.0));
+  told = sym (ap (λ (o : Option ℕ). ending_by old.limits who added.at task o (fits_area old.limits added.at task)) added.fact.0);
 }

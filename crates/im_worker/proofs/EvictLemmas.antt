@@ -19,7 +19,7 @@ use Rattle.im_reach.specs.Sides.{Found, Known, speaks}
 use Rattle.im_replies.specs.declared.body.Body.TheVariants as body
 use Rattle.im_replies.specs.declared.reply.Reply.{Reply}
 use Rattle.im_replies.specs.Causes.{name_fault}
-use Rattle.im_statements.specs.Background.{Answered, Outcome, evict, evict_found, nothing, said}
+use Rattle.im_statements.specs.Background.{Answered, CommandOutcome, evict, evict_found, nothing, said}
 use Rattle.im_syntax.specs.declared.statement.Stmt.{Stmt}
 use Rattle.im_values.specs.declared.schema.Column.{Column}
 use Rattle.im_worker.specs.Background.{Ready, tasks_of}
@@ -37,7 +37,7 @@ tables-seen : (who : ℕ) (look : Look) (old mid : Known) → Looks who look old
 tables-seen who look old mid found = ap (λ (l : Look). l.tables) found.fact ∙ ap (λ (s : Known). tables s.log) (sym found.now)
 
 -- the plan behind a name that was found
-abbrev by_extent : ℕ → List Task → Option (ℕ × ℕ) → Plan Outcome
+abbrev by_extent : ℕ → List Task → Option (ℕ × ℕ) → Plan CommandOutcome
 by_extent who builds None = nothing builds
 by_extent who builds (Some both) = evict who builds both.0 both.1
 
@@ -46,13 +46,13 @@ found-is who builds (resolved.Evict table extent) = refl
 found-is who builds _ = refl
 
 -- the line goes on from there
-pub named-on : (who : ℕ) (builds : List Ready) (look : Look) (stmt : Stmt) (answered : Result Resolved NameFault) (plan : Plan Outcome) (old mid new : Known)
+pub named-on : (who : ℕ) (builds : List Ready) (look : Look) (stmt : Stmt) (answered : Result Resolved NameFault) (plan : Plan CommandOutcome) (old mid new : Known)
     (reply : Reply) → Looks who look old mid → resolution look.tables stmt ≡ answered → evict_found who (tasks_of builds) answered ≡ plan
     → IsRun who plan builds mid reply builds new → IsRun who (evict_named who (tasks_of builds) stmt) builds old reply builds new
 named-on who builds look stmt answered plan old mid new reply found is plan_is run = record {
   rest = rest-nothing who 0 (tasks_of builds) old mid new false (λ at. None) (λ at. evict_found who (tasks_of builds) (resolution (tables at) stmt))
       (Answered reply (tasks_of builds)) (went-found old mid _ found) refl
-      (subst (λ (p : Plan Outcome). IsRest who 0 (tasks_of builds) mid p (Answered reply (tasks_of builds)) new)
+      (subst (λ (p : Plan CommandOutcome). IsRest who 0 (tasks_of builds) mid p (Answered reply (tasks_of builds)) new)
       (sym (ap (λ (ts : List TableInfo). evict_found who (tasks_of builds) (resolution ts stmt))
       (sym (tables-seen who look old mid found))
       ∙ (ap (evict_found who (tasks_of builds)) is ∙ plan_is))) run.rest);

@@ -11,7 +11,7 @@ use Rattle.im_history.specs.Leaves.{leaves}
 use Rattle.im_history.specs.Queue.{build_of}
 use Rattle.im_history.specs.Units.{held_at, killed_of}
 use Rattle.im_plan.specs.Goes.{After, Others}
-use Rattle.im_statements.specs.Background.{end_by, fits}
+use Rattle.im_statements.specs.Background.{end_by, fits_area}
 use Rattle.im_worker.specs.Work.{AddsBuilds, Apart, Built, Idled, IsIdleAt, IsOverAt, Lacked, Round, Worked, builds_begun, end_of, is_building, task_in}
 use Rattle.im_worker.proofs.CountLemmas.{on-after}
 use Rattle.im_worker.proofs.HoldingLaws.{same_number}
@@ -66,7 +66,7 @@ module _ (mine : ℕ → Bool) (who : ℕ) where
 
 ends-building : (limits : Limits) (at : History) (task : Task) (ready : Bool) → is_building (end_of limits at task ready) ≡ true
 ends-building limits at task false = refl
-ends-building limits at task true = by_end (killed_of (held_at at task.id)) (fits limits at task)
+ends-building limits at task true = by_end (killed_of (held_at at task.id)) (fits_area limits at task)
   where
     by_end : (killed : Option ℕ) (fit : Bool) → is_building (end_by task.id killed fit) ≡ true
     by_end (Some place) fit = refl

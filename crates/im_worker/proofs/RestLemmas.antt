@@ -13,7 +13,7 @@ use Rattle.im_reach.specs.Rests.{Counted, Onward}
 use Rattle.im_reach.specs.Sides.{Found, Known, speaks}
 use Rattle.im_reach.proofs.RestLaws.{keeps-counted}
 use Rattle.im_reach.proofs.RestLaws as laws
-use Rattle.im_statements.specs.Background.{Answered, Outcome, command_amends, stray}
+use Rattle.im_statements.specs.Background.{Answered, CommandOutcome, command_amends, stray}
 use Rattle.im_statements.specs.Turns.{memory_reply}
 use Rattle.im_worker.specs.Background.{Agrees, Kept, Ready, tasks_of}
 use Rattle.im_worker.specs.inner.Rests.{IsRest, Went}
@@ -48,30 +48,30 @@ stands-agrees kept now stands = record { builds = sym (append-nil (tasks_of kept
 -- ---- turns
 
 -- the line is at its end
-pub rest-end : (who k : ℕ) (builds : List Task) (old : Known) (plan : Plan Outcome) (outcome : Outcome) → plan ≡ End outcome
+pub rest-end : (who k : ℕ) (builds : List Task) (old : Known) (plan : Plan CommandOutcome) (outcome : CommandOutcome) → plan ≡ End outcome
     → IsRest who k builds old plan outcome old
 rest-end who k builds = laws.rest-end Counted keeps-counted who (command_amends who builds) k
 
 -- others came, and a call may have begun no build
-pub rest-went : (who k : ℕ) (builds : List Task) (old middle new : Known) (plan : Plan Outcome) (outcome : Outcome) → Went old middle
+pub rest-went : (who k : ℕ) (builds : List Task) (old middle new : Known) (plan : Plan CommandOutcome) (outcome : CommandOutcome) → Went old middle
     → IsRest who k builds middle plan outcome new → IsRest who k builds old plan outcome new
 rest-went who k builds = laws.rest-went Counted keeps-counted who (command_amends who builds) k
 
 -- a turn that added nothing
 pub rest-nothing : (who k : ℕ) (builds : List Task) (old middle new : Known) (decides : Bool) (adds : History → Option What)
-    (on : History → Plan Outcome) (outcome : Outcome) → Went old middle → adds middle.log ≡ None
+    (on : History → Plan CommandOutcome) (outcome : CommandOutcome) → Went old middle → adds middle.log ≡ None
     → IsRest who k builds middle (on middle.log) outcome new → IsRest who k builds old (Turn decides adds on) outcome new
 rest-nothing who k builds = laws.rest-nothing Counted keeps-counted who (command_amends who builds) k
 
 -- a turn whose entry was made, and that does not decide
 pub rest-adds : (who k : ℕ) (builds : List Task) (old middle new : Known) (adds : History → Option What) (what : What) (at : History)
-    (on : History → Plan Outcome) (outcome : Outcome) → Onward who old middle what at → adds at ≡ Some what
+    (on : History → Plan CommandOutcome) (outcome : CommandOutcome) → Onward who old middle what at → adds at ≡ Some what
     → IsRest who (k + 1) builds middle (on at) outcome new → IsRest who k builds old (Turn false adds on) outcome new
 rest-adds who k builds = laws.rest-adds Counted keeps-counted who (command_amends who builds) k
 
 -- a turn whose entry was made, behind which the line is at its end
 pub rest-last : (who k : ℕ) (builds : List Task) (old new : Known) (decides : Bool) (adds : History → Option What) (what : What) (at : History)
-    (on : History → Plan Outcome) (outcome : Outcome) → Onward who old new what at → adds at ≡ Some what → on at ≡ End outcome
+    (on : History → Plan CommandOutcome) (outcome : CommandOutcome) → Onward who old new what at → adds at ≡ Some what → on at ≡ End outcome
     → IsRest who k builds old (Turn decides adds on) outcome new
 rest-last who k builds = laws.rest-last Counted keeps-counted who (command_amends who builds) k
 
@@ -81,11 +81,11 @@ rest-last who k builds = laws.rest-last Counted keeps-counted who (command_amend
 abbrev cancels : ℕ → List Task → History → Option What
 cancels who builds at = option_map (λ (held : Held). Cancel held.task.id false) (stray at who builds)
 
-abbrev out : ℕ → List Task → Outcome
+abbrev out : ℕ → List Task → CommandOutcome
 out k builds = Answered (memory_reply k) builds
 
 -- all builds that are not ended are held
-pub rest-lacks : (who k : ℕ) (builds : List Ready) (old new : Known) (plan : Plan Outcome) → Went old new → Stands who builds [] new.log
+pub rest-lacks : (who k : ℕ) (builds : List Ready) (old new : Known) (plan : Plan CommandOutcome) → Went old new → Stands who builds [] new.log
     → IsRest who k (tasks_of builds) old plan (Answered (memory_reply k) (tasks_of builds)) new
 rest-lacks who k builds old new plan went stands =
     laws.rest-lacks Counted keeps-counted who (command_amends who (tasks_of builds)) k old new plan (out k (tasks_of builds))
@@ -94,7 +94,7 @@ rest-lacks who k builds old new plan went stands =
     (laws.decided-end Counted keeps-counted who new (End (out k (tasks_of builds))) (out k (tasks_of builds)) refl))
 
 -- the build that began last is not, and it was cancelled
-pub rest-drops : (who k : ℕ) (builds : List Ready) (task : Task) (old new : Known) (last : History) (plan : Plan Outcome)
+pub rest-drops : (who k : ℕ) (builds : List Ready) (task : Task) (old new : Known) (last : History) (plan : Plan CommandOutcome)
     → Onward who old new (Cancel task.id false) last → IsLegal new.limits new.log → Stands who builds (task ∷ []) last
     → IsRest who k (tasks_of builds) old plan (Answered (memory_reply k) (tasks_of builds)) new
 rest-drops who k builds task old new last plan onward legal stands =

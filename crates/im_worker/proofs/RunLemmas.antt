@@ -30,14 +30,14 @@ use Rattle.im_replies.specs.declared.task.Ending.{Ending}
 use Rattle.im_replies.specs.declared.task.Ending.TheVariants as ending
 use Rattle.im_replies.specs.declared.aim.Aim.TheVariants as aim
 use Rattle.im_replies.specs.Causes.{fault_of}
-use Rattle.im_statements.specs.Background.{Answered, Outcome, answer_with, begin, built_of, cancel, command_plan, drop_all, end_by, ending_by, evict, evicted, finish, fits, run, said, switch, trickle}
+use Rattle.im_statements.specs.Background.{Answered, CommandOutcome, answer_with, begin, built_of, cancel, command_plan, drop_all, end_by, ending_by, evict, evicted, finish, fits_area, run, said, switch, trickle}
 use Rattle.im_statements.specs.Turns.{memory_reply, unless_refused}
-use Rattle.im_worker.specs.Background.{Agrees, IsPlayed, Kept, Ready, tasks_of}
+use Rattle.im_worker.specs.Background.{Agrees, IsCommandPlayed, Kept, Ready, tasks_of}
 use Rattle.im_worker.specs.Reads.{IsCounted}
 use Rattle.im_syntax.specs.declared.statement.Stmt.{Stmt}
 use Rattle.im_syntax.specs.declared.statement.Stmt.TheVariants as stmt
 use Rattle.im_worker.proofs.CountLemmas.{none-counted, on-rest}
-use Rattle.im_worker.specs.inner.Begun.{IsIdle, IsReady, Lacked, WasDropped}
+use Rattle.im_worker.specs.inner.Beginning.{IsIdle, IsReady, Lacked, WasDropped}
 use Rattle.im_worker.specs.inner.Rests.{Cancels, IsEnded, IsRest, Went}
 use Rattle.im_worker.specs.inner.Running.{IsCommand, IsDropping, IsLast, IsRan, IsRound, IsRun, IsRunning, WereDropped, evict_named}
 use Rattle.im_worker.specs.inner.Standing.{Stands}
@@ -47,18 +47,18 @@ use Rattle.im_worker.proofs.RestLemmas.{limits-same, rest-adds, rest-end, rest-l
 use Rattle.im_worker.proofs.StandingLaws.{ends, stands-after, stands-finished, stands-held, stands-oldest, stands-plain}
 
 -- the reply of a line that is settled at no place
-abbrev pub told : Body → List Ready → Outcome
+abbrev pub told : Body → List Ready → CommandOutcome
 told body builds = Answered (said body) (tasks_of builds)
 
 -- ---- lines that do nothing
 
-pub run-ends : (who : ℕ) (builds : List Ready) (old : Known) (plan : Plan Outcome) (reply : Reply) → plan ≡ End (Answered reply (tasks_of builds))
+pub run-ends : (who : ℕ) (builds : List Ready) (old : Known) (plan : Plan CommandOutcome) (reply : Reply) → plan ≡ End (Answered reply (tasks_of builds))
     → Stands who builds [] old.log → IsRun who plan builds old reply builds old
 run-ends who builds old plan reply is stands =
     record { rest = rest-end who 0 (tasks_of builds) old plan (Answered reply (tasks_of builds)) is; stands = stands }
 
 -- memory lacked before the line made an entry
-pub run-lacks : (who : ℕ) (builds : List Ready) (old new : Known) (P : History → Type 0) (plan : Plan Outcome) → speaks old.side who ≡ true
+pub run-lacks : (who : ℕ) (builds : List Ready) (old new : Known) (P : History → Type 0) (plan : Plan CommandOutcome) → speaks old.side who ≡ true
     → IsLawful new.limits new.log → Stands who builds [] old.log → Found old new P → IsRun who plan builds old (memory_reply 0) builds new
 run-lacks who builds old new P plan mine lawful stands found = record {
   rest = rest-lacks who 0 builds old new plan (went-found old new P found) now;
@@ -68,7 +68,7 @@ run-lacks who builds old new P plan mine lawful stands found = record {
     now : Stands who builds [] new.log
     now = stands-went old new who builds [] mine lawful (went-found old new P found) stands
 
-pub run-lacks_here : (who : ℕ) (builds : List Ready) (old : Known) (plan : Plan Outcome) → Stands who builds [] old.log
+pub run-lacks_here : (who : ℕ) (builds : List Ready) (old : Known) (plan : Plan CommandOutcome) → Stands who builds [] old.log
     → IsRun who plan builds old (memory_reply 0) builds old
 run-lacks_here who builds old plan stands = record { rest = rest-lacks who 0 builds old old plan (went-here old) stands; stands = stands }
 
@@ -145,10 +145,10 @@ evicted-not who table extent builds old new refused mine lawful stands found = e
   }
 ]
   where
-    plan : Plan Outcome
+    plan : Plan CommandOutcome
     plan = evict who (tasks_of builds) table extent
 
-    outcome : Outcome
+    outcome : CommandOutcome
     outcome = told (body.Error (fault_of (aim.Evicting table extent) refused.why)) builds
 
     went : Went old new
@@ -196,7 +196,7 @@ ends-by id None false = same_number id id refl
 
 -- what ended a build
 abbrev ended_by : Limits → Task → History → What
-ended_by limits task at = end_by task.id (killed_of (held_at at task.id)) (fits limits at task)
+ended_by limits task at = end_by task.id (killed_of (held_at at task.id)) (fits_area limits at task)
 
 pub switched-run : (who : ℕ) (first : Ready) (rest : List Ready) (old new : Known) (ending : Ending) → speaks old.side who ≡ true
     → IsLawful new.limits new.log → Stands who (first ∷ rest) [] old.log → IsEnded who old first.task ending new
@@ -205,10 +205,10 @@ switched-run who first rest old new ending mine lawful stands ended = record {
   rest = rest-last who 0 (tasks_of (first ∷ rest)) old new true
       (λ at. Some (ended_by old.limits first.task at)) (ended_by old.limits first.task ended.at) ended.at
       (λ at. answer_with (tasks_of rest)
-      (body.Ended (ending_by old.limits who at first.task (killed_of (held_at at first.task.id)) (fits old.limits at first.task))))
+      (body.Ended (ending_by old.limits who at first.task (killed_of (held_at at first.task.id)) (fits_area old.limits at first.task))))
       (told (body.Ended ending) rest) onward refl (ap (λ (e : Ending). answer_with (tasks_of rest) (body.Ended e)) (sym ended.told));
   stands = stands-without who first rest old new (ended_by old.limits first.task ended.at) ended.at mine lawful
-      (ends-by first.task.id (killed_of (held_at ended.at first.task.id)) (fits old.limits ended.at first.task)) stands onward;
+      (ends-by first.task.id (killed_of (held_at ended.at first.task.id)) (fits_area old.limits ended.at first.task)) stands onward;
 }
   where
     onward : Onward who old new (ended_by old.limits first.task ended.at) ended.at
@@ -255,7 +255,7 @@ begin-dropped who builds old new lawful is = record {
 -- ---- RUN
 
 -- builds that ended before, and what is still to come
-abbrev on_end : Limits → ℕ → List Task → ℕ → List (Built × Ending) → Task → Plan Outcome
+abbrev on_end : Limits → ℕ → List Task → ℕ → List (Built × Ending) → Task → Plan CommandOutcome
 on_end limits who tasks rounds so_far task = finish false limits who task (λ end. run limits who tasks rounds (so_far ++ (built_of task, end) ∷ []))
 
 length-more : (so_far : List (Built × Ending)) (one : Built × Ending) → length (so_far ++ one ∷ []) ≡ length so_far + 1
@@ -268,7 +268,7 @@ pub stands-ended : (who : ℕ) (builds : List Ready) (mid new : Known) (task : T
 stands-ended who builds mid new task ending mine lawful stands ended =
     subst (Stands who builds []) (sym log_is)
     (stands-finished new.limits ended.at who (ended_by mid.limits task ended.at) builds task legal
-    (ends-by task.id (killed_of (held_at ended.at task.id)) (fits mid.limits ended.at task))
+    (ends-by task.id (killed_of (held_at ended.at task.id)) (fits_area mid.limits ended.at task))
     (stands-after new.limits mid.side who builds (task ∷ []) mid.log ended.at mine
     (IsLegal-pop new.limits ended.at (record { who = who; what = ended_by mid.limits task ended.at }) legal).0 ended.after stands))
   where
@@ -289,7 +289,7 @@ round-goes who builds so_far old mid new ready ending mine lawful is ended = rec
       (ended_by old.limits ready.task ended.at) ended.at
       (λ at. run old.limits who (tasks_of builds) rounds
       (so_far
-      ++ (built_of ready.task, ending_by old.limits who at ready.task (killed_of (held_at at ready.task.id)) (fits old.limits at ready.task)) ∷ [])) outcome
+      ++ (built_of ready.task, ending_by old.limits who at ready.task (killed_of (held_at at ready.task.id)) (fits_area old.limits at ready.task)) ∷ [])) outcome
       (record {
         after = ended.after;
         now = ended.now
@@ -314,12 +314,12 @@ round-goes who builds so_far old mid new ready ending mine lawful is ended = rec
     side_is = ap (λ (s : Known). s.side) is.now
 
     told_end : Ending
-    told_end = ending_by old.limits who ended.at ready.task (killed_of (held_at ended.at ready.task.id)) (fits old.limits ended.at ready.task)
+    told_end = ending_by old.limits who ended.at ready.task (killed_of (held_at ended.at ready.task.id)) (fits_area old.limits ended.at ready.task)
 
     told_is : ending ≡ told_end
     told_is = ended.told
         ∙ ap (λ (limits : Limits). ending_by limits who ended.at ready.task
-        (killed_of (held_at ended.at ready.task.id)) (fits limits ended.at ready.task)) limits_are
+        (killed_of (held_at ended.at ready.task.id)) (fits_area limits ended.at ready.task)) limits_are
 
     count : 2 * length (so_far ++ (built_of ready.task, ending) ∷ []) ≡ 2 * length so_far + 1 + 1
     count = let longer = length-more so_far (built_of ready.task, ending) in omega (arith, longer)
@@ -446,7 +446,7 @@ dropping-ends who before old now dropping = record {
 -- ---- as the calls say it
 
 -- what is said is this
-pub run-told : (who : ℕ) (plan : Plan Outcome) (before : List Ready) (old : Known) (told_so reply : Reply) (after : List Ready) (new : Known)
+pub run-told : (who : ℕ) (plan : Plan CommandOutcome) (before : List Ready) (old : Known) (told_so reply : Reply) (after : List Ready) (new : Known)
     → reply ≡ told_so → IsRun who plan before old told_so after new → IsRun who plan before old reply after new
 run-told who plan before old told_so reply after new is run = rw is run
 
@@ -474,7 +474,7 @@ commanded who rounds statement same before old reply after new is run = record {
 
 -- it was played by the background that held these builds
 pub played-by : (statement : Stmt) (before after : Kept) (old new : Known) (reply : Reply) → after.who ≡ before.who
-    → IsCommand before.who statement before.builds old reply after.builds new → IsPlayed statement before old reply after new
+    → IsCommand before.who statement before.builds old reply after.builds new → IsCommandPlayed statement before old reply after new
 played-by statement before after old new reply same command = record {
   same = same;
   known = command.is_run.rest.kept;
@@ -488,7 +488,7 @@ agrees-by statement before after old new reply same command =
     stands-agrees after new (subst (λ (who : ℕ). Stands who after.builds [] new.log) (sym same) command.is_run.stands)
 
 -- a line that begins no build reads nothing
-pub run-counted : (who steps : ℕ) (plan : Plan Outcome) (before : List Ready) (old : Known) (reply : Reply) (after : List Ready) (new : Known)
+pub run-counted : (who steps : ℕ) (plan : Plan CommandOutcome) (before : List Ready) (old : Known) (reply : Reply) (after : List Ready) (new : Known)
     → IsRun who plan before old reply after new → IsCounted who steps steps old.log new.log
 run-counted who steps plan before old reply after new run =
     none-counted who steps steps old new (on-rest old new plan (Answered reply (tasks_of after)) run.rest) (omega arith)

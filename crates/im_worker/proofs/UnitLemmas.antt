@@ -30,7 +30,7 @@ use Rattle.im_history.proofs.RowLaws.{each_history, rows-append}
 use Rattle.im_history.proofs.UnitLaws.{is_plain}
 use Rattle.im_reach.specs.Sides.{Found, Known, speaks}
 use Rattle.im_worker.proofs.RestLemmas.{went-found}
-use Rattle.im_worker.specs.inner.Begun.{IsGiven, IsJust}
+use Rattle.im_worker.specs.inner.Beginning.{IsGiven, IsJust}
 use Rattle.im_worker.specs.inner.Good.{content_from, nones}
 use Rattle.im_worker.specs.inner.Rests.{Went}
 use Rattle.im_worker.proofs.HoldingLaws.{are_numbered, killed-task, killed-who, other_number, same_number}

@@ -23,13 +23,13 @@ use Rattle.im_reach.specs.Rests.{Counted}
 use Rattle.im_reach.specs.Sides.{AreOthers, Known, StoreSide, missed, speaks}
 use Rattle.im_reach.proofs.RestLaws.{Mine, both-came, counted-logged, here, keeps-counted, others-of}
 use Rattle.im_replies.specs.declared.task.Ending.{Ending}
-use Rattle.im_statements.specs.Background.{end_by, fits}
+use Rattle.im_statements.specs.Background.{end_by, fits_area}
 use Rattle.im_worker.specs.declared.work.Ended.TheVariants as ended
-use Rattle.im_worker.specs.declared.work.Tally.{Tally}
+use Rattle.im_worker.specs.declared.work.Progress.{Progress}
 use Rattle.im_worker.specs.Background.{Ready, builds_of, tasks_of}
 use Rattle.im_worker.specs.Reads.{WentOn}
 use Rattle.im_worker.specs.Work.{Built, Idled, IsIdleAt, IsRise, Lacked, Piece, Round, Total, Worked, builds_begun, end_of, is_build, is_over, task_in, total_of, with_round}
-use Rattle.im_worker.specs.inner.Begun.{IsIdle, IsReady, Lacked as LackedAt, WasDropped}
+use Rattle.im_worker.specs.inner.Beginning.{IsIdle, IsReady, Lacked as LackedAt, WasDropped}
 use Rattle.im_worker.specs.inner.Rests.{IsEnded}
 use Rattle.im_worker.specs.inner.Standing.{Stands}
 use Rattle.im_worker.specs.inner.Working.{HasEnded, IsNoted, IsOver, IsRound, IsWorking, misses_by, noted}
@@ -132,7 +132,7 @@ begun-one h who what b is =
 
 ends-no_build : (limits : Limits) (at : History) (task : Task) (ready : Bool) → is_build (end_of limits at task ready) ≡ false
 ends-no_build limits at task false = refl
-ends-no_build limits at task true = by_end (killed_of (held_at at task.id)) (fits limits at task)
+ends-no_build limits at task true = by_end (killed_of (held_at at task.id)) (fits_area limits at task)
   where
     by_end : (killed : Option ℕ) (fit : Bool) → is_build (end_by task.id killed fit) ≡ false
     by_end (Some place) fit = refl
@@ -213,7 +213,7 @@ round-built who builds piece old new mine ends stands = record {
     log_is = ap (λ (s : Known). s.log) ends.now
 
 -- its unit was ready
-pub round-ended : (who sessions : ℕ) (builds : List Ready) (before after : Tally) (old mid new : Known) (ready : Ready) (ending : Ending)
+pub round-ended : (who sessions : ℕ) (builds : List Ready) (before after : Progress) (old mid new : Known) (ready : Ready) (ending : Ending)
     → speaks old.side who ≡ true → IsLawful new.limits new.log → after ≡ record before { left = before.left - 3 } → IsReady who builds old ready mid
     → IsEnded who mid ready.task ending new → IsNoted who sessions builds before after old new
 round-ended who sessions builds before after old mid new ready ending mine lawful is ready_is ends = record {
@@ -241,7 +241,7 @@ round-ended who sessions builds before after old mid new ready ending mine lawfu
     side_is = ap (λ (s : Known). s.side) ready_is.now
 
 -- it was not
-pub round-dropped : (who sessions : ℕ) (builds : List Ready) (before after : Tally) (old new : Known) → speaks old.side who ≡ true
+pub round-dropped : (who sessions : ℕ) (builds : List Ready) (before after : Progress) (old new : Known) → speaks old.side who ≡ true
     → after ≡ record before { left = before.left - 3 } → WasDropped who builds old new → IsNoted who sessions builds before after old new
 round-dropped who sessions builds before after old new mine is dropped = record {
   round = Built piece;
@@ -272,7 +272,7 @@ round-idled who builds old new mine idle = record {
 }
 
 -- none came next
-pub round-idle : (who sessions : ℕ) (builds : List Ready) (before after : Tally) (place left : ℕ) (old new : Known) → speaks old.side who ≡ true
+pub round-idle : (who sessions : ℕ) (builds : List Ready) (before after : Progress) (place left : ℕ) (old new : Known) → speaks old.side who ≡ true
     → (left ≡ sessions → ⊥) → after ≡ record before { left = before.left - 1; idle = Some place } → IsIdle who builds place left old new
     → IsNoted who sessions builds before after old new
 round-idle who sessions builds before after place left old new mine more is idle = record {
@@ -292,7 +292,7 @@ round-over who sessions builds place left old new mine all idle = record {
 }
 
 -- memory was out
-pub round-lacked : (who sessions : ℕ) (builds : List Ready) (before after : Tally) (old new : Known) → speaks old.side who ≡ true
+pub round-lacked : (who sessions : ℕ) (builds : List Ready) (before after : Progress) (old new : Known) → speaks old.side who ≡ true
     → after ≡ record before { left = before.left - 1; lacks = before.lacks + 1 } → LackedAt who builds old new
     → IsNoted who sessions builds before after old new
 round-lacked who sessions builds before after old new mine is lacked = record {
@@ -387,7 +387,7 @@ rise-round total (Lacked at) old mid new rise is = subst (IsRise (total.misses +
 
 -- ---- the job on its way
 
-pub working-none : (who turns sessions : ℕ) (builds : List Ready) (old : Known) (tally : Tally) → tally ≡ record { left = turns; lacks = 0; idle = None }
+pub working-none : (who turns sessions : ℕ) (builds : List Ready) (old : Known) (tally : Progress) → tally ≡ record { left = turns; lacks = 0; idle = None }
     → Stands who builds [] old.log → IsWorking who turns sessions builds old tally old
 unfolding total_of
 working-none who turns sessions builds old tally is stands = rw is (record {
@@ -407,14 +407,14 @@ working-none who turns sessions builds old tally is stands = rw is (record {
 })
 
 -- the tally of a round more
-record Notes (turns : ℕ) (total : Total) (tally : Tally) : Type 0 where
+record Notes (turns : ℕ) (total : Total) (tally : Progress) : Type 0 where
   pub left : tally.left ≡ turns - total.turns
   pub few : total.turns ≤ turns + 2
   pub lacks : tally.lacks ≡ total.lacks
   pub room : tally.lacks + tally.left ≤ turns
   pub idle : tally.idle ≡ total.idle
 
-notes-next : (turns : ℕ) (total : Total) (tally : Tally) (round : Round) → 0 < tally.left → Notes turns total tally
+notes-next : (turns : ℕ) (total : Total) (tally : Progress) (round : Round) → 0 < tally.left → Notes turns total tally
     → Notes turns (with_round total round) (noted round tally)
 notes-next turns total tally (Built piece) some notes = record {
   left = let left = notes.left in omega (arith, left);
@@ -438,7 +438,7 @@ notes-next turns total tally (Lacked at) some notes = record {
   idle = notes.idle;
 }
 
-notes-of : {who turns sessions : ℕ} {builds : List Ready} {old now : Known} {tally : Tally} → (working : IsWorking who turns sessions builds old tally now)
+notes-of : {who turns sessions : ℕ} {builds : List Ready} {old now : Known} {tally : Progress} → (working : IsWorking who turns sessions builds old tally now)
     → Notes turns (total_of working.rounds) tally
 notes-of working = record { left = working.left; few = working.few; lacks = working.lacks; room = working.room; idle = working.idle }
 
@@ -464,7 +464,7 @@ idle-stays who builds None old mid new on so = tt
 idle-stays who builds (Some place) old mid new on so = λ none. idle-later who place old mid new on (so none)
 
 -- and behind a round
-idle-round : (who : ℕ) (builds : List Ready) (tally : Tally) (round : Round) (old : History) (mid new : Known) → IsRound who builds round mid new
+idle-round : (who : ℕ) (builds : List Ready) (tally : Progress) (round : Round) (old : History) (mid new : Known) → IsRound who builds round mid new
     → WentOn old mid.log → IfSome tally.idle (λ place. builds ≡ [] → IsIdleAt who place old mid.log)
     → IfSome (noted round tally).idle (λ place. builds ≡ [] → IsIdleAt who place old new.log)
 idle-round who builds tally (Built piece) old mid new is on so =
@@ -497,7 +497,7 @@ not_over-more sessions rounds round before now =
     list_any-append (is_over sessions) rounds (round ∷ []) ∙ ap₂ (λ (a b : Bool). a || (b || false)) before now
 
 -- one round more
-pub working-next : (who turns sessions : ℕ) (builds : List Ready) (old mid new : Known) (before after : Tally) → 0 < before.left
+pub working-next : (who turns sessions : ℕ) (builds : List Ready) (old mid new : Known) (before after : Progress) → 0 < before.left
     → IsWorking who turns sessions builds old before mid → IsNoted who sessions builds before after mid new
     → IsWorking who turns sessions builds old after new
 working-next who turns sessions builds old mid new before after some working is = record {
@@ -508,7 +508,7 @@ working-next who turns sessions builds old mid new before after some working is 
       (rise-round (total_of working.rounds) is.round old.misses mid.misses new.misses working.misses is.is_round.misses);
   begun = subst (λ (t : Total). builds_begun new.log who ≡ builds_begun old.log who + t.builds) total_is
       (begun-more who builds (total_of working.rounds) is.round old mid new is.is_round working.begun);
-  idle_at = subst (λ (t : Tally). IfSome t.idle (λ place. builds ≡ [] → IsIdleAt who place old.log new.log)) (sym is.noted_so)
+  idle_at = subst (λ (t : Progress). IfSome t.idle (λ place. builds ≡ [] → IsIdleAt who place old.log new.log)) (sym is.noted_so)
       (idle-round who builds before is.round old.log mid new is.is_round
       (on-worked _ old.limits who working.rounds old.log mid.log working.worked) working.idle_at);
   left = notes.left;
@@ -524,12 +524,12 @@ working-next who turns sessions builds old mid new before after some working is 
     total_is = sym (total-push working.rounds is.round)
 
     notes : Notes turns (total_of (working.rounds ++ is.round ∷ [])) after
-    notes = subst (λ (t : Tally). Notes turns (total_of (working.rounds ++ is.round ∷ [])) t) (sym is.noted_so)
+    notes = subst (λ (t : Progress). Notes turns (total_of (working.rounds ++ is.round ∷ [])) t) (sym is.noted_so)
         (subst (λ (t : Total). Notes turns t (noted is.round before)) total_is
         (notes-next turns (total_of working.rounds) before is.round some (notes-of working)))
 
 -- all turns were made
-pub working-spent : (who turns sessions : ℕ) (builds : List Ready) (old new : Known) (tally : Tally) → tally.left ≡ 0
+pub working-spent : (who turns sessions : ℕ) (builds : List Ready) (old new : Known) (tally : Progress) → tally.left ≡ 0
     → IsWorking who turns sessions builds old tally new → HasEnded who turns sessions builds old (ended.Spent tally.lacks tally.idle) new
 working-spent who turns sessions builds old new tally none working = record {
   worked = record {
@@ -574,7 +574,7 @@ working-spent who turns sessions builds old new tally none working = record {
     idle-told who builds (Some place) old new empty so = so empty
 
 -- the job is over
-pub working-over : (who turns sessions : ℕ) (builds : List Ready) (old mid new : Known) (tally : Tally) (place : ℕ) → 0 < tally.left
+pub working-over : (who turns sessions : ℕ) (builds : List Ready) (old mid new : Known) (tally : Progress) (place : ℕ) → 0 < tally.left
     → IsWorking who turns sessions builds old tally mid → IsOver who sessions builds place mid new
     → HasEnded who turns sessions builds old (ended.Over place) new
 working-over who turns sessions builds old mid new tally place some working is = record {
@@ -606,6 +606,6 @@ working-over who turns sessions builds old mid new tally place some working is =
     begun = let left = working.left in omega (arith, left, some)
 
 -- a round may lack memory once more
-pub working-room : (who turns sessions : ℕ) (builds : List Ready) (old mid : Known) (tally : Tally) → 0 < tally.left
+pub working-room : (who turns sessions : ℕ) (builds : List Ready) (old mid : Known) (tally : Progress) → 0 < tally.left
     → IsWorking who turns sessions builds old tally mid → tally.lacks + 1 ≤ turns
 working-room who turns sessions builds old mid tally some working = let room = working.room in omega (arith, room, some)

@@ -38,7 +38,7 @@ pub record Agrees (kept : Kept) (now : Known) : Type 0 where
 
 -- the background played a line: it went by the plan of its statement, whatever others did meanwhile, or ran out of memory and was
 -- amended; and it keeps the builds that are held then. RUN came to its end in so many rounds
-pub record IsPlayed (statement : Stmt) (before : Kept) (old : Known) (reply : Reply) (after : Kept) (new : Known) : Type 0 where
+pub record IsCommandPlayed (statement : Stmt) (before : Kept) (old : Known) (reply : Reply) (after : Kept) (new : Known) : Type 0 where
   pub same : after.who ≡ before.who
   pub known : new ≡ record old { log = new.log; misses = new.misses }
   pub rounds : ℕ

@@ -13,7 +13,7 @@ use Rattle.im_history.specs.Queue.{build_of, next, task_of}
 use Rattle.im_history.specs.Units.{held_at, killed_of}
 use Rattle.im_plan.specs.Goes.{After, Others}
 use Rattle.im_reach.specs.Sides.{Known, speaks}
-use Rattle.im_statements.specs.Background.{end_by, fits}
+use Rattle.im_statements.specs.Background.{end_by, fits_area}
 use Rattle.im_worker.specs.Background.{builds_of}
 use Rattle.im_worker.specs.declared.work.Ended.{Ended}
 use Rattle.im_worker.specs.declared.work.Ended.TheVariants as ended
@@ -34,7 +34,7 @@ task_in piece = task_of piece.began piece.choice
 
 -- the entry that ends a build: where its unit was made that of SWITCH, else a Cancel
 abbrev pub end_of : Limits → History → Task → Bool → What
-end_of limits at task true = end_by task.id (killed_of (held_at at task.id)) (fits limits at task)
+end_of limits at task true = end_by task.id (killed_of (held_at at task.id)) (fits_area limits at task)
 end_of limits at task false = Cancel task.id false
 
 -- a round of a worker: a build began and ended; none came next, at this history; or memory was out before one began, at this history
@@ -125,7 +125,7 @@ pub record IsOverAt (who sessions place : ℕ) (old new : History) : Type 0 wher
   pub left : leaves (take place new) ≡ sessions
 
 -- all turns were made: so many builds began, with three turns each, and in so many turns none began
-pub record IsSpent (who turns lacks : ℕ) (idle : Option ℕ) (old new : Known) : Type 0 where
+pub record AreTurnsMade (who turns lacks : ℕ) (idle : Option ℕ) (old new : Known) : Type 0 where
   pub builds : ℕ
   pub misses : ℕ
   pub begun : builds_begun new.log who ≡ builds_begun old.log who + builds

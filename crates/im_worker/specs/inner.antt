@@ -1,4 +1,4 @@
-pub mod Begun
+pub mod Beginning
 pub mod Good
 pub mod Rests
 pub mod Running

@@ -1,9 +1,9 @@
 ghost use Rattle.std.specs.Prelude.{◌≡◌, ◌<◌, [], true, IfSome};
 ghost use Rattle.im_reach.specs.Sides.{speaks};
 ghost use Rattle.im_syntax.specs.Rules.{IsStmt};
-ghost use Rattle.im_worker.specs.Background.{Agrees, IsDropped, IsPlayed};
+ghost use Rattle.im_worker.specs.Background.{Agrees, IsDropped, IsCommandPlayed};
 ghost use Rattle.im_worker.specs.Reads.{IsCounted};
-ghost use Rattle.im_worker.specs.Work.{HasWorked, IfOver, IfSpent, IsIdleAt, IsOverAt, IsSpent};
+ghost use Rattle.im_worker.specs.Work.{HasWorked, IfOver, IfSpent, IsIdleAt, IsOverAt, AreTurnsMade};
 ghost use Rattle.im_worker.specs.inner.Running.{IsCommand, WereDropped};
 ghost use Rattle.im_worker.specs.inner.Standing.{Stands};
 
@@ -67,7 +67,7 @@ impl Background {
         requires speaks { speaks (H.known reach.old).side self.old.who ≡ true }
         requires statement { IsStmt statement.now }
         requires agrees { Agrees self.old (H.known reach.old) }
-        ensures played { IsPlayed statement.now self.old (H.known reach.old) result self.new (H.known reach.new) }
+        ensures played { IsCommandPlayed statement.now self.old (H.known reach.old) result self.new (H.known reach.new) }
         ensures agrees { Agrees self.new (H.known reach.new) }
         ensures ticks { IsCounted self.old.who steps.old steps.new (H.known reach.old).log (H.known reach.new).log }
     {
@@ -100,7 +100,7 @@ impl Background {
         ensures worked { HasWorked self.old.who turns sessions (H.known reach.old) result (H.known reach.new) }
         ensures over { IfOver result (λ place.
             IsOverAt self.old.who sessions place (H.known reach.old).log (H.known reach.new).log) }
-        ensures spent { IfSpent result (λ lacks idle. IsSpent self.old.who turns lacks idle (H.known reach.old) (H.known reach.new)) }
+        ensures spent { IfSpent result (λ lacks idle. AreTurnsMade self.old.who turns lacks idle (H.known reach.old) (H.known reach.new)) }
         ensures idle { IfSpent result (λ lacks idle. IfSome idle (λ place.
             IsIdleAt self.old.who place (H.known reach.old).log (H.known reach.new).log)) }
         ensures same { self.new ≡ self.old }

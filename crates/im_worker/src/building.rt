@@ -5,7 +5,7 @@ ghost use Rattle.im_history.specs.Legal.{IsLawful};
 ghost use Rattle.im_history.specs.Units.{task_content};
 ghost use Rattle.im_reach.specs.Sides.{speaks};
 ghost use Rattle.im_worker.specs.Reads.{IsCounted};
-ghost use Rattle.im_worker.specs.inner.Begun.{IsBegun, IsJust};
+ghost use Rattle.im_worker.specs.inner.Beginning.{IsBegun, IsJust};
 ghost use Rattle.im_worker.specs.inner.Good.{content_from};
 ghost use Rattle.im_worker.specs.inner.Rests.{Went};
 ghost use Rattle.im_worker.specs.inner.Standing.{Stands};
@@ -26,7 +26,7 @@ use std::sync::{Arc, Wait};
 
 /// What comes of beginning the build that comes next.
 #[derive(Drop)]
-pub enum Begun {
+pub enum Beginning {
     /// It began, and its unit is ready.
     Ready(Build),
     /// There was none.
@@ -88,7 +88,7 @@ pub fn begin_next<R: Wait, H: Reach<ColumnUnit>, G, L: Ledger>(
     who: u32,
     held: &VecDeque<Build>,
     steps: &mut Steps<L>,
-) -> Begun
+) -> Beginning
     requires session { who < NUMBERS }
     requires speaks { speaks (H.known reach.old).side who ≡ true }
     requires stands { Stands who held.now.items [] (H.known reach.old).log }
@@ -97,17 +97,17 @@ pub fn begin_next<R: Wait, H: Reach<ColumnUnit>, G, L: Ledger>(
     ensures ticks { IsCounted who steps.old steps.new (H.known reach.old).log (H.known reach.new).log }
 {
     let Ok(offer) = reach.build(outside.rt, who) else {
-        return Begun::Lacks;
+        return Beginning::Lacks;
     };
     let task = match offer {
         Offer::Task(task) => task,
-        Offer::Idle { place, left } => return Begun::Idle { place, left },
+        Offer::Idle { place, left } => return Beginning::Idle { place, left },
     };
     match unit_of(outside, reach, who, &task, steps) {
-        Some(unit) => Begun::Ready(Build { task, unit }),
+        Some(unit) => Beginning::Ready(Build { task, unit }),
         None => {
             reach.cancel(outside.rt, who, task);
-            Begun::Dropped
+            Beginning::Dropped
         }
     }
 }

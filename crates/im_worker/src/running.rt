@@ -5,7 +5,7 @@ ghost use Rattle.im_worker.specs.Reads.{IsCounted};
 ghost use Rattle.im_worker.specs.inner.Running.{IsRan, IsTurn};
 ghost use Rattle.im_worker.specs.inner.Standing.{Stands};
 
-use crate::building::{Begun, begin_next};
+use crate::building::{Beginning, begin_next};
 use crate::ending::end_build;
 use crate::held::Build;
 use crate::replies::{built_of, out_of_memory};
@@ -48,18 +48,18 @@ fn round<R: Wait, H: Reach<ColumnUnit>, G: Gate, L: Ledger>(
         return Some(out_of_memory(outside.alloc, entries));
     }
     match begin_next(outside, reach, who, held, steps) {
-        Begun::Ready(build) => {
+        Beginning::Ready(build) => {
             let built = built_of(&build.task);
             let ending = end_build(outside, reach, who, build);
             ran.push_reserved((built, ending));
             None
         }
-        Begun::Idle { .. } => {
+        Beginning::Idle { .. } => {
             let all = replace(ran, Vec::new(outside.alloc));
             Some(Reply::plain(outside.alloc, Body::Ran(List::of(all))))
         }
-        Begun::Lacks => Some(out_of_memory(outside.alloc, entries)),
-        Begun::Dropped => Some(out_of_memory(outside.alloc, entries + 1)),
+        Beginning::Lacks => Some(out_of_memory(outside.alloc, entries)),
+        Beginning::Dropped => Some(out_of_memory(outside.alloc, entries + 1)),
     }
 }
 

@@ -9,7 +9,7 @@ ghost use Rattle.im_worker.specs.inner.Running as inner;
 ghost use Rattle.im_worker.specs.inner.Running.{IsRun, evict_named};
 ghost use Rattle.im_worker.specs.inner.Standing.{Stands};
 
-use crate::building::{Begun, begin_next};
+use crate::building::{Beginning, begin_next};
 use crate::ending::{cancel_build, end_build};
 use crate::held::Build;
 use crate::replies::{built_of, out_of_memory};
@@ -44,14 +44,14 @@ pub fn begin<R: Wait, H: Reach<ColumnUnit>, G, L: Ledger>(
         return out_of_memory(outside.alloc, 0);
     }
     match begin_next(outside, reach, who, held, steps) {
-        Begun::Ready(build) => {
+        Beginning::Ready(build) => {
             let built = built_of(&build.task);
             held.push_back_reserved(build);
             Reply::plain(outside.alloc, Body::Build(built))
         }
-        Begun::Idle { .. } => Reply::plain(outside.alloc, Body::Idle),
-        Begun::Lacks => out_of_memory(outside.alloc, 0),
-        Begun::Dropped => out_of_memory(outside.alloc, 1),
+        Beginning::Idle { .. } => Reply::plain(outside.alloc, Body::Idle),
+        Beginning::Lacks => out_of_memory(outside.alloc, 0),
+        Beginning::Dropped => out_of_memory(outside.alloc, 1),
     }
 }
 

@@ -4,7 +4,7 @@ ghost use Rattle.im_worker.specs.Reads.{IsCounted};
 ghost use Rattle.im_worker.specs.inner.Standing.{Stands};
 ghost use Rattle.im_worker.specs.inner.Working.{HasEnded, IsAround};
 
-use crate::building::{Begun, begin_next};
+use crate::building::{Beginning, begin_next};
 use crate::ending::end_build;
 use crate::held::Build;
 use im_edge::{Gate, Outside};
@@ -37,13 +37,13 @@ pub enum Ended {
 
 /// How many turns of a job are left, and what was met in those that were made.
 #[derive(Clone, Copy)]
-pub struct Tally {
+pub struct Progress {
     pub left: u64,
     pub lacks: u64,
     pub idle: Option<u64>,
 }
 
-impl Tally {
+impl Progress {
     /// A build began and ended: three turns, or those that were left.
     fn note_build(&mut self)
         ensures { self.new ≡ record self.old { left = self.old.left - 3 } }
@@ -83,7 +83,7 @@ fn round<R: Wait, H: Reach<ColumnUnit>, G: Gate, L: Ledger>(
     who: u32,
     held: &VecDeque<Build>,
     sessions: u32,
-    tally: &mut Tally,
+    tally: &mut Progress,
     steps: &mut Steps<L>,
 ) -> Option<u64>
     requires session { who < NUMBERS }
@@ -94,12 +94,12 @@ fn round<R: Wait, H: Reach<ColumnUnit>, G: Gate, L: Ledger>(
     ensures ticks { IsCounted who steps.old steps.new (H.known reach.old).log (H.known reach.new).log }
 {
     match begin_next(outside, reach, who, held, steps) {
-        Begun::Ready(build) => {
+        Beginning::Ready(build) => {
             end_build(outside, reach, who, build);
             tally.note_build();
             None
         }
-        Begun::Idle { place, left } => {
+        Beginning::Idle { place, left } => {
             if left == sessions {
                 return Some(place);
             }
@@ -107,12 +107,12 @@ fn round<R: Wait, H: Reach<ColumnUnit>, G: Gate, L: Ledger>(
             pause(outside.rt);
             None
         }
-        Begun::Lacks => {
+        Beginning::Lacks => {
             tally.note_lack();
             pause(outside.rt);
             None
         }
-        Begun::Dropped => {
+        Beginning::Dropped => {
             tally.note_build();
             pause(outside.rt);
             None
@@ -136,7 +136,7 @@ pub fn job<R: Wait, H: Reach<ColumnUnit>, G: Gate, L: Ledger>(
     ensures ended { HasEnded who turns sessions held.now.items (H.known reach.old) result (H.known reach.new) }
     ensures ticks { IsCounted who steps.old steps.new (H.known reach.old).log (H.known reach.new).log }
 {
-    let mut tally = Tally {
+    let mut tally = Progress {
         left: turns,
         lacks: 0,
         idle: None,

@@ -1,6 +1,6 @@
 ghost use Rattle.std.specs.Prelude.{◌≡◌, ◌<◌, ◌≤◌, Some, length};
 ghost use Rattle.im_edge.specs.Faults.{Rose};
-ghost use Rattle.im_edge.specs.Source.{IsInRoom, Reads, IfReadFailed};
+ghost use Rattle.im_edge.specs.Source.{IsInRoom, HandsOut, IfReadFailed};
 ghost use Rattle.im_edge.specs.FromMemory.{answer_to_read, after_read};
 
 use crate::calls::Calls;
@@ -72,7 +72,7 @@ impl Source for MemSource {
         ensures answer { result ≡ answer_to_read self.old (length buf.old) }
         ensures after { self.new ≡ after_read self.old result }
         ensures count { IsInRoom result (length buf.old) }
-        ensures content { Reads result buf.new (Some self.old.left) (Some self.new.left) }
+        ensures content { HandsOut result buf.new (Some self.old.left) (Some self.new.left) }
         ensures cause { IfReadFailed result (Rose self.old.faults self.new.faults) }
         ensures later { self.old.faults ≤ self.new.faults }
     {

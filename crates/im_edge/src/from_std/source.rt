@@ -2,7 +2,7 @@ ghost use Rattle.std.specs.Prelude.{◌≡◌, ◌<◌, ◌≤◌, None, length,
 ghost use Rattle.std.specs.Io.KnownBytes.{Consumes, IsAtEnd, Keeps};
 ghost use Rattle.im_edge.specs.Faults.{Rose};
 ghost use Rattle.im_edge.specs.FromStd.{PassesOn, faults_after_read};
-ghost use Rattle.im_edge.specs.Source.{IsInRoom, Reads, IfReadFailed};
+ghost use Rattle.im_edge.specs.Source.{IsInRoom, HandsOut, IfReadFailed};
 
 use super::retry::lasting;
 use crate::source::{Got, Source};
@@ -46,7 +46,7 @@ impl<R: Read> Source for StdSource<R> {
         requires room { 0 < length buf.old }
         ensures passed_on { PassesOn result buf.new (R.remaining self.old.adapted) (R.remaining self.new.adapted) }
         ensures count { IsInRoom result (length buf.old) }
-        ensures content { Reads result buf.new None None }
+        ensures content { HandsOut result buf.new None None }
         ensures counted { self.new.faults ≡ faults_after_read result self.old.faults }
         ensures cause { IfReadFailed result (Rose self.old.faults self.new.faults) }
         ensures later { self.old.faults ≤ self.new.faults }

@@ -1,9 +1,9 @@
 -- Replies of sessions, put into the order of their lines.
 use Rattle.std.specs.Prelude.{ℕ, zero, suc, ◌≤◌, Bool, true, false, List, [], ◌∷◌, ◌++◌, drop, Option, Some, None, slice_index_or, slice_set, ⊤}
-use Rattle.im_play.specs.Requests.{settled_reply}
+use Rattle.im_play.specs.Requests.{unasked_reply}
 use Rattle.im_race.specs.declared.job.Done.{Done}
-use Rattle.im_race.specs.declared.job.Outcome.{Outcome}
-use Rattle.im_race.specs.declared.job.Outcome.TheVariants as outcome
+use Rattle.im_race.specs.declared.job.JobOutcome.{JobOutcome}
+use Rattle.im_race.specs.declared.job.JobOutcome.TheVariants as outcome
 use Rattle.im_race.specs.Jobs.{Answer}
 use Rattle.im_replies.specs.declared.body.Body.TheVariants as body
 use Rattle.im_replies.specs.declared.reply.Reply.{Reply}
@@ -19,7 +19,7 @@ no_replies zero = []
 no_replies (suc left) = [] ∷ no_replies left
 
 -- the replies of sessions by their numbers, with those that came of a job
-abbrev pub with_replies : List (List Reply) → ℕ → Outcome → List (List Reply)
+abbrev pub with_replies : List (List Reply) → ℕ → JobOutcome → List (List Reply)
 with_replies replies who (outcome.Replies of_job) = slice_set replies who of_job
 with_replies replies who (outcome.Ended ended) = replies
 with_replies replies who outcome.NoMemory = replies
@@ -28,7 +28,7 @@ abbrev pub replies_after : List (List Reply) → Done → List (List Reply)
 replies_after replies done = with_replies replies done.who done.outcome
 
 -- how workers ended, with what came of a job
-abbrev pub with_end : List Ended → Outcome → List Ended
+abbrev pub with_end : List Ended → JobOutcome → List Ended
 with_end ends (outcome.Replies of_job) = ends
 with_end ends (outcome.Ended ended) = ends ++ ended ∷ []
 with_end ends outcome.NoMemory = ends
@@ -37,13 +37,13 @@ abbrev pub ends_after : List Ended → Done → List Ended
 ends_after ends done = with_end ends done.outcome
 
 -- memory did not lack
-abbrev pub is_whole : Outcome → Bool
+abbrev pub is_whole : JobOutcome → Bool
 is_whole (outcome.Replies of_job) = true
 is_whole (outcome.Ended ended) = true
 is_whole outcome.NoMemory = false
 
 -- replies are those of a session
-abbrev pub IsOfSession : ℕ → Outcome → Type 0
+abbrev pub IsOfSession : ℕ → JobOutcome → Type 0
 IsOfSession who (outcome.Replies of_job) = who ≤ SESSIONS
 IsOfSession who (outcome.Ended ended) = ⊤
 IsOfSession who outcome.NoMemory = ⊤
@@ -61,14 +61,14 @@ or_nothing (Some reply) = reply
 or_nothing None = record { place = None; marks = []; body = body.Nothing }
 
 -- the first of these replies
-abbrev pub first_of : List Reply → Option Reply
-first_of [] = None
-first_of (reply ∷ replies) = Some reply
+abbrev pub first_reply : List Reply → Option Reply
+first_reply [] = None
+first_reply (reply ∷ replies) = Some reply
 
 -- the reply to a line: the next one of the session that speaks in it, or the one that the line has by its kind
 abbrev pub reply_by : List (List Reply) → Option ℕ → Line → Reply
-reply_by replies None line = or_nothing (settled_reply line.kind)
-reply_by replies (Some who) line = or_nothing (first_of (slice_index_or replies who []))
+reply_by replies None line = or_nothing (unasked_reply line.kind)
+reply_by replies (Some who) line = or_nothing (first_reply (slice_index_or replies who []))
 
 -- the replies that are left behind it
 abbrev pub left_by : List (List Reply) → Option ℕ → List (List Reply)

@@ -6,11 +6,11 @@ use Rattle.im_history.specs.Leaves.{has_left}
 use Rattle.im_play.specs.Requests.{demand_of, script_limits}
 use Rattle.im_race.specs.declared.job.Done.{Done}
 use Rattle.im_race.specs.declared.job.Job.{Job}
-use Rattle.im_race.specs.declared.job.Outcome.{Outcome}
-use Rattle.im_race.specs.declared.job.Outcome.TheVariants as outcome
+use Rattle.im_race.specs.declared.job.JobOutcome.{JobOutcome}
+use Rattle.im_race.specs.declared.job.JobOutcome.TheVariants as outcome
 use Rattle.im_race.specs.declared.job.Player.{Player}
 use Rattle.im_race.specs.declared.job.Player.TheVariants as player
-use Rattle.im_race.specs.Jobs.{Answer, HasPlayed, Plays, Worker}
+use Rattle.im_race.specs.Jobs.{Answer, HasPlayed, PlaysDemand, Worker}
 use Rattle.im_race.specs.Lines.{speaks_in}
 use Rattle.im_replies.specs.declared.reply.Reply.{Reply}
 use Rattle.im_script.specs.declared.line.Line.{Line}
@@ -26,7 +26,7 @@ use Rattle.im_worker.specs.Background.{builds_of}
 abbrev pub PlaysAll : ℕ → ℕ → State → History → List Answer → State → History → Type 0
 PlaysAll area who state old [] kept new = (kept ≡ state) × (new ≡ old)
 PlaysAll area who state old (answer ∷ answers) kept new =
-    (between : State) × (at : History) × Plays who state old answer.reply (demand_of area answer.line) between at
+    (between : State) × (at : History) × PlaysDemand who state old answer.reply (demand_of area answer.line) between at
     × PlaysAll area who between at answers kept new
 
 -- a session played those of these lines in which it speaks, with these replies
@@ -71,19 +71,19 @@ IsFrom sessions who (player.Session session) =
 IsFrom sessions who player.Worker = SESSIONS < who
 
 -- what came of the job of a session, from the history `old` to the history `new`
-abbrev pub CameOfSession : ℕ → List Line → ℕ → Kept → History → Outcome → History → Type 0
+abbrev pub CameOfSession : ℕ → List Line → ℕ → Kept → History → JobOutcome → History → Type 0
 CameOfSession area lines who session old (outcome.Replies replies) new = HasEnded area who (state_of session.cursors) old lines replies new
 CameOfSession area lines who session old (outcome.Ended ended) new = ⊥
 CameOfSession area lines who session old outcome.NoMemory new = ⊤
 
 -- and of a worker
-abbrev pub CameOfWorker : ℕ → ℕ → ℕ → ℕ → History → Outcome → History → Type 0
+abbrev pub CameOfWorker : ℕ → ℕ → ℕ → ℕ → History → JobOutcome → History → Type 0
 CameOfWorker area turns sessions who old (outcome.Replies replies) new = ⊥
 CameOfWorker area turns sessions who old (outcome.Ended ended) new = Worker (script_limits area) turns sessions who old ended new
 CameOfWorker area turns sessions who old outcome.NoMemory new = ⊥
 
 -- and of either
-abbrev pub CameOf : ℕ → ℕ → ℕ → List Line → ℕ → Player → History → Outcome → History → Type 0
+abbrev pub CameOf : ℕ → ℕ → ℕ → List Line → ℕ → Player → History → JobOutcome → History → Type 0
 CameOf area turns sessions lines who (player.Session session) old came new = CameOfSession area lines who session old came new
 CameOf area turns sessions lines who player.Worker old came new = CameOfWorker area turns sessions who old came new
 

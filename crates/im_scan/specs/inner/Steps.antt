@@ -8,7 +8,7 @@ use Rattle.im_history.specs.declared.view.View.{View}
 use Rattle.im_history.specs.Rows.{Row}
 use Rattle.im_history.specs.Units.{Content}
 use Rattle.im_group.specs.Partials.{Numbered}
-use Rattle.im_scan.specs.Parts.{unit_row}
+use Rattle.im_scan.specs.Parts.{row_in_unit}
 use Rattle.im_scan.specs.declared.faces.Face.{Face}
 use Rattle.im_scan.specs.declared.faces.Face.TheVariants.{Whole, Bare}
 
@@ -23,7 +23,7 @@ lent slots = map option_copied slots
 
 -- what a unit has at so many row numbers from the first on
 abbrev pub unit_rows : Option Content → ℕ → ℕ → List (Option Row)
-unit_rows unit first count = map (unit_row unit) (range_with_len first count)
+unit_rows unit first count = map (row_in_unit unit) (range_with_len first count)
 
 -- rows from the first row number on, once a row is put at a row number, if it is one of theirs
 abbrev pub put_at : ℕ → List (Option Row) → ℕ → Option Row → List (Option Row)

@@ -14,7 +14,7 @@ use Rattle.im_session.specs.declared.cursor.Cursor.{Cursor}
 use Rattle.im_session.specs.Cursors.{IsSound, query_of}
 use Rattle.im_session.specs.inner.Scans.{IsScan}
 use Rattle.im_statements.specs.Cursors.{step_reply}
-use Rattle.im_statements.specs.Outcomes.{Closes, Opens, Outcome, Query, Replied, Steps, said}
+use Rattle.im_statements.specs.Outcomes.{Closes, Opens, Outcome, OpenQuery, Replied, Steps, said}
 use Rattle.im_statements.specs.Turns.{memory_reply}
 use Rattle.im_syntax.specs.declared.bound.Bound.{Bound}
 
@@ -52,7 +52,7 @@ fetch_outcome cursor reply true = Replied reply (Closes cursor)
 fetch_outcome cursor reply false = said reply
 
 -- the query, once an extent was served or was not
-abbrev pub query_after : Bool → Query → Query
+abbrev pub query_after : Bool → OpenQuery → OpenQuery
 query_after true query = record query { next = query.next + 1 }
 query_after false query = query
 

@@ -13,10 +13,10 @@ use Rattle.im_reach.specs.Rests as sides
 use Rattle.im_reach.specs.Sides.{AreOthers, Known}
 use Rattle.im_replies.specs.declared.task.Ending.{Ending}
 use Rattle.im_replies.specs.declared.task.Ending.TheVariants as ending
-use Rattle.im_statements.specs.Background.{Outcome, command_amends, end_by, ending_by, fits}
+use Rattle.im_statements.specs.Background.{CommandOutcome, command_amends, end_by, ending_by, fits_area}
 
 -- k entries of the line having been made, it goes by this plan to its outcome; these builds were held before it
-abbrev pub IsRest : ℕ → ℕ → List Task → Known → Plan Outcome → Outcome → Known → Type 0
+abbrev pub IsRest : ℕ → ℕ → List Task → Known → Plan CommandOutcome → CommandOutcome → Known → Type 0
 IsRest who k builds old plan outcome new = sides.IsRest Counted who (command_amends who builds) k old plan outcome new
 
 -- others alone went on, and a call may have begun no build
@@ -27,8 +27,8 @@ Went old new = sides.Went Counted old new
 pub record IsEnded (who : ℕ) (old : Known) (task : Task) (ending : Ending) (new : Known) : Type 0 where
   pub at : History
   pub after : After (AreOthers old.side) old.log at
-  pub now : new ≡ record old { log = behind at who (end_by task.id (killed_of (held_at at task.id)) (fits old.limits at task)) }
-  pub told : ending ≡ ending_by old.limits who at task (killed_of (held_at at task.id)) (fits old.limits at task)
+  pub now : new ≡ record old { log = behind at who (end_by task.id (killed_of (held_at at task.id)) (fits_area old.limits at task)) }
+  pub told : ending ≡ ending_by old.limits who at task (killed_of (held_at at task.id)) (fits_area old.limits at task)
 
 -- what is said of a build of this number, whose unit counts for so many bytes, after a switch
 abbrev pub told_by : {U : Type 0} → ℕ → ℕ → Switched U → Ending

@@ -13,19 +13,19 @@ use Rattle.im_reach.specs.Sides.{Known, speaks}
 use Rattle.im_replies.specs.declared.reply.Reply.{Reply}
 use Rattle.im_replies.specs.declared.task.Built.{Built}
 use Rattle.im_replies.specs.declared.task.Ending.{Ending}
-use Rattle.im_statements.specs.Background.{Answered, Outcome, command_plan, drop_all, evict_found, run}
+use Rattle.im_statements.specs.Background.{Answered, CommandOutcome, command_plan, drop_all, evict_found, run}
 use Rattle.im_syntax.specs.declared.statement.Stmt.{Stmt}
 use Rattle.im_worker.specs.Background.{Ready, tasks_of}
 use Rattle.im_worker.specs.inner.Rests.{IsRest}
 use Rattle.im_worker.specs.inner.Standing.{Stands}
 
 -- the line went by this plan, and these builds are held then
-pub record IsRun (who : ℕ) (plan : Plan Outcome) (before : List Ready) (old : Known) (reply : Reply) (after : List Ready) (new : Known) : Type 0 where
+pub record IsRun (who : ℕ) (plan : Plan CommandOutcome) (before : List Ready) (old : Known) (reply : Reply) (after : List Ready) (new : Known) : Type 0 where
   pub rest : IsRest who 0 (tasks_of before) old plan (Answered reply (tasks_of after)) new
   pub stands : Stands who after [] new.log
 
 -- EVICT, the table's name being looked up first
-abbrev pub evict_named : ℕ → List Task → Stmt → Plan Outcome
+abbrev pub evict_named : ℕ → List Task → Stmt → Plan CommandOutcome
 evict_named who builds statement = Turn false (λ at. None) (λ at. evict_found who builds (resolution (tables at) statement))
 
 -- the extent that is to be evicted, where it is an EVICT
@@ -55,7 +55,7 @@ pub record IsLast (who : ℕ) (builds : List Ready) (so_far : List (Built × End
 -- a round of RUN: whatever the rest comes to in so many rounds, the whole comes to in one more
 pub record IsRound (who : ℕ) (builds : List Ready) (so_far now_far : List (Built × Ending)) (old new : Known) : Type 0 where
   pub onward :
-      (rounds : ℕ) (outcome : Outcome) (last : Known)
+      (rounds : ℕ) (outcome : CommandOutcome) (last : Known)
       → IsRest who (2 * length now_far) (tasks_of builds) new (run old.limits who (tasks_of builds) rounds now_far) outcome last
       → IsRest who (2 * length so_far) (tasks_of builds) old (run old.limits who (tasks_of builds) (suc rounds) so_far) outcome last
   pub kept : Counted old new
@@ -69,7 +69,7 @@ IsTurn who builds so_far now_far old None new = IsRound who builds so_far now_fa
 -- RUN so far: whatever its rest comes to in so many rounds, the whole comes to
 pub record IsRunning (who : ℕ) (builds : List Ready) (so_far : List (Built × Ending)) (old now : Known) : Type 0 where
   pub onward :
-      (rounds : ℕ) (outcome : Outcome) (last : Known)
+      (rounds : ℕ) (outcome : CommandOutcome) (last : Known)
       → IsRest who (2 * length so_far) (tasks_of builds) now (run old.limits who (tasks_of builds) rounds so_far) outcome last
       → IsRest who 0 (tasks_of builds) old (run old.limits who (tasks_of builds) (length so_far + rounds) []) outcome last
   pub kept : Counted old now

@@ -7,13 +7,13 @@ use Rattle.im_plan.specs.Goes.{Others}
 use Rattle.im_reach.specs.Rests.{Counted}
 use Rattle.im_reach.specs.Sides.{Known, missed, speaks}
 use Rattle.im_worker.specs.declared.work.Ended.{Ended}
-use Rattle.im_worker.specs.declared.work.Tally.{Tally}
+use Rattle.im_worker.specs.declared.work.Progress.{Progress}
 use Rattle.im_worker.specs.Background.{Ready}
-use Rattle.im_worker.specs.Work.{Built, HasWorked, Idled, IfOver, IfSpent, IsIdleAt, IsOverAt, IsRise, IsSpent, Lacked, Round, Worked, builds_begun, is_over, total_of}
+use Rattle.im_worker.specs.Work.{Built, HasWorked, Idled, IfOver, IfSpent, IsIdleAt, IsOverAt, IsRise, AreTurnsMade, Lacked, Round, Worked, builds_begun, is_over, total_of}
 use Rattle.im_worker.specs.inner.Standing.{Stands}
 
 -- the tally behind a round
-abbrev pub noted : Round → Tally → Tally
+abbrev pub noted : Round → Progress → Progress
 noted (Built piece) tally = record tally { left = tally.left - 3 }
 noted (Idled at) tally = record tally { left = tally.left - 1; idle = Some (length at) }
 noted (Lacked at) tally = record tally { left = tally.left - 1; lacks = tally.lacks + 1 }
@@ -46,7 +46,7 @@ pub record IsRound (who : ℕ) (builds : List Ready) (round : Round) (old new : 
   pub stands : Stands who builds [] new.log
 
 -- a round behind which the job goes on
-pub record IsNoted (who sessions : ℕ) (builds : List Ready) (before after : Tally) (old new : Known) : Type 0 where
+pub record IsNoted (who sessions : ℕ) (builds : List Ready) (before after : Progress) (old new : Known) : Type 0 where
   pub round : Round
   pub is_round : IsRound who builds round old new
   pub noted_so : after ≡ noted round before
@@ -58,12 +58,12 @@ pub record IsOver (who sessions : ℕ) (builds : List Ready) (place : ℕ) (old 
   pub left : leaves new.log ≡ sessions
   pub place_is : place ≡ length new.log
 
-abbrev pub IsAround : ℕ → ℕ → List Ready → Tally → Tally → Known → Option ℕ → Known → Type 0
+abbrev pub IsAround : ℕ → ℕ → List Ready → Progress → Progress → Known → Option ℕ → Known → Type 0
 IsAround who sessions builds before after old (Some place) new = IsOver who sessions builds place old new
 IsAround who sessions builds before after old None new = IsNoted who sessions builds before after old new
 
 -- the rounds so far, and the tally of them
-pub record IsWorking (who turns sessions : ℕ) (builds : List Ready) (old : Known) (tally : Tally) (now : Known) : Type 0 where
+pub record IsWorking (who turns sessions : ℕ) (builds : List Ready) (old : Known) (tally : Progress) (now : Known) : Type 0 where
   pub rounds : List Round
   pub kept : Counted old now
   pub worked : Worked (Others (speaks old.side)) old.limits who rounds old.log now.log
@@ -82,6 +82,6 @@ pub record IsWorking (who turns sessions : ℕ) (builds : List Ready) (old : Kno
 pub record HasEnded (who turns sessions : ℕ) (builds : List Ready) (old : Known) (ended : Ended) (new : Known) : Type 0 where
   pub worked : HasWorked who turns sessions old ended new
   pub over : builds ≡ [] → IfOver ended (λ place. IsOverAt who sessions place old.log new.log)
-  pub spent : IfSpent ended (λ lacks idle. IsSpent who turns lacks idle old new)
+  pub spent : IfSpent ended (λ lacks idle. AreTurnsMade who turns lacks idle old new)
   pub idle : builds ≡ [] → IfSpent ended (λ lacks idle. IfSome idle (λ place. IsIdleAt who place old.log new.log))
   pub stands : Stands who builds [] new.log

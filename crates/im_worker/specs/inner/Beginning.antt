@@ -11,8 +11,8 @@ use Rattle.im_history.specs.Queue.{build_of, next, task_of}
 use Rattle.im_history.specs.Units.{held_at, task_content}
 use Rattle.im_plan.specs.Goes.{After}
 use Rattle.im_reach.specs.Sides.{AreOthers, Known, missed}
-use Rattle.im_worker.specs.declared.building.Begun.{Begun}
-use Rattle.im_worker.specs.declared.building.Begun.TheVariants as begun
+use Rattle.im_worker.specs.declared.building.Beginning.{Beginning}
+use Rattle.im_worker.specs.declared.building.Beginning.TheVariants as begun
 use Rattle.im_worker.specs.Background.{Ready}
 use Rattle.im_worker.specs.inner.Rests.{Went}
 use Rattle.im_worker.specs.inner.Standing.{Stands}
@@ -65,7 +65,7 @@ pub record WasDropped (who : ℕ) (builds : List Ready) (old new : Known) : Type
   pub left : Stands who builds (task ∷ []) last
   pub stands : Stands who builds [] new.log
 
-abbrev pub IsBegun : ℕ → List Ready → Known → Begun → Known → Type 0
+abbrev pub IsBegun : ℕ → List Ready → Known → Beginning → Known → Type 0
 IsBegun who builds old (begun.Ready ready) new = IsReady who builds old ready new
 IsBegun who builds old (begun.Idle place left) new = IsIdle who builds place left old new
 IsBegun who builds old begun.Lacks new = Lacked who builds old new
