@@ -1,8 +1,8 @@
 -- The sessions of a script as a list: one of them plays a statement, and the others stay as they were.
-use Rattle.std.proofs.Common.{◌≡◌, ℕ, zero, suc, ◌+◌, ◌<◌, ◌≤◌, ◌==◌, false, All, List, [], ◌∷◌, ◌++◌, length, map, Some, refl, sym, ap, ◌∙◌, subst, arith, append-nil, append_assoc}
+use Rattle.std.proofs.Common.{◌≡◌, ℕ, zero, suc, ◌+◌, ◌<◌, ◌≤◌, ◌==◌, false, All, List, [], ◌∷◌, ◌++◌, length, map, Some, refl, sym, ap, ◌∙◌, subst, arith, append_assoc}
 use Rattle.std.specs.Prelude.{slice_get, slice_index_or, slice_set}
 use Rattle.std.proofs.lemmas.Bool.Decides.{nat_tests}
-use Rattle.std.proofs.lemmas.List.Elements.{All-append, All-nil, All-weaker}
+use Rattle.std.proofs.lemmas.List.Elements.{All-append, All-weaker}
 use Rattle.std.proofs.lemmas.Option.{slice_get_within}
 use Rattle.im_history.specs.declared.entry.Entry.{Entry}
 use Rattle.im_history.specs.declared.limits.Limits.{Limits}
@@ -12,6 +12,7 @@ use Rattle.im_history.specs.Legal.{IsLawful}
 use Rattle.im_plan.specs.Goes.{PlayedLine as Whole, Nobody}
 use Rattle.im_plan.proofs.AloneLaws.{line_alone as line-machine}
 use Rattle.im_reach.specs.Sides.{Known, sole, speaks}
+use Rattle.im_reach.proofs.RestLaws.{nobody-came}
 use Rattle.im_replies.specs.declared.reply.Reply.{Reply}
 use Rattle.im_session.specs.Reads.{IsCounted, reading_of}
 use Rattle.im_session.specs.Sessions.{Agrees, IsStatementPlayed, Kept, state_of}
@@ -138,11 +139,7 @@ holding-new kept now who agrees = record {
   who = who;
   at = now.log;
   agrees = record { builds = agrees.builds; ready = agrees.ready; own = agrees.own };
-  after = record {
-    between = [];
-    lawful = record { alone = λ alone. refl; apart = All-nil (λ (entry : Entry). speaks background_side entry.who ≡ false) };
-    log = sym (append-nil now.log);
-  };
+  after = nobody-came background_side now.log;
 }
 
 -- ---- a session plays a statement

@@ -15,7 +15,7 @@ use Rattle.im_plan.specs.Goes.{After, Goes, Others}
 use Rattle.im_plan.specs.Plan.{Plan, End, Turn, made}
 use Rattle.im_plan.proofs.GoesLaws.{after-after, others-go_on}
 use Rattle.im_reach.specs.Sides.{Added, Found, Known, StoreSide, speaks}
-use Rattle.im_reach.proofs.RestLaws.{nobody-came, others-of}
+use Rattle.im_reach.proofs.RestLaws.{here, others-of}
 use Rattle.im_session.specs.declared.cursor.Cursor.{Cursor}
 use Rattle.im_session.specs.Cursors.{query_of}
 use Rattle.im_session.specs.Ends.{IsEnded, close_all, close_each, end_plan, end_without_leave, open_numbers, placed, rising, roll_back_open}
@@ -202,7 +202,7 @@ leads-look who old adds on is = record {
   known = refl;
   goes = λ late goes. (
     old.log,
-    others-of old.side old.log old.log (nobody-came old.side old.log),
+    here old.side old.log,
     subst (λ (h : History). Goes (Others (speaks old.side)) who h (on old.log) tt late)
         (sym (ap (λ (w : Option What). old.log ++ made who w) is ∙ append-nil old.log)) goes,
   );
@@ -319,7 +319,7 @@ module _ (who : ℕ) (cursors : List Cursor) (old closed now : Known) (mine : sp
   ends-here new plan leads = record {
     known = leads.known;
     goes = leads.goes new.log
-        (record { value_is = refl; after = others-of old.side new.log new.log (nobody-came old.side new.log) });
+        (record { value_is = refl; after = here old.side new.log });
   }
 
   module _ (new : Known) (P : History → Type 0) where

@@ -21,7 +21,7 @@ use Rattle.im_plan.specs.Goes.{After, Goes, Others}
 use Rattle.im_plan.specs.Plan.{Plan, End}
 use Rattle.im_reach.specs.Rests.{Counted, Onward}
 use Rattle.im_reach.specs.Sides.{Added, AreOthers, Found, Known, StoreSide, speaks}
-use Rattle.im_reach.proofs.RestLaws.{counted-logged, keeps-counted, nobody-came, others-of}
+use Rattle.im_reach.proofs.RestLaws.{counted-logged, here, keeps-counted, others-of}
 use Rattle.im_replies.specs.declared.body.Body.{Body}
 use Rattle.im_replies.specs.declared.body.Body.TheVariants as body
 use Rattle.im_replies.specs.declared.reply.Reply.{Reply}
@@ -439,7 +439,7 @@ dropping-next who before first left old mid new mine lawful dropping cancelled =
 pub dropping-ends : (who : ℕ) (before : List Ready) (old now : Known) → IsDropping who before [] old now → WereDropped who before old now
 dropping-ends who before old now dropping = record {
   known = dropping.known;
-  goes = dropping.onward now.log (record { value_is = refl; after = others-of old.side now.log now.log (nobody-came old.side now.log) });
+  goes = dropping.onward now.log (record { value_is = refl; after = here old.side now.log });
   stands = dropping.stands;
 }
 
