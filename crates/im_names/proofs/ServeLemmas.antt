@@ -15,7 +15,6 @@ use Rattle.im_syntax.specs.declared.table.MemoryPart.{MemoryPart}
 use Rattle.im_syntax.specs.declared.literal.Lit.{Lit}
 use Rattle.im_syntax.specs.Condition.{CondOf}
 use Rattle.im_values.specs.declared.priority.Priority.{Priority}
-use Rattle.im_history.specs.declared.entry.Mode.TheVariants as mode
 use Rattle.im_syntax.specs.Rules.{IsStmt, IsCreate, IsInsert}
 use Rattle.im_history.specs.Grid.{IsInRange, default_grid}
 use Rattle.im_history.specs.Tables.{is_named}

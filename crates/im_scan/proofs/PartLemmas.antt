@@ -13,7 +13,7 @@ use Rattle.im_history.specs.Units.{Content}
 use Rattle.im_history.proofs.GridLaws.{first_within}
 use Rattle.im_group.specs.Partials.{Numbered}
 use Rattle.im_scan.specs.Parts.{taken_row}
-use Rattle.im_scan.specs.inner.Steps.{lent, gathered, numbered_from}
+use Rattle.im_scan.specs.inner.Steps.{lent, gathered}
 use Rattle.im_scan.proofs.SlotLemmas.{are_taken, gathered-present}
 use Rattle.im_scan.proofs.FitLemmas.{MayScan, numbered_from-fits, slots-fit}
 

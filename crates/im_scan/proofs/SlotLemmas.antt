@@ -6,7 +6,6 @@ use Rattle.std.specs.Option.{option_copied, option_map}
 use Rattle.std.proofs.lemmas.Bool.{cases_lt}
 use Rattle.std.proofs.lemmas.Bool.Decides.{nat_tests}
 use Rattle.std.proofs.lemmas.List.{take_all, drop_all, get_or-set_same, get_or-set_other, length-map, length-set, length-take-le, map-set, map_more, map_push, ext_get_or}
-use Rattle.std.proofs.lemmas.List.Elements.{filter-append}
 use Rattle.std.proofs.lemmas.List.FromFn.{length-map-range_with_len, get_or-map-range_with_len, map-range_with_len_more}
 use denote.Ref.{Bor}
 use Rattle.im_history.specs.declared.change.Change.{Change}

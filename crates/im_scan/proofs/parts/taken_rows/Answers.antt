@@ -3,7 +3,7 @@ use Rattle.std.proofs.lemmas.Result.{IfOk-weaker}
 use Rattle.im_scan.specs.Faces.{unit_of}
 use Rattle.im_scan.specs.inner.Steps.{lent, numbered_from}
 use Rattle.im_scan.proofs.SlotLemmas.{gathered-present}
-use Rattle.im_scan.proofs.PartLemmas.{AreGathered, slots-within}
+use Rattle.im_scan.proofs.PartLemmas.{slots-within}
 use Rattle.im_scan.proofs.parts.taken_rows.Goals as goal
 
 pub numbered_rows-requires : goal.numbered_rows-requires

@@ -1,4 +1,4 @@
-use Rattle.std.proofs.Common.{◌≡◌, ap, ◌∙◌, length, arith}
+use Rattle.std.proofs.Common.{ap, ◌∙◌, length, arith}
 use Rattle.im_scan.specs.Faces.{unit_of}
 use Rattle.im_scan.specs.inner.Steps.{lent, with_changes}
 use Rattle.im_scan.proofs.SlotLemmas.{gathered-back, length-committed}

@@ -1,8 +1,5 @@
-use Rattle.std.proofs.Common.{◌≡◌, ◌∷◌, [], List, subst, arith}
-use Rattle.std.specs.Option.{option_copied}
-use Rattle.std.proofs.lemmas.List.{length-map}
+use Rattle.std.proofs.Common.{◌≡◌, ◌∷◌, List, subst}
 use Rattle.im_history.specs.Last.{Slot, ArePut}
-use Rattle.im_history.proofs.LastLaws.{put-none}
 use Rattle.im_scan.specs.inner.Steps.{lent}
 use Rattle.im_scan.proofs.SlotLemmas.{own-more, own-all}
 use Rattle.im_scan.proofs.slots.put_own.Goals as goal
