@@ -139,24 +139,7 @@ fn define_resolved<R: Wait, H: Reach<ColumnUnit>, G: Gate>(
             entries,
         ),
         Resolved::Memory { table, priority } => { alter(context, reach, table, priority, entries) }
-        Resolved::Select(_)
-        | Resolved::Explain(_)
-        | Resolved::Insert { .. }
-        | Resolved::Update { .. }
-        | Resolved::Delete { .. }
-        | Resolved::SetMode(_)
-        | Resolved::Commit
-        | Resolved::Rollback
-        | Resolved::OpenFor { .. }
-        | Resolved::Step(_)
-        | Resolved::Fetch(_)
-        | Resolved::Close(_)
-        | Resolved::Run
-        | Resolved::Begin
-        | Resolved::Switch
-        | Resolved::Cancel
-        | Resolved::Trickle(_)
-        | Resolved::Evict { .. } => unreachable!(),
+        _ => unreachable!(),
     }
 }
 
@@ -164,27 +147,8 @@ fn define_resolved<R: Wait, H: Reach<ColumnUnit>, G: Gate>(
 pub fn is_definition(statement: &Stmt) -> bool
     ensures { result ≡ plan.is_definition statement.now }
 {
-    match statement {
-        Stmt::Create { .. } | Stmt::AlterMemory { .. } | Stmt::AlterNoMemory { .. } => true,
-        Stmt::Insert { .. }
-        | Stmt::Update { .. }
-        | Stmt::Delete { .. }
-        | Stmt::Select(_)
-        | Stmt::SetReadOnly
-        | Stmt::SetSerializable
-        | Stmt::SetCommitted
-        | Stmt::Commit
-        | Stmt::Rollback
-        | Stmt::Explain(_)
-        | Stmt::OpenFor { .. }
-        | Stmt::Step(_)
-        | Stmt::Fetch(_)
-        | Stmt::Close(_)
-        | Stmt::Run
-        | Stmt::Begin
-        | Stmt::Switch
-        | Stmt::Cancel
-        | Stmt::Trickle(_)
-        | Stmt::Evict { .. } => false,
-    }
+    matches!(
+        statement,
+        Stmt::Create { .. } | Stmt::AlterMemory { .. } | Stmt::AlterNoMemory { .. }
+    )
 }

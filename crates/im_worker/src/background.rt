@@ -145,23 +145,7 @@ fn play<R: Wait, H: Reach<ColumnUnit>, G: Gate, L: Ledger>(
         Stmt::Cancel => cancel(outside, reach, who, held),
         Stmt::Trickle(count) => trickle(outside, reach, who, held, *count),
         Stmt::Evict { .. } => evict(outside, reach, who, held, statement),
-        Stmt::Select(_)
-        | Stmt::Explain(_)
-        | Stmt::Create { .. }
-        | Stmt::AlterMemory { .. }
-        | Stmt::AlterNoMemory { .. }
-        | Stmt::Insert { .. }
-        | Stmt::Update { .. }
-        | Stmt::Delete { .. }
-        | Stmt::SetReadOnly
-        | Stmt::SetSerializable
-        | Stmt::SetCommitted
-        | Stmt::Commit
-        | Stmt::Rollback
-        | Stmt::OpenFor { .. }
-        | Stmt::Step(_)
-        | Stmt::Fetch(_)
-        | Stmt::Close(_) => Reply::plain(outside.alloc, Body::Nothing),
+        _ => Reply::plain(outside.alloc, Body::Nothing),
     }
 }
 
