@@ -90,15 +90,18 @@ impl<'a> Gate for KnowingGate<'a> {
     }
 }
 
-/// A gate that holds one step up until another was answered, and then whoever took that one until the held step was answered too. So a
-/// call that comes too early holds its own step up.
+/// A gate that lets nobody take a step before it is asked of the one that it holds. It holds that one up until the other was answered, and
+/// then whoever took the other until the held step was answered too. So a call that comes too early holds its own step up, and a step that
+/// was taken before the gate was asked comes before the other.
 #[derive(Drop)]
 pub struct MeetingGate {
     hold: HoldGate,
     held: (u32, u32),
     until: (u32, u32),
     looks: u64,
+    held_asked: AtomicU64,
     held_answered: AtomicU64,
+    until_asked: AtomicU64,
     until_answered: AtomicU64,
     has_given_up: AtomicBool,
 }
@@ -112,7 +115,9 @@ impl MeetingGate {
             held,
             until,
             looks,
+            held_asked: AtomicU64::new(0),
             held_answered: AtomicU64::new(0),
+            until_asked: AtomicU64::new(0),
             until_answered: AtomicU64::new(0),
             has_given_up: AtomicBool::new(false),
         }
@@ -123,20 +128,34 @@ impl MeetingGate {
         self.hold.gave_up() || self.has_given_up.load(Ordering::SeqCst)
     }
 
-    /// Waits until the held step was answered, or until all looks were made.
-    fn wait(&self) {
+    /// Waits until as many calls were counted as there are with the held step, or until all looks were made.
+    fn wait(&self, calls: &AtomicU64) {
         for _ in 0..self.looks {
-            if self.held_answered.load(Ordering::SeqCst) >= u64::from(self.held.1) {
+            if calls.load(Ordering::SeqCst) >= u64::from(self.held.1) {
                 return;
             }
             thread::yield_now();
         }
         self.has_given_up.store(true, Ordering::SeqCst);
     }
+
+    /// Counts a call of whoever takes the other step, and waits by this count where it is the one of that step.
+    fn meet(&self, calls: &AtomicU64, held: &AtomicU64) {
+        let before = calls.fetch_add(1, Ordering::SeqCst);
+        if before.saturating_add(1) == u64::from(self.until.1) {
+            self.wait(held);
+        }
+    }
 }
 
 impl Gate for MeetingGate {
     fn before<R: Wait>(&self, rt: &R, who: u32, at: At) {
+        if who == self.until.0 {
+            self.meet(&self.until_asked, &self.held_asked);
+        }
+        if who == self.held.0 {
+            self.held_asked.fetch_add(1, Ordering::SeqCst);
+        }
         self.hold.before(rt, who, at);
     }
 
@@ -146,10 +165,7 @@ impl Gate for MeetingGate {
             self.held_answered.fetch_add(1, Ordering::SeqCst);
         }
         if who == self.until.0 {
-            let before = self.until_answered.fetch_add(1, Ordering::SeqCst);
-            if before.saturating_add(1) == u64::from(self.until.1) {
-                self.wait();
-            }
+            self.meet(&self.until_answered, &self.held_answered);
         }
     }
 }
