@@ -3,7 +3,7 @@ use Rattle.std.specs.Prelude.{◌≡◌, ℕ, [], ◌∷◌, ◌++◌, All}
 use Rattle.im_history.specs.declared.task.Task.{Task}
 use Rattle.im_history.specs.History.{History}
 use Rattle.im_reach.specs.Sides.{Known}
-use Rattle.im_worker.specs.inner.Begun.{IsJust}
+use Rattle.im_worker.specs.inner.Beginning.{IsJust}
 use Rattle.im_worker.specs.inner.Standing.{Stands}
 
 -- it went on by entries of this number alone
