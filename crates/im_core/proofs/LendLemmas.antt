@@ -8,10 +8,11 @@ use Rattle.im_history.specs.declared.limits.Limits.{Limits}
 use Rattle.im_history.specs.declared.view.View.{View}
 use Rattle.im_history.specs.History.{History}
 use Rattle.im_history.specs.Rows.{rows}
-use Rattle.im_history.specs.Serving.{committed_in, fetched_in, not_newer, rows_in, serving_content}
+use Rattle.im_history.specs.Serving.{committed_in, fetched_in, not_newer, read_in, rows_in, serving_content}
 use Rattle.im_history.specs.Stored.{Stored}
 use Rattle.im_history.specs.Units.{Content, content_at, unit}
 use Rattle.im_history.proofs.ShapeLaws.{per_at-some}
+use Rattle.im_history.proofs.ViewLaws.{shown_all-same}
 use Rattle.im_blocks.specs.Chains.{rows_among}
 use Rattle.im_blocks.proofs.ForCallers.{rows_among_kept}
 use Rattle.im_directory.specs.Agrees.{Agrees}
@@ -75,12 +76,12 @@ lent-none (Some n) f is = cc
 pub record ReadsStale (h : History) (view : View) (extent : ℕ) (cursor : Cursor) : Type 0 where
   pub at : ℕ
   pub is : unit h cursor.table extent ≡ Some at
-  pub rows : stale_in h cursor.table extent cursor.scn at ≡ fetched_in h view extent
+  pub rows : stale_in h cursor.table extent cursor.scn at ≡ read_in h view extent
 
 -- no unit is lent, and all rows are read
 pub record ReadsAll (h : History) (view : View) (extent : ℕ) : Type 0 where
-  pub rows : committed_in h view extent ≡ fetched_in h view extent
-  pub long : rows_in view extent ≡ length (fetched_in h view extent)
+  pub rows : committed_in h view extent ≡ read_in h view extent
+  pub long : rows_in view extent ≡ length (read_in h view extent)
 
 module _ (h : History) (view : View) (extent : ℕ) (cursor : Cursor) (has : HasView view extent cursor) where
   -- the view is lent what its cursor is
@@ -99,8 +100,12 @@ module _ (h : History) (view : View) (extent : ℕ) (cursor : Cursor) (has : Has
   pub reads_all : None ≡ option_map (content_at h cursor.table extent) (not_newer cursor.scn (unit h cursor.table extent)) → ReadsAll h view extent
   reads_all lent =
       let none : not_newer view.scn (unit h view.table extent) ≡ None = rw (has.table, has.scn) at (lent-none _ _ lent) in
-      let rows : committed_in h view extent ≡ fetched_in h view extent = rw none refl in
+      let rows : committed_in h view extent ≡ read_in h view extent = rw none refl in
       record { rows = rows; long = sym (length-map _ _ ∙ length-range_with_len _ _) ∙ ap length rows }
+
+-- what was read is what the view fetches
+pub read-fetched : (h : History) (view : View) (extent : ℕ) → read_in h view extent ≡ fetched_in h view extent
+read-fetched h view extent = sym (shown_all-same view (read_in h view extent))
 
 -- the rows that are stale beside a unit, as they are kept
 pub record KeepsStale (h : History) (blocks : List (List Versions)) (table extent scn at : ℕ) (rids : List ℕ) : Type 0 where

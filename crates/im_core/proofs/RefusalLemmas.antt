@@ -6,7 +6,7 @@ use Rattle.im_values.specs.declared.limits.TheConstants.{MOST_CURSORS, MOST_TABL
 use Rattle.im_history.specs.declared.change.Change.{Change}
 use Rattle.im_history.specs.declared.look.TableInfo.{TableInfo}
 use Rattle.im_history.specs.declared.refused.Why.TheVariants.{TableExists, TooManyTables, CursorOpen, TooManyCursors, RowLocked, Serialize}
-use Rattle.im_history.specs.Cursors.{is_cursor_open, cursors_open}
+use Rattle.im_history.specs.Cursors.{is_cursor_open, is_own, cursors_open}
 use Rattle.im_history.specs.History.{History}
 use Rattle.im_history.specs.Refusals.{when, create_refusal, lock_on, open_refusal, touch_after}
 use Rattle.im_history.specs.Tables.{tables, number_among, table_named}
@@ -18,14 +18,14 @@ use Rattle.im_txn.proofs.ForCallers.{holder-by}
 pub open_refused : (h : History) (who cursor : ℕ) → is_cursor_open h who cursor ≡ true → Some CursorOpen ≡ open_refusal h who cursor
 open_refused h who cursor opened = rw opened refl
 
-pub too_many_open : (h : History) (who cursor : ℕ) → is_cursor_open h who cursor ≡ false → (cursor == 0) ≡ false → MOST_CURSORS ≤ cursors_open h who
+pub too_many_open : (h : History) (who cursor : ℕ) → is_cursor_open h who cursor ≡ false → is_own cursor ≡ false → MOST_CURSORS ≤ cursors_open h who
     → Some TooManyCursors ≡ open_refusal h who cursor
 too_many_open h who cursor shut other many =
     let no : nat_lt (cursors_open h who) MOST_CURSORS ≡ false = grind (arith, nat_tests) in
     rw (shut, other, no) refl
 
 pub may_open : (h : History) (who cursor : ℕ) → is_cursor_open h who cursor ≡ false → cursors_open h who < MOST_CURSORS → None ≡ open_refusal h who cursor
-may_open h who cursor shut few = by (cursor == 0)
+may_open h who cursor shut few = by (is_own cursor)
   where
     room : nat_lt (cursors_open h who) MOST_CURSORS ≡ true
     room = grind (arith, nat_tests)
@@ -35,7 +35,7 @@ may_open h who cursor shut few = by (cursor == 0)
     by true = rw shut refl
     by false = rw (shut, room) refl
 
-pub may_open_own : (h : History) (who cursor : ℕ) → is_cursor_open h who cursor ≡ false → (cursor == 0) ≡ true → None ≡ open_refusal h who cursor
+pub may_open_own : (h : History) (who cursor : ℕ) → is_cursor_open h who cursor ≡ false → is_own cursor ≡ true → None ≡ open_refusal h who cursor
 may_open_own h who cursor shut own = rw (shut, own) refl
 
 -- a table has the name

@@ -8,11 +8,12 @@ use Rattle.im_history.specs.declared.entry.What.TheVariants.{Write}
 use Rattle.im_history.specs.declared.limits.Limits.{Limits}
 use Rattle.im_history.specs.Cursors.{Opened, opened, is_cursor}
 use Rattle.im_history.specs.History.{History}
-use Rattle.im_history.specs.Legal.{Exists, MayWrite, IsAllowed}
+use Rattle.im_history.specs.Legal.{Exists, IsLegal, MayWrite, IsAllowed}
 use Rattle.im_history.specs.Refusals.{write_refusal}
 use Rattle.im_history.specs.Stored.{Stored}
 use Rattle.im_history.specs.Tables.{tables, given}
 use Rattle.im_history.specs.Weights.{weight}
+use Rattle.im_history.proofs.ViewLaws.{cursor-columns}
 use Rattle.im_txn.specs.declared.cursor.Cursor.{Cursor}
 use Rattle.im_txn.specs.Activity.{cursor_in}
 use Rattle.im_txn.specs.Agrees.{kept}
@@ -41,13 +42,15 @@ pub record Rewrites (limits : Limits) (h : History) (who cursor : ℕ) (changes 
   pub gives : Gives h view.table changes (given h view.table)
   pub allowed : write_refusal limits h who (cursor_view h who cursor).scn changes ≡ None → IsAllowed limits h who (Write changes)
 
-kept_of : (limits : Limits) (h : History) (who cursor : ℕ) (changes : List Change) (may : MayWrite h who cursor changes) → IsView h may.opened.view
-    → given h may.opened.view.table * CHANGE_WEIGHT ≤ weight h → Rewrites limits h who cursor changes (kept may.opened)
-kept_of limits h who cursor changes may view light =
+kept_of : (limits : Limits) (h : History) (who cursor : ℕ) (changes : List Change) (may : MayWrite h who cursor changes) → IsLegal limits h
+    → IsView h may.opened.view → given h may.opened.view.table * CHANGE_WEIGHT ≤ weight h → Rewrites limits h who cursor changes (kept may.opened)
+kept_of limits h who cursor changes may legal view light =
+    let has = cursor-columns limits h who cursor may.opened legal may.is in
+    let exists : Exists h may.opened.view.table = record { made = has.made; is = has.is } in
     let scn_is : may.opened.view.scn ≡ (cursor_view h who cursor).scn = ap (λ (o : Option Opened). (view_of o).scn) (sym may.is) in
     record {
-      exists = may.exists;
-      range = exists_range h may.opened.view.table may.exists;
+      exists = exists;
+      range = exists_range h may.opened.view.table exists;
       scn = scn_is;
       gives = Gives-rewrite h may.opened.view.table changes may.same
           (λ i within. let inside = may.inside i within in let given_then = view.within in omega (arith, inside, given_then)) light;
@@ -70,7 +73,7 @@ module _ {U : Type 0} {content : U → Content} {limits : Limits} {history : Sto
       let seen : IsView history.entries may.opened.view =
       found_has (λ (o : Opened). IsView history.entries o.view) (is_cursor cursor) (opened history.entries who) may.opened (holds.views.each who) may.is in
       subst (Rewrites limits history.entries who cursor changes) (some-inj (sym kept_is ∙ is))
-      (kept_of limits history.entries who cursor changes may seen (holds.tables.light may.opened.view.table))
+      (kept_of limits history.entries who cursor changes may holds.legal seen (holds.tables.light may.opened.view.table))
     where
       some-inj : {a b : Cursor} → Some a ≡ Some b → a ≡ b
       some-inj e = cc

@@ -1,7 +1,6 @@
 -- What a write that is not refused may rely on.
-use Rattle.std.proofs.Common.{◌≡◌, ℕ, zero, suc, ◌+◌, ◌-◌, ◌<◌, ◌≤◌, Bool, true, false, not, nat_lt, List, [], ◌∷◌, ◌++◌, length, take, get_or, Option, Some, None, refl, sym, ap, ◌∙◌, arith, All, ⊎_elim}
+use Rattle.std.proofs.Common.{◌≡◌, ℕ, zero, suc, ◌+◌, ◌-◌, ◌<◌, ◌≤◌, Bool, true, false, not, nat_lt, List, [], ◌∷◌, ◌++◌, length, take, slice_get, Option, Some, None, refl, sym, ap, ◌∙◌, arith, All, ⊎_elim}
 use Rattle.std.proofs.lemmas.Bool.Decides.{nat_tests}
-use Rattle.std.proofs.lemmas.List.{length-take-le}
 use Rattle.std.proofs.lemmas.List.Elements.{All-nil, All-cons}
 use Rattle.std.specs.Option.{option_map, option_or}
 use Rattle.im_values.specs.declared.limits.TheConstants.{MOST_TABLES}
@@ -103,31 +102,16 @@ table_room h name none =
 pub open_shut : (h : History) (who cursor : ℕ) → open_refusal h who cursor ≡ None → is_cursor_open h who cursor ≡ false
 open_shut h who cursor none = when_none _ CursorOpen (left_none (when (is_cursor_open h who cursor) CursorOpen) _ none)
 
--- one more row is put
-pub put_from-push : (table first : ℕ) (rows : List Row) (row : Row)
-    → put_from table first (rows ++ row ∷ []) ≡ put_from table first rows ++ record { table = table; rid = first + length rows; row = Some row } ∷ []
-put_from-push table first [] row = ap (λ (n : ℕ). record { table = table; rid = n; row = Some row } ∷ []) (omega arith)
-put_from-push table first (r ∷ rows) row =
-    ap (λ (cs : List Change). record { table = table; rid = first; row = Some r } ∷ cs)
-    (put_from-push table (first + 1) rows row
-    ∙ ap (λ (n : ℕ). put_from table (first + 1) rows ++ record { table = table; rid = n; row = Some row } ∷ []) (omega arith))
-
-take-next : (rows : List Row) (i : ℕ) (d : Row) → i < length rows → take (i + 1) rows ≡ take i rows ++ get_or rows i d ∷ []
-take-next [] i d within = absurd (omega arith)
-take-next (row ∷ rows) zero d within = refl
-take-next (row ∷ rows) (suc i) d within =
+-- the first rows and the next one are put
+pub put_from-next : (table first : ℕ) (rows : List Row) (i : ℕ) (row : Row) → slice_get rows i ≡ Some row
+    → put_from table first (take (i + 1) rows) ≡ put_from table first (take i rows) ++ record { table = table; rid = first + i; row = Some row } ∷ []
+put_from-next table first [] i row is = absurd (cc is)
+put_from-next table first (r ∷ rows) zero row is =
+    ap (λ (o : Option Row). record { table = table; rid = first; row = o } ∷ []) is
+    ∙ ap (λ (n : ℕ). record { table = table; rid = n; row = Some row } ∷ []) (omega arith)
+put_from-next table first (r ∷ rows) (suc i) row is =
     let next : suc i + 1 ≡ suc (i + 1) = omega arith in
-    ap (λ (n : ℕ). take n (row ∷ rows)) next ∙ ap (λ (l : List Row). row ∷ l) (take-next rows i d (omega (arith, within)))
-
--- the first rows and the next one
-pub put_from-next : (table first rid : ℕ) (rows : List Row) (i : ℕ) (row d : Row) (changes new : List Change) → i < length rows
-    → row ≡ get_or rows i d → changes ≡ put_from table first (take i rows) → rid ≡ first + i
-    → new ≡ changes ++ record { table = table; rid = rid; row = Some row } ∷ [] → new ≡ put_from table first (take (i + 1) rows)
-put_from-next table first rid rows i row d changes new within is so_far at pushed =
-    let long : length (take i rows) ≡ i = length-take-le i rows (omega (arith, within)) in
-    let here : rid ≡ first + length (take i rows) = omega (arith, at, long) in
-    pushed
-    ∙ (ap (λ (cs : List Change). cs ++ record { table = table; rid = rid; row = Some row } ∷ []) so_far
-    ∙ (ap (λ (n : ℕ). put_from table first (take i rows) ++ record { table = table; rid = n; row = Some row } ∷ []) here
-    ∙ (sym (put_from-push table first (take i rows) row)
-    ∙ ap (put_from table first) (ap (λ (r : Row). take i rows ++ r ∷ []) is ∙ sym (take-next rows i d within)))))
+    ap (λ (n : ℕ). put_from table first (take n (r ∷ rows))) next
+    ∙ ap (λ (cs : List Change). record { table = table; rid = first; row = Some r } ∷ cs)
+    (put_from-next table (first + 1) rows i row is
+    ∙ ap (λ (n : ℕ). put_from table (first + 1) (take i rows) ++ record { table = table; rid = n; row = Some row } ∷ []) (omega arith))

@@ -22,9 +22,9 @@ use Rattle.im_history.specs.History.{History}
 use Rattle.im_history.specs.Leaves.{leaves}
 use Rattle.im_history.specs.Queue.{build_of, next, task_of}
 pub use Rattle.im_history.specs.Refusals.{evict_refusal}
-use Rattle.im_history.specs.Rows.{Row, rows}
+use Rattle.im_history.specs.Rows.{Row}
 pub use Rattle.im_history.specs.Units.{killed_of}
-use Rattle.im_history.specs.Units.{Content, held_at, unit_content}
+use Rattle.im_history.specs.Units.{Content, held_at, unit_content, unit_row}
 use Rattle.im_core.specs.Seen.{Seen, Adds}
 
 -- a call was refused at this history: for the cause that applies, or for being out of memory
@@ -32,9 +32,9 @@ pub record IsRefusal (history : History) (cause : Option Why) (refused : Refused
   pub place : refused.place ≡ length history
   pub why : (refused.why ≡ NoMemory) ⊎ (cause ≡ Some refused.why)
 
--- the view of a cursor that is not open: it has no rows
+-- the view of a cursor that is not open: it has no rows, and no columns
 abbrev pub no_view : View
-no_view = record { place = 0; table = 0; scn = 0; rows = 0; per = 0; extents = 0; own = [] }
+no_view = record { place = 0; table = 0; scn = 0; rows = 0; per = 0; extents = 0; columns = []; own = [] }
 
 -- the view of a cursor
 abbrev pub view_of : Option Opened → View
@@ -62,10 +62,10 @@ given_of (Some held) = held.given
 abbrev pub task_rows : History → TaskInfo → ℕ
 task_rows history task = min task.per (given_of (held_at history task.id) - task.extent * task.per)
 
--- these row numbers, each with the row that was committed at the build's SCN, in order
+-- these row numbers, each with the row that the build's unit holds of it, in order
 abbrev pub task_fetched : History → TaskInfo → List (ℕ × Option Row)
 task_fetched history task =
-    map (λ rid. (rid, rows history task.table task.scn rid)) (range_with_len (task.extent * task.per) (task_rows history task))
+    map (λ rid. (rid, unit_row history task.table task.scn rid)) (range_with_len (task.extent * task.per) (task_rows history task))
 
 -- the build that comes next began, or there was none
 abbrev pub IsOffer : Seen → ℕ → Offer → Seen → Type 0

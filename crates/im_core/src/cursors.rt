@@ -7,8 +7,8 @@ ghost use Rattle.im_history.specs.Refusals.{open_refusal};
 ghost use Rattle.im_history.specs.Rows.{snapshot};
 ghost use Rattle.im_history.specs.Views.{view_at};
 ghost use Rattle.im_core.specs.Answers.{IsRefusal, content_in, cursor_view};
-ghost use Rattle.im_history.specs.Serving.{committed_in, fetched_in, not_newer, rows_in, serving_content};
-ghost use Rattle.im_history.specs.Units.{content_at, unit};
+ghost use Rattle.im_history.specs.Serving.{committed_in, fetched_in, not_newer, read_in, rows_in, serving_content};
+ghost use Rattle.im_history.specs.Units.{content_at, opening_at, unit};
 ghost use Rattle.im_core.specs.inner.Kept.{beginning_at};
 ghost use Rattle.im_core.specs.inner.Lending.{stale_in};
 ghost use Rattle.im_core.specs.Seen.{Adds};
@@ -16,7 +16,7 @@ ghost use Rattle.im_core.specs.Seen.{Adds};
 use crate::answers::Pin;
 use crate::fetched::Fetched;
 use crate::store::{Core, owed};
-use im_history::{Entry, Mode, Refused, UnitLike, View, What, Who, Why};
+use im_history::{Entry, Mode, Opening, Refused, UnitLike, View, What, Who, Why};
 use im_txn::Cursor;
 use im_values::limits::{MOST_ROWS, NUMBERS};
 use im_values::{NoMemory, Steps};
@@ -25,13 +25,14 @@ use std::sync::ledger::Ledger;
 
 impl<U: UnitLike> Core<U> {
     /// Opens a cursor on a table: what it sees is fixed here. It is refused where this cursor is open, and then where
-    /// [`MOST_CURSORS`](im_values::limits::MOST_CURSORS) are open beside cursor 0.
-    pub fn open_cursor(&mut self, who: u32, cursor: u32, table: u32) -> Result<View, Refused>
+    /// [`MOST_CURSORS`](im_values::limits::MOST_CURSORS) are open beside its statements' own.
+    pub fn open_cursor(&mut self, who: u32, cursor: u32, opening: Opening) -> Result<View, Refused>
         requires session { who < NUMBERS }
-        requires exists { Exists self.old.log table }
-        ensures ok { OnOk result (Adds self.old who (what.Open cursor table) self.new) }
+        requires exists { Exists self.old.log opening.table }
+        requires seen { opening ≡ opening_at self.old.log opening.table }
+        ensures ok { OnOk result (Adds self.old who (what.Open cursor opening.table) self.new) }
         ensures allowed { OnOk result (open_refusal self.old.log who cursor ≡ None) }
-        ensures view { IfOk result (λ view. view ≡ view_at self.old.log who table) }
+        ensures view { IfOk result (λ view. view ≡ view_at self.old.log who opening.table) }
         ensures few { IfOk result (λ view. view.rows ≤ MOST_ROWS) }
         ensures some { IfOk result (λ view. 1 ≤ view.per) }
         ensures err { OnErr result (self.new ≡ self.old) }
@@ -41,7 +42,7 @@ impl<U: UnitLike> Core<U> {
         if let Some(why) = self.open_refusal(caller, cursor) {
             return Err(self.refused(why));
         }
-        match self.record_open(caller, cursor, table) {
+        match self.record_open(caller, cursor, opening.table) {
             Ok(view) => Ok(view),
             Err(NoMemory) => Err(self.refused(Why::NoMemory)),
         }
@@ -68,6 +69,7 @@ impl<U: UnitLike> Core<U> {
                 scn: view.scn,
                 rows: view.rows,
                 per: view.per,
+                columns: view.columns.columns().len() as u32,
             },
         );
         self.history.append(Entry {
@@ -87,7 +89,9 @@ impl<U: UnitLike> Core<U> {
     {
         let own = self.sessions.own(who, table)?;
         let rows = self.given_of(table);
-        let per = self.catalog.tables()[table as usize - 1].shape.per_extent();
+        let info = self.catalog.tables()[table as usize - 1].info();
+        let per = info.shape.per_extent();
+        let columns = info.schema.share()?;
         Ok(View {
             place: self.history.len(),
             table,
@@ -95,6 +99,7 @@ impl<U: UnitLike> Core<U> {
             rows,
             per,
             extents: (rows + per - 1) / per,
+            columns,
             own,
         })
     }
@@ -139,7 +144,7 @@ impl<U: UnitLike> Core<U> {
             ≡ serving_content self.old.log (cursor_view self.old.log who cursor) extent) }
         ensures fetched { IfOk result (λ pin.
             pin.fetched ≡ fetched_in self.old.log (cursor_view self.old.log who cursor) extent) }
-        ensures steps { steps.new ≤ steps.old + length (fetched_in self.old.log (cursor_view self.old.log who cursor) extent) }
+        ensures steps { steps.new ≤ steps.old + length (read_in self.old.log (cursor_view self.old.log who cursor) extent) }
         ensures err { IfErr result (λ why. IsRefusal self.old.log None why) }
     {
         let caller = Who::of(who);
@@ -163,7 +168,7 @@ impl<U: UnitLike> Core<U> {
             ≡ serving_content self.now.log (cursor_view self.now.log who cursor) extent) }
         ensures fetched { IfOk result (λ pin.
             pin.fetched ≡ fetched_in self.now.log (cursor_view self.now.log who cursor) extent) }
-        ensures steps { steps.new ≤ steps.old + length (fetched_in self.now.log (cursor_view self.now.log who cursor) extent) }
+        ensures steps { steps.new ≤ steps.old + length (read_in self.now.log (cursor_view self.now.log who cursor) extent) }
     {
         let view = self.sessions.cursor(who, cursor).unwrap();
         let place = self.len();

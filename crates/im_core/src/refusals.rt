@@ -3,7 +3,7 @@ ghost use Rattle.im_history.specs.Refusals as refusal;
 ghost use Rattle.im_history.specs.Weights.{changes_weight};
 
 use crate::store::Core;
-use im_history::{Change, Mode, UnitLike, Who, Why};
+use im_history::{Change, Mode, UnitLike, Who, Why, is_own};
 use im_values::limits::{MOST_CURSORS, MOST_TABLES};
 
 impl<U: UnitLike> Core<U> {
@@ -25,7 +25,7 @@ impl<U: UnitLike> Core<U> {
     {
         if self.sessions.cursor(who, cursor).is_some() {
             Some(Why::CursorOpen)
-        } else if cursor != 0 && self.sessions.cursors_open(who) >= MOST_CURSORS {
+        } else if !is_own(cursor) && self.sessions.cursors_open(who) >= MOST_CURSORS {
             Some(Why::TooManyCursors)
         } else {
             None

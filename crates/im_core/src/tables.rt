@@ -98,7 +98,7 @@ fn table_info(
 {
     Ok(TableInfo {
         name: name.copy(alloc)?,
-        schema: schema.copy(alloc)?,
+        schema: schema.share()?,
         shape,
         memory: None,
     })

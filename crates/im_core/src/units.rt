@@ -129,7 +129,7 @@ impl<U: UnitLike> Core<U> {
         requires exists { Exists self.now.log choice.table }
         ensures { result ≡ task_of self.now.log choice }
     {
-        let made = &self.catalog.tables()[choice.table as usize - 1];
+        let made = self.catalog.tables()[choice.table as usize - 1].info();
         Task {
             id: self.directory.begun() + 1,
             table: choice.table,

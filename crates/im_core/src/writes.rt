@@ -3,6 +3,7 @@ ghost use Rattle.im_history.specs.declared.entry.What.TheVariants as what;
 ghost use Rattle.im_history.specs.Legal.{Exists, MayInsert, MayWrite, IsAllowed, put_from};
 ghost use Rattle.im_history.specs.Refusals.{insert_refusal, write_refusal};
 ghost use Rattle.im_history.specs.Tables.{tables, given};
+ghost use Rattle.im_history.specs.Units.{opening_at};
 ghost use Rattle.im_history.specs.Weights.{changes_weight};
 ghost use Rattle.im_core.specs.Answers.{IsRefusal, cursor_view};
 ghost use Rattle.im_core.specs.inner.Kept.{Gives};
@@ -11,33 +12,37 @@ ghost use Rattle.im_core.specs.Seen.{Adds};
 use crate::answers::Wrote;
 use crate::store::{Core, owed};
 use crate::weights::weight_of;
-use im_history::{Change, Changes, Entry, Refused, UnitLike, What, Who, Why};
+use im_history::{Change, Changes, Entry, Opening, Refused, UnitLike, What, Who, Why};
 use im_values::limits::{MOST_ROWS, NUMBERS};
-use im_values::{NoMemory, Row, clone_row};
+use im_values::{NoMemory, Rows};
 use std::alloc::Global;
 
 impl<U: UnitLike> Core<U> {
     /// Inserts rows into a table, at its next row numbers. It is refused where the transaction is READ ONLY, then where it
     /// would have too many changes, and then where the store would be too full.
-    pub fn insert(&mut self, who: u32, table: u32, rows: Vec<Row>) -> Result<Wrote, Refused>
+    pub fn insert(&mut self, who: u32, opening: Opening, rows: Rows) -> Result<Wrote, Refused>
         requires session { who < NUMBERS }
-        requires may { MayInsert self.old.log table rows.items }
+        requires seen { opening ≡ opening_at self.old.log opening.table }
+        requires may { MayInsert self.old.log opening.table rows }
         ensures ok { OnOk result (Adds self.old who
-            (what.Write (put_from table (given self.old.log table) rows.items)) self.new) }
+            (what.Write (put_from opening.table (given self.old.log opening.table) rows)) self.new) }
         ensures allowed { OnOk result (insert_refusal self.old.limits self.old.log who
-            (put_from table (given self.old.log table) rows.items) ≡ None) }
+            (put_from opening.table (given self.old.log opening.table) rows) ≡ None) }
         ensures wrote { IfOk result (λ wrote. wrote ≡ record {
           place = length self.old.log;
-          first = given self.old.log table;
+          first = given self.old.log opening.table;
         }) }
         ensures err { OnErr result (self.new ≡ self.old) }
         ensures refused { IfErr result (λ why. IsRefusal self.old.log (insert_refusal self.old.limits self.old.log who
-            (put_from table (given self.old.log table) rows.items)) why) }
+            (put_from opening.table (given self.old.log opening.table) rows)) why) }
     {
         let caller = Who::of(who);
+        let table = opening.table;
         let first = self.given_of(table);
-        let count = first + rows.len() as u64;
-        let Ok(changes) = put_from(self.alloc, table, first, rows.as_slice()) else {
+        let Ok(count) = given_with(first, rows.len()) else {
+            return Err(self.refused(Why::NoMemory));
+        };
+        let Ok(changes) = put_from(self.alloc, table, first, &rows) else {
             return Err(self.refused(Why::NoMemory));
         };
         let Ok(weight) = weight_of(changes.as_slice()) else {
@@ -131,20 +136,29 @@ impl<U: UnitLike> Core<U> {
     }
 }
 
-/// Rows put at row numbers of a table, from the first on: a copy of each.
-fn put_from(alloc: Global, table: u32, first: u64, rows: &[Row]) -> Result<Vec<Change>, NoMemory>
+/// So many row numbers and these more. More than 2^63 have no room in memory.
+fn given_with(given: u64, more: usize) -> Result<u64, NoMemory>
+    ensures sum { IfOk result (λ count. count ≡ given + more) }
+    ensures few { IfOk result (λ count. count ≤ 2 ^ 63) }
+{
+    match given.checked_add(more as u64) {
+        Some(count) if count <= 1 << 63 => Ok(count),
+        _ => Err(NoMemory),
+    }
+}
+
+/// Rows put at row numbers of a table, from the first on.
+fn put_from(alloc: Global, table: u32, first: u64, rows: &Rows) -> Result<Vec<Change>, NoMemory>
     requires { first + length rows.now ≤ 2 ^ 63 }
     ensures { IfOk result (λ changes. changes.items ≡ put_from table first rows.now) }
 {
     let mut changes = Vec::with_capacity(alloc, rows.len())?;
-    let mut rid = first;
-    for row in rows {
+    for at in 0..rows.len() {
         changes.push(Change {
             table,
-            rid,
-            row: Some(clone_row(alloc, row)?),
+            rid: first + at as u64,
+            row: Some(rows.row(at)?),
         })?;
-        rid += 1;
     }
     Ok(changes)
 }

@@ -6,7 +6,7 @@ use Rattle.im_history.specs.declared.entry.What.{What}
 use Rattle.im_history.specs.declared.task.Held.{Held}
 use Rattle.im_history.specs.Commits.{scn}
 use Rattle.im_history.specs.History.{History}
-use Rattle.im_history.specs.Kinds.{marks_of}
+use Rattle.im_history.specs.Kinds.{scope_of}
 use Rattle.im_history.specs.Legal.{Exists}
 use Rattle.im_history.specs.Queue.{waits}
 use Rattle.im_history.specs.Units.{Content, builds, content_at, held_at, living, touched_between, unit}
@@ -50,8 +50,8 @@ module _ {U : Type 0} (content : U → Content) where
 
 -- an entry of this kind takes extents out of the column store
 abbrev pub takes_out : What → Bool
-takes_out what = (marks_of what).takes_out
+takes_out what = (scope_of what).takes_out
 
 -- an entry of this kind changes no build, no unit and no journal
 abbrev pub is_apart : What → Bool
-is_apart what = not ((marks_of what).rows || ((marks_of what).builds || (marks_of what).takes_out))
+is_apart what = not ((scope_of what).rows || ((scope_of what).builds || (scope_of what).takes_out))

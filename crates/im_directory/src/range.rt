@@ -82,7 +82,7 @@ fn row_numbers(tables: &Catalog, table: u32) -> u64
         return Shape::standard().per_extent();
     }
     match tables.tables().get(table as usize - 1) {
-        Some(info) => info.shape.per_extent(),
+        Some(table) => table.info().shape.per_extent(),
         None => Shape::standard().per_extent(),
     }
 }

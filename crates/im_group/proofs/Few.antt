@@ -4,10 +4,10 @@ use Rattle.std.specs.List.{AllByRecursion}
 use Rattle.std.proofs.lemmas.List.{length-map}
 use Rattle.im_values.specs.declared.value.Value.{Value}
 use Rattle.im_values.specs.Order.{is_null}
-use Rattle.im_syntax.specs.declared.bound.Item.{Item}
-use Rattle.im_syntax.specs.declared.bound.Item.TheVariants as item
 use Rattle.im_syntax.specs.BoundFits.{value_at}
-use Rattle.im_group.specs.Tallies.{tally_of, counted, column_of, present}
+use Rattle.im_group.specs.declared.asked.Asked.{Asked}
+use Rattle.im_group.specs.Sums.{column_of, present, sums_of}
+use Rattle.im_group.specs.Tallies.{Tallied, tallied, HasRoom, CanJoin, CanJoinEach}
 
 pub shorter : {A : Type 0} (p : A → Bool) (xs : List A) → length (filter p xs) ≤ length xs
 shorter p [] = omega arith
@@ -18,15 +18,18 @@ shorter p (x ∷ xs) =
 counted_present : (c : ℕ) (rows : List (List Value)) → length (present (column_of c rows)) ≤ length rows
 counted_present c rows = let less = shorter (λ v. not (is_null v)) (column_of c rows) in let same = length-map rows (λ row. value_at row c) in omega arith
 
-pub counted_few : (i : Item) (rows : List (List Value)) → counted (tally_of i rows) ≤ length rows
-counted_few (item.Column c) rows = omega arith
-counted_few item.CountAll rows = omega arith
-counted_few (item.Count c) rows = counted_present c rows
-counted_few (item.Sum c) rows = counted_present c rows
-counted_few (item.Min c) rows = omega arith
-counted_few (item.Max c) rows = omega arith
+each_few : (qs : List Asked) (rows : List (List Value)) → length rows + 1 < 2 ^ 64
+    → AllByRecursion (λ s. s.values + 1 < 2 ^ 64) (map (λ a. sums_of a (column_of a.column rows)) qs)
+each_few [] rows few = tt
+each_few (a ∷ qs) rows few = (omega (arith, counted_present a.column rows), each_few qs rows few)
 
-pub all_few : (is : List Item) (rows : List (List Value)) → length rows + 1 < 2 ^ 64
-    → AllByRecursion (λ t. counted t + 1 < 2 ^ 64) (map (λ i. tally_of i rows) is)
-all_few [] rows few = tt
-all_few (i ∷ is) rows few = (omega (arith, counted_few i rows), all_few is rows few)
+pub all_few : (qs : List Asked) (rows : List (List Value)) → length rows + 1 < 2 ^ 64 → HasRoom (tallied qs rows)
+all_few qs rows few = record { rows = few; sums = each_few qs rows few }
+
+each_join : (qs : List Asked) (ms ns : List (List Value)) → length ms + length ns < 2 ^ 64
+    → CanJoinEach (map (λ a. sums_of a (column_of a.column ms)) qs) (map (λ a. sums_of a (column_of a.column ns)) qs)
+each_join [] ms ns few = tt
+each_join (a ∷ qs) ms ns few = (omega (arith, counted_present a.column ms, counted_present a.column ns), each_join qs ms ns few)
+
+pub few_join : (qs : List Asked) (ms ns : List (List Value)) → length ms + length ns < 2 ^ 64 → CanJoin (tallied qs ms) (tallied qs ns)
+few_join qs ms ns few = record { rows = few; sums = each_join qs ms ns few }

@@ -4,25 +4,20 @@ use Rattle.std.specs.Option.{ForSome}
 use Rattle.std.specs.List.{AllByRecursion}
 use Rattle.std.specs.FinMap as map_of
 use Rattle.im_values.specs.declared.value.Value.{Value}
-use Rattle.im_syntax.specs.declared.bound.Item.{Item}
 use Rattle.im_syntax.specs.declared.bound.Bound.{Bound}
 use Rattle.im_syntax.specs.BoundFits.{BoundFits}
-use Rattle.im_group.specs.declared.tally.Tally.{Tally}
-use Rattle.im_group.specs.Tallies.{tally_of, CanJoin}
-use Rattle.im_group.specs.Partials.{Numbered, Parts, key_order, key_of, is_key, keeps, kept, wanted, members, tallies_of, groups_of, merged, partial, CanMerge}
-use Rattle.im_group.specs.Answers.{finished, answer}
-use Rattle.im_group.proofs.Few.{counted_few, shorter}
+use Rattle.im_group.specs.Tallies.{Tallied, wanted, asked_in, CanJoin}
+use Rattle.im_group.specs.Partials.{Numbered, Parts, key_order, key_of, is_key, keeps, kept, members, tallies_of, groups_of, merged, partial, CanMerge}
+use Rattle.im_group.specs.Answers.{put_out, finished, answer}
+use Rattle.im_group.proofs.Few.{few_join, shorter}
 use Rattle.im_group.proofs.GroupLemmas.{get-groups_of}
 use Rattle.im_group.proofs.Parts as parts
+use Rattle.im_group.proofs.ReadingLaws.{records-part}
 use Rattle.std.proofs.lemmas.List.{length-map}
 
 -- ---- two parts may be merged
 
-few_join : (is : List Item) (ms ns : List (List Value)) → length ms + length ns < 2 ^ 64 → CanJoin (map (λ i. tally_of i ms) is) (map (λ i. tally_of i ns) is)
-few_join [] ms ns few = tt
-few_join (i ∷ is) ms ns few = (omega (arith, counted_few i ms, counted_few i ns), few_join is ms ns few)
-
-the_tallies : (b : Bool) (ts us : List Tally) → cond b (Some ts) None ≡ Some us → ts ≡ us
+the_tallies : (b : Bool) (ts us : Tallied) → cond b (Some ts) None ≡ Some us → ts ≡ us
 the_tallies true ts us e = cc
 the_tallies false ts us e = absurd cc
 
@@ -34,15 +29,15 @@ groups_merge bound xs ys few key ts t us u =
     let fewer : length (members bound.groups xs key) + length (members bound.groups ys key) < 2 ^ 64 =
     omega (arith, shorter (λ row. is_key (key_of bound.groups row) key) xs, shorter (λ row. is_key (key_of bound.groups row) key) ys) in
     subst (λ ts. CanJoin ts us) front
-    (subst (CanJoin (tallies_of bound xs key)) back (few_join (wanted bound) (members bound.groups xs key) (members bound.groups ys key) fewer))
+    (subst (CanJoin (tallies_of bound xs key)) back (few_join (asked_in (wanted bound)) (members bound.groups xs key) (members bound.groups ys key) fewer))
 
 -- a part, by whether the query is grouped
 abbrev part_of : Bool → Bound → List Numbered → Parts
 part_of b bound rows =
     cond b (record { rows = []; groups = groups_of bound (map (λ r. r.1) (kept bound rows)) }) (record { rows = kept bound rows; groups = map_of.empty })
 
-no_group : (key : List Value) (ts : List Tally) → map_of.get {X = List Tally} {R = key_order} map_of.empty key ≡ Some ts → ⊥
-no_group key ts t = let none = sym (map_of.get-empty {X = List Tally} key_order key) ∙ t in absurd cc
+no_group : (key : List Value) (ts : Tallied) → map_of.get {X = Tallied} {R = key_order} map_of.empty key ≡ Some ts → ⊥
+no_group key ts t = let none = sym (map_of.get-empty {X = Tallied} key_order key) ∙ t in absurd cc
 
 few_kept : (bound : Bound) (rows : List Numbered) → length (map (λ r. r.1) (kept bound rows)) ≤ length rows
 few_kept bound rows = let same = length-map (kept bound rows) (λ r. r.1) in let less = shorter (λ r. keeps bound.filter r.1) rows in omega arith
@@ -92,10 +87,11 @@ kept-all bound rows none = ap (λ o. filter (λ r. keeps o r.1) rows) none ∙ a
 
 -- ---- answers
 
+-- what is made of the part of all rows is the answer
 pub answer-finished : (bound : Bound) (rows : List Numbered) → answer bound rows ≡ finished bound (partial bound rows)
-answer-finished bound rows = refl
+answer-finished bound rows = ap (put_out bound) (records-part bound rows)
 
 -- the answer over two lists of rows is made of the merged parts
 pub answer-merged : (bound : Bound) (front back : List Numbered)
     → answer bound (front ++ back) ≡ finished bound (merged (partial bound front) (partial bound back))
-answer-merged bound front back = ap (finished bound) (sym (merged-partial bound front back))
+answer-merged bound front back = answer-finished bound (front ++ back) ∙ ap (finished bound) (sym (merged-partial bound front back))

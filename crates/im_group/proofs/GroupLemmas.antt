@@ -7,14 +7,12 @@ use Rattle.std.specs.FinMap as map_of
 use Rattle.std.proofs.lemmas.List.Elements.{filter-append}
 use Rattle.std.proofs.lemmas.Cmp.{tied_itself}
 use Rattle.im_values.specs.declared.value.Value.{Value}
-use Rattle.im_syntax.specs.declared.bound.Item.{Item}
 use Rattle.im_syntax.specs.declared.bound.Bound.{Bound}
-use Rattle.im_group.specs.declared.tally.Tally.{Tally}
-use Rattle.im_group.specs.Tallies.{tally_of, all_taken}
-use Rattle.im_group.specs.Partials.{key_order, key_of, is_key, wanted, members, tallies_of, keys_of, groups_of}
+use Rattle.im_group.specs.Tallies.{Tallied, wanted, asked_in, tallied, row_taken}
+use Rattle.im_group.specs.Partials.{key_order, key_of, is_key, members, tallies_of, keys_of, groups_of}
 use Rattle.im_group.specs.inner.Steps.{placed}
 use Rattle.im_group.proofs.Orders.{key_total, key_same}
-use Rattle.im_group.proofs.Growth.{tally-push}
+use Rattle.im_group.proofs.Growth.{tallied-push}
 use Rattle.im_group.proofs.Sorting.{true_is_not_false}
 
 -- ---- one group
@@ -23,19 +21,13 @@ members-push : (columns : List ℕ) (rows : List (List Value)) (row key : List V
     → members columns (rows ++ row ∷ []) key ≡ members columns rows key ++ cond (is_key (key_of columns row) key) (row ∷ []) []
 members-push columns rows row key = filter-append (λ r. is_key (key_of columns r) key) rows (row ∷ [])
 
--- each item takes the row
-taken_each : (is : List Item) (ms : List (List Value)) (row : List Value)
-    → map (λ i. tally_of i (ms ++ row ∷ [])) is ≡ all_taken is (map (λ i. tally_of i ms) is) row
-taken_each [] ms row = refl
-taken_each (i ∷ is) ms row = λ j. tally-push i ms row j ∷ taken_each is ms row j
-
 -- a group takes a row of its key
 pub tallies-push_here : (bound : Bound) (rows : List (List Value)) (row key : List Value) → is_key (key_of bound.groups row) key ≡ true
-    → tallies_of bound (rows ++ row ∷ []) key ≡ all_taken (wanted bound) (tallies_of bound rows key) row
+    → tallies_of bound (rows ++ row ∷ []) key ≡ row_taken (asked_in (wanted bound)) (tallies_of bound rows key) row
 tallies-push_here bound rows row key h =
-    ap (λ ms. map (λ i. tally_of i ms) (wanted bound)) (members-push bound.groups rows row key
+    ap (λ ms. tallied (asked_in (wanted bound)) ms) (members-push bound.groups rows row key
     ∙ ap (λ b. members bound.groups rows key ++ cond b (row ∷ []) []) h)
-    ∙ taken_each (wanted bound) (members bound.groups rows key) row
+    ∙ tallied-push (asked_in (wanted bound)) (members bound.groups rows key) row
 
 pub no_more : {A : Type 0} (xs : List A) → xs ++ [] ≡ xs
 no_more [] = refl
@@ -45,7 +37,7 @@ no_more (x ∷ xs) = ap (λ l. x ∷ l) (no_more xs)
 pub tallies-push_apart : (bound : Bound) (rows : List (List Value)) (row key : List Value) → is_key (key_of bound.groups row) key ≡ false
     → tallies_of bound (rows ++ row ∷ []) key ≡ tallies_of bound rows key
 tallies-push_apart bound rows row key h =
-    ap (λ ms. map (λ i. tally_of i ms) (wanted bound)) (members-push bound.groups rows row key
+    ap (λ ms. tallied (asked_in (wanted bound)) ms) (members-push bound.groups rows row key
     ∙ (ap (λ b. members bound.groups rows key ++ cond b (row ∷ []) []) h ∙ no_more (members bound.groups rows key)))
 
 -- ---- all groups
@@ -61,7 +53,7 @@ equal Equal h = refl
 equal Greater h = absurd cc
 
 -- the groups that a function of the key gives, at a key
-pub find-map : (f : List Value → List Tally) (ks : List (List Value)) (q : List Value)
+pub find-map : (f : List Value → Tallied) (ks : List (List Value)) (q : List Value)
     → map_of.find key_order q (map (λ k. (k, f k)) ks) ≡ cond (stands q ks) (Some (f q)) None
 find-map f [] q = refl
 find-map f (k ∷ ks) q = go (is_eq (key_order q k)) refl (find-map f ks q)
@@ -78,17 +70,17 @@ get-groups_of bound rows q = map_of.get-from_entries key_total _ q ∙ find-map 
 
 -- ---- one row more
 
-twice : (b : Bool) (v w : List Tally) (r : Option (List Tally)) → cond b (Some v) r ≡ cond b (Some v) (cond b (Some w) r)
+twice : (b : Bool) (v w : Tallied) (r : Option Tallied) → cond b (Some v) r ≡ cond b (Some v) (cond b (Some w) r)
 twice true v w r = refl
 twice false v w r = refl
 
-exchanged : (a b : Bool) (v w : List Tally) (r : Option (List Tally)) → (a ≡ true → b ≡ true → ⊥)
+exchanged : (a b : Bool) (v w : Tallied) (r : Option Tallied) → (a ≡ true → b ≡ true → ⊥)
     → cond a (Some v) (cond b (Some w) r) ≡ cond b (Some w) (cond a (Some v) r)
 exchanged true true v w r apart = absurd (apart refl refl)
 exchanged true false v w r apart = refl
 exchanged false b v w r apart = refl
 
-pub find-placed : (es : List (List Value × List Tally)) (k : List Value) (v : List Tally) (q : List Value)
+pub find-placed : (es : List (List Value × Tallied)) (k : List Value) (v : Tallied) (q : List Value)
     → map_of.find key_order q (placed es k v) ≡ cond (is_eq (key_order q k)) (Some v) (map_of.find key_order q es)
 find-placed [] k v q = refl
 find-placed (e ∷ es) k v q = go (is_eq (key_order k e.0)) refl (find-placed es k v q)

@@ -8,13 +8,11 @@ use Rattle.std.proofs.lemmas.List.Elements.{filter-append}
 use Rattle.std.proofs.lemmas.Cmp.{tied_itself, eq_by_cmp_equiv}
 use denote.Ref.{Bor}
 use Rattle.im_values.specs.declared.value.Value.{Value}
-use Rattle.im_syntax.specs.declared.bound.Item.{Item}
 use Rattle.im_syntax.specs.declared.bound.Bound.{Bound}
-use Rattle.im_syntax.specs.declared.bound.Key.{Key}
-use Rattle.im_syntax.specs.BoundFits.{ItemFits, KeyFits, BoundFits}
-use Rattle.im_group.specs.declared.tally.Tally.{Tally}
-use Rattle.im_group.specs.Tallies.{tally_of, counted, all_taken}
-use Rattle.im_group.specs.Partials.{Numbered, lent_rows, key_order, key_of, is_key, keeps, kept, wanted, members, tallies_of, keys_of, groups_of}
+use Rattle.im_syntax.specs.BoundFits.{BoundFits}
+use Rattle.im_group.specs.declared.asked.Asked.{Asked}
+use Rattle.im_group.specs.Tallies.{Tallied, wanted, asked_in, tallied, row_taken, HasRoom}
+use Rattle.im_group.specs.Partials.{Numbered, lent_rows, key_order, key_of, is_key, keeps, kept, members, tallies_of, keys_of, groups_of}
 use Rattle.im_group.specs.inner.Steps.{tallies_at, placed, so_far, first_groups, one_group, with_kept, with_row, GroupsAre}
 use Rattle.im_group.proofs.Few.{all_few, shorter}
 use Rattle.im_group.proofs.Sorting.{true_is_not_false}
@@ -62,43 +60,43 @@ none_has_it [] rows row h = absurd (true_is_not_false h)
 none_has_it (c ∷ cs) rows row h = none_has (c ∷ cs) rows (key_of (c ∷ cs) row) h
 
 -- what a group has taken so far, by the rows
-pub so_far_is : (bound : Bound) (rows : List (List Value)) (groups : List (List Value × List Tally)) (row : List Value) → GroupsAre bound rows groups
-    → so_far (wanted bound) (tallies_at groups (key_of bound.groups row)) ≡ tallies_of bound rows (key_of bound.groups row)
+pub so_far_is : (bound : Bound) (rows : List (List Value)) (groups : List (List Value × Tallied)) (row : List Value) → GroupsAre bound rows groups
+    → so_far (asked_in (wanted bound)) (tallies_at groups (key_of bound.groups row)) ≡ tallies_of bound rows (key_of bound.groups row)
 so_far_is bound rows groups row g =
-    ap (so_far (wanted bound)) (g.at (key_of bound.groups row) ∙ get-groups_of bound rows (key_of bound.groups row))
+    ap (so_far (asked_in (wanted bound))) (g.at (key_of bound.groups row) ∙ get-groups_of bound rows (key_of bound.groups row))
     ∙ go (stands (key_of bound.groups row) (keys_of bound.groups rows)) refl
   where
     go : (b : Bool) → stands (key_of bound.groups row) (keys_of bound.groups rows) ≡ b
-        → so_far (wanted bound) (cond b (Some (tallies_of bound rows (key_of bound.groups row))) None) ≡ tallies_of bound rows (key_of bound.groups row)
+        → so_far (asked_in (wanted bound)) (cond b (Some (tallies_of bound rows (key_of bound.groups row))) None) ≡ tallies_of bound rows (key_of bound.groups row)
     go true e = refl
-    go false e = ap (λ ms. map (λ i. tally_of i ms) (wanted bound)) (sym (none_has_it bound.groups rows row e))
+    go false e = ap (λ ms. tallied (asked_in (wanted bound)) ms) (sym (none_has_it bound.groups rows row e))
 
-pub few_so_far : (bound : Bound) (rows : List (List Value)) (groups : List (List Value × List Tally)) (row : List Value) → GroupsAre bound rows groups
+pub few_so_far : (bound : Bound) (rows : List (List Value)) (groups : List (List Value × Tallied)) (row : List Value) → GroupsAre bound rows groups
     → length rows + 1 < 2 ^ 64
-    → AllByRecursion (λ t. counted t + 1 < 2 ^ 64) (so_far (wanted bound) (tallies_at groups (key_of bound.groups row)))
+    → HasRoom (so_far (asked_in (wanted bound)) (tallies_at groups (key_of bound.groups row)))
 few_so_far bound rows groups row g few =
-    subst (AllByRecursion (λ t. counted t + 1 < 2 ^ 64)) (sym (so_far_is bound rows groups row g))
-    (all_few (wanted bound) (members bound.groups rows (key_of bound.groups row))
+    subst HasRoom (sym (so_far_is bound rows groups row g))
+    (all_few (asked_in (wanted bound)) (members bound.groups rows (key_of bound.groups row))
     (omega (arith, shorter (λ r. is_key (key_of bound.groups r) (key_of bound.groups row)) rows)))
 
 -- one row more
-groups-push : (bound : Bound) (rows : List (List Value)) (groups : List (List Value × List Tally)) (row : List Value) → GroupsAre bound rows groups
+groups-push : (bound : Bound) (rows : List (List Value)) (groups : List (List Value × Tallied)) (row : List Value) → GroupsAre bound rows groups
     → GroupsAre bound (rows ++ row ∷ [])
-    (placed groups (key_of bound.groups row) (all_taken (wanted bound) (so_far (wanted bound) (tallies_at groups (key_of bound.groups row))) row))
+    (placed groups (key_of bound.groups row) (row_taken (asked_in (wanted bound)) (so_far (asked_in (wanted bound)) (tallies_at groups (key_of bound.groups row))) row))
 groups-push bound rows groups row g = record {
   at = λ q.
-      find-placed groups (key_of bound.groups row) (all_taken (wanted bound) (so_far (wanted bound) (tallies_at groups (key_of bound.groups row))) row) q
+      find-placed groups (key_of bound.groups row) (row_taken (asked_in (wanted bound)) (so_far (asked_in (wanted bound)) (tallies_at groups (key_of bound.groups row))) row) q
       ∙ (go q (is_eq (key_order q (key_of bound.groups row))) refl
       ∙ sym (get-groups_of bound (rows ++ row ∷ []) q
       ∙ ap (λ b. cond b (Some (tallies_of bound (rows ++ row ∷ []) q)) None) (stands-keys bound.groups rows row q)));
 }
   where
     go : (q : List Value) (b : Bool) → is_eq (key_order q (key_of bound.groups row)) ≡ b
-        → cond b (Some (all_taken (wanted bound) (so_far (wanted bound) (tallies_at groups (key_of bound.groups row))) row)) (tallies_at groups q)
+        → cond b (Some (row_taken (asked_in (wanted bound)) (so_far (asked_in (wanted bound)) (tallies_at groups (key_of bound.groups row))) row)) (tallies_at groups q)
         ≡ cond (cond b true (stands q (keys_of bound.groups rows))) (Some (tallies_of bound (rows ++ row ∷ []) q)) None
     go q true e =
         let same = key_same q (key_of bound.groups row) (equal _ e) in
-        ap Some (ap (λ ts. all_taken (wanted bound) ts row) (so_far_is bound rows groups row g)
+        ap Some (ap (λ ts. row_taken (asked_in (wanted bound)) ts row) (so_far_is bound rows groups row g)
         ∙ (sym (tallies-push_here bound rows row (key_of bound.groups row) (ap is_eq (tied_itself key_total (key_of bound.groups row))))
         ∙ ap (tallies_of bound (rows ++ row ∷ [])) (sym same)))
     go q false e =
@@ -106,61 +104,61 @@ groups-push bound rows groups row g = record {
         ∙ ap (λ ts. cond (stands q (keys_of bound.groups rows)) (Some ts) None)
         (sym (tallies-push_apart bound rows row q (flipped (key_of bound.groups row) q ∙ e))))
 
-pub with_row-push : (bound : Bound) (rows : List (List Value)) (groups : List (List Value × List Tally)) (row : List Value) → GroupsAre bound rows groups
+pub with_row-push : (bound : Bound) (rows : List (List Value)) (groups : List (List Value × Tallied)) (row : List Value) → GroupsAre bound rows groups
     → GroupsAre bound (cond (keeps bound.filter row) (rows ++ row ∷ []) rows) (with_row bound groups row)
 with_row-push bound rows groups row g =
     elim (keeps bound.filter row) as
     (λ b. GroupsAre bound (cond b (rows ++ row ∷ []) rows)
     (cond b (placed groups (key_of bound.groups row)
-    (all_taken (wanted bound) (so_far (wanted bound) (tallies_at groups (key_of bound.groups row))) row)) groups)) [
+    (row_taken (asked_in (wanted bound)) (so_far (asked_in (wanted bound)) (tallies_at groups (key_of bound.groups row))) row)) groups)) [
       | true ↦ groups-push bound rows groups row g
       | false ↦ g
     ]
 
 -- no row
-first-at : (columns : List ℕ) (is : List Item) (q : List Value)
-    → tallies_at (first_groups columns is) q ≡ cond (stands q (keys_of columns [])) (Some (map (λ i. tally_of i []) is)) None
-first-at [] is q =
+first-at : (columns : List ℕ) (qs : List Asked) (q : List Value)
+    → tallies_at (first_groups columns qs) q ≡ cond (stands q (keys_of columns [])) (Some (tallied qs [])) None
+first-at [] qs q =
     elim (is_eq (key_order q [])) as
-    (λ b. cond b (Some (map (λ i. tally_of i []) is)) None ≡ cond (cond b true false) (Some (map (λ i. tally_of i []) is)) None) [ true ↦ refl | false ↦ refl ]
-first-at (c ∷ cs) is q = refl
+    (λ b. cond b (Some (tallied qs [])) None ≡ cond (cond b true false) (Some (tallied qs [])) None) [ true ↦ refl | false ↦ refl ]
+first-at (c ∷ cs) qs q = refl
 
-pub first-are : (bound : Bound) → GroupsAre bound [] (first_groups bound.groups (wanted bound))
-first-are bound = record { at = λ q. first-at bound.groups (wanted bound) q ∙ sym (get-groups_of bound [] q) }
+pub first-are : (bound : Bound) → GroupsAre bound [] (first_groups bound.groups (asked_in (wanted bound)))
+first-are bound = record { at = λ q. first-at bound.groups (asked_in (wanted bound)) q ∙ sym (get-groups_of bound [] q) }
 
 -- with GROUP BY there is no group of no row
 pub none-are : (bound : Bound) → 0 < length bound.groups → GroupsAre bound [] []
 none-are bound some = subst (GroupsAre bound []) (nothing bound.groups some) (first-are bound)
   where
-    nothing : (columns : List ℕ) → 0 < length columns → first_groups columns (wanted bound) ≡ []
+    nothing : (columns : List ℕ) → 0 < length columns → first_groups columns (asked_in (wanted bound)) ≡ []
     nothing [] some = absurd (omega (arith, some))
     nothing (c ∷ cs) some = refl
 
 -- without GROUP BY there is one
-pub one-is : (bound : Bound) → bound.groups ≡ [] → GroupsAre bound [] (one_group (map (λ i. tally_of i []) (wanted bound)))
-one-is bound whole = subst (GroupsAre bound []) (ap (λ (cs : List ℕ). first_groups cs (wanted bound)) whole) (first-are bound)
+pub one-is : (bound : Bound) → bound.groups ≡ [] → GroupsAre bound [] (one_group (tallied (asked_in (wanted bound)) []))
+one-is bound whole = subst (GroupsAre bound []) (ap (λ (cs : List ℕ). first_groups cs (asked_in (wanted bound))) whole) (first-are bound)
 
-one_with_row : (b : Bool) (is : List Item) (ts : List Tally) (row : List Value)
-    → cond b (placed (one_group ts) [] (all_taken is (so_far is (tallies_at (one_group ts) [])) row)) (one_group ts)
-    ≡ one_group (cond b (all_taken is ts row) ts)
-one_with_row true is ts row = refl
-one_with_row false is ts row = refl
+one_with_row : (b : Bool) (qs : List Asked) (ts : Tallied) (row : List Value)
+    → cond b (placed (one_group ts) [] (row_taken qs (so_far qs (tallies_at (one_group ts) [])) row)) (one_group ts)
+    ≡ one_group (cond b (row_taken qs ts row) ts)
+one_with_row true qs ts row = refl
+one_with_row false qs ts row = refl
 
 -- the one group, once one row more has come
-pub one-push : (bound : Bound) (rows : List (List Value)) (ts : List Tally) (row : List Value) → bound.groups ≡ []
+pub one-push : (bound : Bound) (rows : List (List Value)) (ts : Tallied) (row : List Value) → bound.groups ≡ []
     → GroupsAre bound rows (one_group ts) → GroupsAre bound (cond (keeps bound.filter row) (rows ++ row ∷ []) rows) (one_group (with_kept bound ts row))
 one-push bound rows ts row whole g =
     subst (GroupsAre bound (cond (keeps bound.filter row) (rows ++ row ∷ []) rows))
     (ap (λ (cs : List ℕ). cond (keeps bound.filter row)
-    (placed (one_group ts) (key_of cs row) (all_taken (wanted bound) (so_far (wanted bound) (tallies_at (one_group ts) (key_of cs row))) row))
-    (one_group ts)) whole ∙ one_with_row (keeps bound.filter row) (wanted bound) ts row)
+    (placed (one_group ts) (key_of cs row) (row_taken (asked_in (wanted bound)) (so_far (asked_in (wanted bound)) (tallies_at (one_group ts) (key_of cs row))) row))
+    (one_group ts)) whole ∙ one_with_row (keeps bound.filter row) (asked_in (wanted bound)) ts row)
     (with_row-push bound rows (one_group ts) row g)
 
 -- its counts stay below 2^64 with one row more
-pub one-few : (bound : Bound) (rows : List (List Value)) (ts : List Tally) → bound.groups ≡ [] → GroupsAre bound rows (one_group ts)
-    → length rows + 1 < 2 ^ 64 → AllByRecursion (λ t. counted t + 1 < 2 ^ 64) ts
+pub one-few : (bound : Bound) (rows : List (List Value)) (ts : Tallied) → bound.groups ≡ [] → GroupsAre bound rows (one_group ts)
+    → length rows + 1 < 2 ^ 64 → HasRoom ts
 one-few bound rows ts whole g few =
-    subst (λ (cs : List ℕ). AllByRecursion (λ t. counted t + 1 < 2 ^ 64) (so_far (wanted bound) (tallies_at (one_group ts) (key_of cs [])))) whole
+    subst (λ (cs : List ℕ). HasRoom (so_far (asked_in (wanted bound)) (tallies_at (one_group ts) (key_of cs [])))) whole
     (few_so_far bound rows (one_group ts) [] g few)
 
 -- the kept rows of one row more
@@ -196,13 +194,6 @@ fits-at bound [] i d within is all = absurd (omega (arith, within))
 fits-at bound (row ∷ rows) zero d within is all = subst (λ (r : ℕ × Bor (List Value)). BoundFits r.1.now bound) (sym is) all.0
 fits-at bound (row ∷ rows) (suc i) d within is all = fits-at bound rows i d (omega (arith, within)) is all.1
 
--- what the query wants of a row fits it where the query does
-pub wanted_fit : (row : List Value) (is : List Item) (ks : List Key) → AllByRecursion (ItemFits row) is → AllByRecursion (KeyFits row) ks
-    → AllByRecursion (ItemFits row) (is ++ map (λ k. k.item) ks)
-wanted_fit row [] [] a b = tt
-wanted_fit row [] (k ∷ ks) a b = (b.0, wanted_fit row [] ks a b.1)
-wanted_fit row (i ∷ is) ks a b = (a.0, wanted_fit row is ks a.1 b)
-
 short_take : {A : Type 0} (i : ℕ) (xs : List A) → length (take i xs) ≤ i
 short_take zero xs = omega arith
 short_take (suc i) [] = omega arith
@@ -217,6 +208,6 @@ few_kept bound rows i =
     let d = short_take i rows in omega arith
 
 -- groups that are those of the rows, as a map
-pub held_are : (bound : Bound) (rows : List (List Value)) (groups : List (List Value × List Tally)) → GroupsAre bound rows groups
+pub held_are : (bound : Bound) (rows : List (List Value)) (groups : List (List Value × Tallied)) → GroupsAre bound rows groups
     → map_of.from_entries groups ≡ groups_of bound rows
 held_are bound rows groups g = map_of.same_map key_total key_same _ _ (λ q. map_of.get-from_entries key_total groups q ∙ g.at q)

@@ -13,12 +13,10 @@ use Rattle.std.proofs.lemmas.List.Sorted.{ranks_by}
 use Rattle.im_values.specs.declared.value.Value.{Value}
 use Rattle.im_values.specs.declared.value.Value.TheVariants.{Int, Text, Null}
 use Rattle.im_values.specs.Order.{order, is_null}
-use Rattle.im_syntax.specs.declared.bound.Item.{Item}
-use Rattle.im_syntax.specs.declared.bound.Item.TheVariants as item
 use Rattle.im_syntax.specs.BoundFits.{value_at}
-use Rattle.im_group.specs.declared.tally.Tally.TheVariants as tally
-use Rattle.im_group.specs.Sums.{number, added, joined_sum}
-use Rattle.im_group.specs.Tallies.{column_of, present, total, lesser, greater, least, greatest, sum_of, tally_of, taken, one_more, joined}
+use Rattle.im_group.specs.declared.asked.Asked.{Asked}
+use Rattle.im_group.specs.Sums.{number, column_of, present, total, lesser, greater, sums_of, no_sums, taken, joined}
+use Rattle.im_group.specs.Tallies.{Tallied, tallied, row_taken, all_joined}
 use Rattle.im_values.proofs.ForCallers.{order_total}
 
 -- ---- one row more
@@ -30,6 +28,10 @@ counted_one : (b : Bool) (v : Value) (vs : List Value) → length (vs ++ cond (n
 counted_one true v vs = omega (arith, length-append vs [])
 counted_one false v vs = length-append vs (v ∷ [])
 
+-- one value more where it is not NULL
+abbrev one_more : Value → ℕ → ℕ
+one_more v n = if is_null v then n else n + 1
+
 present-push : (vs : List Value) (v : Value) → length (present (vs ++ v ∷ [])) ≡ one_more v (length (present vs))
 present-push vs v = ap length (filter-append (λ w. not (is_null w)) vs (v ∷ [])) ∙ counted_one (is_null v) v (present vs)
 
@@ -39,18 +41,47 @@ total-push vs v = fold_push (λ sum w. sum +ℤ number w) (pos 0) vs v
 adds_nothing : (n : ℤ) → n +ℤ pos 0 ≡ n
 adds_nothing n = omega (arith, ints)
 
-sum-push : (vs : List Value) (v : Value) → sum_of (vs ++ v ∷ []) ≡ added (sum_of vs) v
-sum-push vs (Int n) = λ i. record { values = present-push vs (Int n) i; total = total-push vs (Int n) i }
-sum-push vs (Text t) = λ i. record { values = present-push vs (Text t) i; total = (total-push vs (Text t) ∙ adds_nothing (total vs)) i }
-sum-push vs Null = λ i. record { values = present-push vs Null i; total = (total-push vs Null ∙ adds_nothing (total vs)) i }
+end-push : (asked : Bool) (op : Value → Value → Value) (vs : List Value) (v : Value)
+    → cond asked (fold op Null (vs ++ v ∷ [])) Null ≡ cond asked (op (cond asked (fold op Null vs) Null) v) (cond asked (fold op Null vs) Null)
+end-push true op vs v = fold_push op Null vs v
+end-push false op vs v = refl
 
-pub tally-push : (i : Item) (rows : List (List Value)) (row : List Value) → tally_of i (rows ++ row ∷ []) ≡ taken i (tally_of i rows) row
-tally-push (item.Column c) rows row = refl
-tally-push item.CountAll rows row = ap tally.Count (length-append rows (row ∷ []))
-tally-push (item.Count c) rows row = ap tally.Count (ap (λ vs. length (present vs)) (column-push c rows row) ∙ present-push (column_of c rows) (value_at row c))
-tally-push (item.Sum c) rows row = ap tally.Sum (ap sum_of (column-push c rows row) ∙ sum-push (column_of c rows) (value_at row c))
-tally-push (item.Min c) rows row = ap tally.Least (ap least (column-push c rows row) ∙ fold_push lesser Null (column_of c rows) (value_at row c))
-tally-push (item.Max c) rows row = ap tally.Greatest (ap greatest (column-push c rows row) ∙ fold_push greater Null (column_of c rows) (value_at row c))
+sums-push : (a : Asked) (vs : List Value) (v : Value) → sums_of a (vs ++ v ∷ []) ≡ taken a (sums_of a vs) v
+sums-push a vs (Int n) = λ i. record {
+  values = present-push vs (Int n) i;
+  total = total-push vs (Int n) i;
+  least = end-push a.least lesser vs (Int n) i;
+  greatest = end-push a.greatest greater vs (Int n) i;
+}
+sums-push a vs (Text t) = λ i. record {
+  values = present-push vs (Text t) i;
+  total = (total-push vs (Text t) ∙ adds_nothing (total vs)) i;
+  least = end-push a.least lesser vs (Text t) i;
+  greatest = end-push a.greatest greater vs (Text t) i;
+}
+sums-push a vs Null = λ i. record {
+  values = present-push vs Null i;
+  total = (total-push vs Null ∙ adds_nothing (total vs)) i;
+  least = end-push a.least lesser vs Null i;
+  greatest = end-push a.greatest greater vs Null i;
+}
+
+each-push : (qs : List Asked) (rows : List (List Value)) (row : List Value)
+    → (tallied qs (rows ++ row ∷ [])).sums ≡ (row_taken qs (tallied qs rows) row).sums
+each-push [] rows row = refl
+each-push (a ∷ qs) rows row =
+    λ i. (ap (sums_of a) (column-push a.column rows row) ∙ sums-push a (column_of a.column rows) (value_at row a.column)) i ∷ each-push qs rows row i
+
+pub tallied-push : (qs : List Asked) (rows : List (List Value)) (row : List Value) → tallied qs (rows ++ row ∷ []) ≡ row_taken qs (tallied qs rows) row
+tallied-push qs rows row = λ i. record { rows = length-append rows (row ∷ []) i; sums = each-push qs rows row i }
+
+-- no row
+no_end : (asked : Bool) → cond asked Null Null ≡ Null
+no_end true = refl
+no_end false = refl
+
+pub sums_of-nil : (a : Asked) → sums_of a [] ≡ no_sums
+sums_of-nil a = λ i. record { values = 0; total = pos 0; least = no_end a.least i; greatest = no_end a.greatest i }
 
 -- ---- two lists of rows
 
@@ -158,15 +189,24 @@ total_from n (v ∷ vs) =
 total-append : (vs ws : List Value) → total (vs ++ ws) ≡ total vs +ℤ total ws
 total-append vs ws = fold-append (λ sum v. sum +ℤ number v) (pos 0) vs ws ∙ total_from (total vs) ws
 
-sum-append : (vs ws : List Value) → sum_of (vs ++ ws) ≡ joined_sum (sum_of vs) (sum_of ws)
-sum-append vs ws = λ i. record { values = present-append vs ws i; total = total-append vs ws i }
+end-append : (asked : Bool) (op : Value → Value → Value) (xs ys : List Value) → op Null Null ≡ Null
+    → fold op Null (xs ++ ys) ≡ op (fold op Null xs) (fold op Null ys)
+    → cond asked (fold op Null (xs ++ ys)) Null ≡ op (cond asked (fold op Null xs) Null) (cond asked (fold op Null ys) Null)
+end-append true op xs ys none both = both
+end-append false op xs ys none both = sym none
 
-pub tally-append : (i : Item) (xs ys : List (List Value)) → tally_of i (xs ++ ys) ≡ joined (tally_of i xs) (tally_of i ys)
-tally-append (item.Column c) xs ys = refl
-tally-append item.CountAll xs ys = ap tally.Count (length-append xs ys)
-tally-append (item.Count c) xs ys = ap tally.Count (ap (λ vs. length (present vs)) (column-append c xs ys) ∙ present-append (column_of c xs) (column_of c ys))
-tally-append (item.Sum c) xs ys = ap tally.Sum (ap sum_of (column-append c xs ys) ∙ sum-append (column_of c xs) (column_of c ys))
-tally-append (item.Min c) xs ys =
-    ap tally.Least (ap least (column-append c xs ys) ∙ fold_both lesser Null Null-lesser lesser-Null lesser-assoc (column_of c xs) (column_of c ys))
-tally-append (item.Max c) xs ys =
-    ap tally.Greatest (ap greatest (column-append c xs ys) ∙ fold_both greater Null Null-greater greater-Null greater-assoc (column_of c xs) (column_of c ys))
+sums-append : (a : Asked) (xs ys : List Value) → sums_of a (xs ++ ys) ≡ joined (sums_of a xs) (sums_of a ys)
+sums-append a xs ys = λ i. record {
+  values = present-append xs ys i;
+  total = total-append xs ys i;
+  least = end-append a.least lesser xs ys refl (fold_both lesser Null Null-lesser lesser-Null lesser-assoc xs ys) i;
+  greatest = end-append a.greatest greater xs ys refl (fold_both greater Null Null-greater greater-Null greater-assoc xs ys) i;
+}
+
+each-append : (qs : List Asked) (xs ys : List (List Value)) → (tallied qs (xs ++ ys)).sums ≡ (all_joined (tallied qs xs) (tallied qs ys)).sums
+each-append [] xs ys = refl
+each-append (a ∷ qs) xs ys =
+    λ i. (ap (sums_of a) (column-append a.column xs ys) ∙ sums-append a (column_of a.column xs) (column_of a.column ys)) i ∷ each-append qs xs ys i
+
+pub tallied-append : (qs : List Asked) (xs ys : List (List Value)) → tallied qs (xs ++ ys) ≡ all_joined (tallied qs xs) (tallied qs ys)
+tallied-append qs xs ys = λ i. record { rows = length-append xs ys i; sums = each-append qs xs ys i }

@@ -8,7 +8,7 @@ use Rattle.std.specs.Prelude.{IsSome, MatchOption}
 use Rattle.std.specs.Iterator.{Yields}
 use Rattle.im_values.specs.declared.value.Value.{Value}
 use Rattle.indexmap.specs.IndexMap.{insert_entry}
-use Rattle.im_group.specs.declared.tally.Tally.{Tally}
+use Rattle.im_group.specs.Tallies.{Tallied}
 use Rattle.im_group.specs.Partials.{is_key, keyed}
 use Rattle.im_group.specs.inner.Steps.{tallies_at, placed}
 use Rattle.im_group.proofs.Orders.{key_total}
@@ -18,24 +18,24 @@ abbrev pub Agrees : {K : Type 0} → (K → K → Bool) → (K → List Value) �
 Agrees {K} eq f = (x y : K) → eq x y ≡ is_key (f x) (f y)
 
 module _ {K : Type 0} (eq : K → K → Bool) (f : K → List Value) (agrees : Agrees eq f) where
-  put : (b : Bool) (e : K × List Tally) (es rest : List (K × List Tally)) (ts : List Tally)
+  put : (b : Bool) (e : K × Tallied) (es rest : List (K × Tallied)) (ts : Tallied)
       → keyed f (cond b ((e.0, ts) ∷ es) (e ∷ rest)) ≡ cond b ((f e.0, ts) ∷ keyed f es) ((f e.0, e.1) ∷ keyed f rest)
   put true e es rest ts = refl
   put false e es rest ts = refl
 
   -- an insert
-  pub keyed-insert_entry : (es : List (K × List Tally)) (k : K) (ts : List Tally) → keyed f (insert_entry eq es k ts) ≡ placed (keyed f es) (f k) ts
+  pub keyed-insert_entry : (es : List (K × Tallied)) (k : K) (ts : Tallied) → keyed f (insert_entry eq es k ts) ≡ placed (keyed f es) (f k) ts
   keyed-insert_entry [] k ts = refl
   keyed-insert_entry (e ∷ es) k ts =
       put (eq k e.0) e es (insert_entry eq es k ts) ts
       ∙ (λ i. cond (agrees k e.0 i) ((f e.0, ts) ∷ keyed f es) ((f e.0, e.1) ∷ keyed-insert_entry es k ts i))
 
   -- a look-up
-  pub lookup-keyed : (es : List (K × List Tally)) (k : K) → lookup (eq k) es ≡ tallies_at (keyed f es) (f k)
+  pub lookup-keyed : (es : List (K × Tallied)) (k : K) → lookup (eq k) es ≡ tallies_at (keyed f es) (f k)
   lookup-keyed [] k = refl
   lookup-keyed (e ∷ es) k = λ i. cond (agrees k e.0 i) (Some e.1) (lookup-keyed es k i)
 
-  found : (b : Bool) (e : K × List Tally) (es : List (K × List Tally)) (k : K) (ts : List Tally) → eq k e.0 ≡ b
+  found : (b : Bool) (e : K × Tallied) (es : List (K × Tallied)) (k : K) (ts : Tallied) → eq k e.0 ≡ b
       → (IsSome (lookup (eq k) es) → keyed f (set_value (eq k) es ts) ≡ placed (keyed f es) (f k) ts)
       → IsSome (cond b (Some e.1) (lookup (eq k) es))
       → keyed f (cond b ((e.0, ts) ∷ es) (e ∷ set_value (eq k) es ts)) ≡ cond b ((f e.0, ts) ∷ keyed f es) ((f e.0, e.1) ∷ placed (keyed f es) (f k) ts)
@@ -43,7 +43,7 @@ module _ {K : Type 0} (eq : K → K → Bool) (f : K → List Value) (agrees : A
   found false e es k ts t more here = ap (λ l. (f e.0, e.1) ∷ l) (more here)
 
   -- a write at a key that is there
-  pub keyed-set_value : (es : List (K × List Tally)) (k : K) (ts : List Tally) → IsSome (lookup (eq k) es)
+  pub keyed-set_value : (es : List (K × Tallied)) (k : K) (ts : Tallied) → IsSome (lookup (eq k) es)
       → keyed f (set_value (eq k) es ts) ≡ placed (keyed f es) (f k) ts
   keyed-set_value [] k ts here = absurd cc
   keyed-set_value (e ∷ es) k ts here =
@@ -52,29 +52,29 @@ module _ {K : Type 0} (eq : K → K → Bool) (f : K → List Value) (agrees : A
 
 -- a look-up and a write by a test that agrees with a key
 module _ {K : Type 0} (test : K → Bool) (q : List Value) (f : K → List Value) (agrees : (y : K) → test y ≡ is_key q (f y)) where
-  pub lookup-tested : (es : List (K × List Tally)) → lookup test es ≡ tallies_at (keyed f es) q
+  pub lookup-tested : (es : List (K × Tallied)) → lookup test es ≡ tallies_at (keyed f es) q
   lookup-tested [] = refl
   lookup-tested (e ∷ es) = λ i. cond (agrees e.0 i) (Some e.1) (lookup-tested es i)
 
-  tested : (b : Bool) (e : K × List Tally) (es : List (K × List Tally)) (ts : List Tally)
+  tested : (b : Bool) (e : K × Tallied) (es : List (K × Tallied)) (ts : Tallied)
       → (IsSome (lookup test es) → keyed f (set_value test es ts) ≡ placed (keyed f es) q ts)
       → IsSome (cond b (Some e.1) (lookup test es))
       → keyed f (cond b ((e.0, ts) ∷ es) (e ∷ set_value test es ts)) ≡ cond b ((f e.0, ts) ∷ keyed f es) ((f e.0, e.1) ∷ placed (keyed f es) q ts)
   tested true e es ts more here = refl
   tested false e es ts more here = ap (λ l. (f e.0, e.1) ∷ l) (more here)
 
-  pub keyed-set_tested : (es : List (K × List Tally)) (ts : List Tally) → IsSome (lookup test es) → keyed f (set_value test es ts) ≡ placed (keyed f es) q ts
+  pub keyed-set_tested : (es : List (K × Tallied)) (ts : Tallied) → IsSome (lookup test es) → keyed f (set_value test es ts) ≡ placed (keyed f es) q ts
   keyed-set_tested [] ts here = absurd cc
   keyed-set_tested (e ∷ es) ts here =
       tested (test e.0) e es ts (keyed-set_tested es ts) here
       ∙ ap (λ b. cond b ((f e.0, ts) ∷ keyed f es) ((f e.0, e.1) ∷ placed (keyed f es) q ts)) (agrees e.0)
 
-pub absent : (b : Bool) (v : List Tally) (r : Option (List Tally)) → cond b (Some v) r ≡ None → (b ≡ false) × (r ≡ None)
+pub absent : (b : Bool) (v : Tallied) (r : Option Tallied) → cond b (Some v) r ≡ None → (b ≡ false) × (r ≡ None)
 absent true v r e = absurd cc
 absent false v r e = (refl, e)
 
 -- new tallies at a key that is not there go last
-pub placed_new : (gs : List (List Value × List Tally)) (k : List Value) (ts : List Tally) → tallies_at gs k ≡ None → placed gs k ts ≡ gs ++ (k, ts) ∷ []
+pub placed_new : (gs : List (List Value × Tallied)) (k : List Value) (ts : Tallied) → tallies_at gs k ≡ None → placed gs k ts ≡ gs ++ (k, ts) ∷ []
 placed_new [] k ts none = refl
 placed_new (g ∷ gs) k ts none =
     let none_of = absent (is_key k g.0) g.1 (tallies_at gs k) none in
@@ -89,7 +89,7 @@ all_middle P (x ∷ xs) y zs all = all_middle P xs y zs all.1
 
 -- no key stands before itself where the keys are distinct
 pub not_before : {K : Type 0} (eq : K → K → Bool) (f : K → List Value) → Agrees eq f
-    → (xs : List (K × List Tally)) (e : K × List Tally) (zs : List (K × List Tally))
+    → (xs : List (K × Tallied)) (e : K × Tallied) (zs : List (K × Tallied))
     → IsDistinct eq (map (λ g. g.0) (xs ++ e ∷ zs)) → tallies_at (keyed f xs) (f e.0) ≡ None
 unfolding IsDistinct
 not_before eq f agrees [] e zs distinct = refl
@@ -116,6 +116,6 @@ pub no_more_of : {X : Type 0} (xs ys : List X) → ys ≡ [] → xs ++ ys ≡ xs
 no_more_of [] ys e = e
 no_more_of (x ∷ xs) ys e = ap (λ l. x ∷ l) (no_more_of xs ys e)
 
-pub keyed-map : {K Y : Type 0} (f : K → List Value) (h : Y → K × List Tally) (ys : List Y) → keyed f (map h ys) ≡ map (λ y. (f (h y).0, (h y).1)) ys
+pub keyed-map : {K Y : Type 0} (f : K → List Value) (h : Y → K × Tallied) (ys : List Y) → keyed f (map h ys) ≡ map (λ y. (f (h y).0, (h y).1)) ys
 keyed-map f h [] = refl
 keyed-map f h (y ∷ ys) = ap (λ l. (f (h y).0, (h y).1) ∷ l) (keyed-map f h ys)

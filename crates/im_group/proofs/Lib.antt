@@ -9,6 +9,8 @@ mod Held
 mod Few
 mod Agreement
 mod GroupSteps
+mod AskedLemmas
+mod ReadingLaws
 mod KeySort
 mod Merging
 mod Parts

@@ -6,14 +6,12 @@ use Rattle.std.specs.FinMap as map_of
 use Rattle.std.proofs.lemmas.List.{map-append}
 use Rattle.std.proofs.lemmas.List.Elements.{filter-append}
 use Rattle.im_values.specs.declared.value.Value.{Value}
-use Rattle.im_syntax.specs.declared.bound.Item.{Item}
 use Rattle.im_syntax.specs.declared.bound.Bound.{Bound}
-use Rattle.im_group.specs.declared.tally.Tally.{Tally}
-use Rattle.im_group.specs.Tallies.{tally_of, all_joined, CanJoin}
-use Rattle.im_group.specs.Partials.{Numbered, Parts, key_order, key_of, is_key, keeps, kept, wanted, members, tallies_of, keys_of, groups_of, keyed, held, joined_groups, merged, partial, CanMerge}
+use Rattle.im_group.specs.Tallies.{Tallied, wanted, asked_in, tallied, all_joined, CanJoin}
+use Rattle.im_group.specs.Partials.{Numbered, Parts, key_order, key_of, is_key, keeps, kept, members, tallies_of, keys_of, groups_of, keyed, held, joined_groups, merged, partial, CanMerge}
 use Rattle.im_group.specs.inner.Steps.{tallies_at}
 use Rattle.im_group.proofs.Orders.{key_total, key_same}
-use Rattle.im_group.proofs.Growth.{tally-append}
+use Rattle.im_group.proofs.Growth.{tallied-append}
 use Rattle.im_group.proofs.GroupLemmas.{stands, no_more, get-groups_of}
 use Rattle.im_group.proofs.GroupSteps.{flipped, none_has}
 use Rattle.im_group.proofs.Merging.{at_both, get-joined_groups}
@@ -29,19 +27,14 @@ no_member [] (row ∷ rows) q h =
     ap (λ b. cond b (row ∷ members [] rows q) (members [] rows q)) (flipped [] q ∙ unsaid (is_eq (key_order q [])) h) ∙ no_member [] rows q h
 no_member (c ∷ cs) rows q h = none_has (c ∷ cs) rows q h
 
-tallies_each : (is : List Item) (ms ns : List (List Value))
-    → map (λ i. tally_of i (ms ++ ns)) is ≡ all_joined (map (λ i. tally_of i ms) is) (map (λ i. tally_of i ns) is)
-tallies_each [] ms ns = refl
-tallies_each (i ∷ is) ms ns = λ j. tally-append i ms ns j ∷ tallies_each is ms ns j
-
 module _ (bound : Bound) where
   members-append : (xs ys : List (List Value)) (q : List Value) → members bound.groups (xs ++ ys) q ≡ members bound.groups xs q ++ members bound.groups ys q
   members-append xs ys q = filter-append (λ r. is_key (key_of bound.groups r) q) xs ys
 
   tallies-append : (xs ys : List (List Value)) (q : List Value) → tallies_of bound (xs ++ ys) q ≡ all_joined (tallies_of bound xs q) (tallies_of bound ys q)
   tallies-append xs ys q =
-      ap (λ ms. map (λ i. tally_of i ms) (wanted bound)) (members-append xs ys q)
-      ∙ tallies_each (wanted bound) (members bound.groups xs q) (members bound.groups ys q)
+      ap (λ ms. tallied (asked_in (wanted bound)) ms) (members-append xs ys q)
+      ∙ tallied-append (asked_in (wanted bound)) (members bound.groups xs q) (members bound.groups ys q)
 
 stands-both : (ks ls : List (List Value)) (q : List Value) → stands q (ks ++ ls) ≡ cond (stands q ks) true (stands q ls)
 stands-both [] ls q = refl
@@ -72,10 +65,10 @@ groups-append bound xs ys = map_of.same_map key_total key_same _ _ (λ q.
         ≡ cond (cond a true b) (Some (tallies_of bound (xs ++ ys) q)) None
     go q true true e g = ap Some (sym (tallies-append bound xs ys q))
     go q true false e g =
-        ap (λ ms. Some (map (λ i. tally_of i ms) (wanted bound)))
+        ap (λ ms. Some (tallied (asked_in (wanted bound)) ms))
         (sym (members-append bound xs ys q ∙ (ap (λ l. members bound.groups xs q ++ l) (no_member bound.groups ys q g) ∙ no_more (members bound.groups xs q))))
     go q false true e g =
-        ap (λ ms. Some (map (λ i. tally_of i ms) (wanted bound)))
+        ap (λ ms. Some (tallied (asked_in (wanted bound)) ms))
         (sym (members-append bound xs ys q ∙ ap (λ l. l ++ members bound.groups ys q) (no_member bound.groups xs q e)))
     go q false false e g = refl
 
@@ -85,14 +78,14 @@ kept-append bound xs ys = filter-append (λ r. keeps bound.filter r.1) xs ys
 abbrev pub plain : List Numbered → Parts
 plain rows = record { rows = rows; groups = map_of.empty }
 
-abbrev pub grouped : map_of.FinMap key_order (List Tally) → Parts
+abbrev pub grouped : map_of.FinMap key_order Tallied → Parts
 grouped groups = record { rows = []; groups = groups }
 
 no_groups : joined_groups map_of.empty map_of.empty ≡ map_of.empty
 no_groups = map_of.same_map key_total key_same _ _ (λ q.
     get-joined_groups map_of.empty map_of.empty q
-    ∙ ((λ i. at_both (map_of.get-empty {X = List Tally} key_order q i) (map_of.get-empty {X = List Tally} key_order q i))
-    ∙ sym (map_of.get-empty {X = List Tally} key_order q)))
+    ∙ ((λ i. at_both (map_of.get-empty {X = Tallied} key_order q i) (map_of.get-empty {X = Tallied} key_order q i))
+    ∙ sym (map_of.get-empty {X = Tallied} key_order q)))
 
 pub merged-partial : (bound : Bound) (xs ys : List Numbered) → merged (partial bound xs) (partial bound ys) ≡ partial bound (xs ++ ys)
 merged-partial bound xs ys =
@@ -105,7 +98,7 @@ merged-partial bound xs ys =
     ]
 
 -- what the counts of the parts allow, the counts of the groups as they are held allow
-pub can_merge-held : {K : Type 0} (f : K → List Value) (a b : Parts) (es os : List (K × List Tally)) → held f es ≡ a.groups → held f os ≡ b.groups
+pub can_merge-held : {K : Type 0} (f : K → List Value) (a b : Parts) (es os : List (K × Tallied)) → held f es ≡ a.groups → held f os ≡ b.groups
     → CanMerge a b
     → (key : List Value) → ForSome (tallies_at (keyed f es) key) (λ ts. ForSome (tallies_at (keyed f os) key) (λ us. CanJoin ts us))
 can_merge-held f a b es os p q can key ts t us u =

@@ -9,9 +9,10 @@ use Rattle.std.proofs.lemmas.Cmp.{tied_itself}
 use Rattle.im_values.specs.declared.value.Value.{Value}
 use Rattle.im_syntax.specs.declared.bound.Bound.{Bound}
 use Rattle.im_syntax.specs.BoundFits.{value_at}
-use Rattle.im_syntax.specs.BoundQuery.{is_aggregate, is_listed, IsOfRow, IsQuery}
-use Rattle.im_group.specs.declared.tally.Tally.{Tally}
-use Rattle.im_group.specs.Partials.{Numbered, Parts, IsPart, key_order, key_of, is_key, kept, keyed, held, keys_of, groups_of, wanted}
+use Rattle.im_syntax.specs.BoundQuery.{is_listed, IsOfRow, IsQuery}
+use Rattle.im_syntax.specs.Functions.{is_aggregate}
+use Rattle.im_group.specs.Tallies.{Tallied, wanted}
+use Rattle.im_group.specs.Partials.{Numbered, Parts, IsPart, key_order, key_of, is_key, kept, keyed, held, keys_of, groups_of}
 use Rattle.im_group.specs.inner.Holding.{AreKeyed}
 use Rattle.im_group.specs.inner.Steps.{tallies_at}
 use Rattle.im_group.proofs.Orders.{key_total, key_same}
@@ -64,12 +65,12 @@ stands-whole q (k ∷ ks) n all e = go (is_eq (key_order q k)) refl e (stands-wh
     go true same e more = ap length (key_same q k (equal _ same)) ∙ all.0
     go false same e more = more e
 
-is_there : (b : Bool) (v ts : List Tally) → cond b (Some v) None ≡ Some ts → b ≡ true
+is_there : (b : Bool) (v ts : Tallied) → cond b (Some v) None ≡ Some ts → b ≡ true
 is_there true v ts e = refl
 is_there false v ts e = absurd cc
 
 -- a group of a part has a value for each column of GROUP BY
-group-whole : (b : Bool) (bound : Bound) (rows : List Numbered) (q : List Value) (ts : List Tally)
+group-whole : (b : Bool) (bound : Bound) (rows : List Numbered) (q : List Value) (ts : Tallied)
     → map_of.get (cond b (grouped (groups_of bound (map (λ r. r.1) (kept bound rows)))) (plain (kept bound rows))).groups q ≡ Some ts
     → length q ≡ length bound.groups
 group-whole true bound rows q ts e =
@@ -77,25 +78,25 @@ group-whole true bound rows q ts e =
     stands-whole q (keys_of bound.groups values) (length bound.groups) (keys-whole bound.groups values)
     (is_there _ _ ts (sym (get-groups_of bound values q) ∙ e))
 group-whole false bound rows q ts e =
-    let none = sym (map_of.get-empty {X = List Tally} key_order q) ∙ e in absurd cc
+    let none = sym (map_of.get-empty {X = Tallied} key_order q) ∙ e in absurd cc
 
 -- what holds of each key that is found holds of each that is held
-entries-all : {K : Type 0} (f : K → List Value) (P : List Value → Type 0) (es : List (K × List Tally))
-    → ((q : List Value) (ts : List Tally) → tallies_at (keyed f es) q ≡ Some ts → P q) → AllByRecursion (λ g. P (f g.0)) es
+entries-all : {K : Type 0} (f : K → List Value) (P : List Value → Type 0) (es : List (K × Tallied))
+    → ((q : List Value) (ts : Tallied) → tallies_at (keyed f es) q ≡ Some ts → P q) → AllByRecursion (λ g. P (f g.0)) es
 entries-all f P [] all = tt
 entries-all f P (g ∷ es) all = (
   all (f g.0) g.1 (ap (at (f g.0)) (ap is_eq (tied_itself key_total (f g.0)))),
   entries-all f P es (λ q ts e. later q ts e (is_key q (f g.0)) refl),
 )
   where
-    at : List Value → Bool → Option (List Tally)
+    at : List Value → Bool → Option Tallied
     at q b = cond b (Some g.1) (tallies_at (keyed f es) q)
 
-    later : (q : List Value) (ts : List Tally) → tallies_at (keyed f es) q ≡ Some ts → (b : Bool) → is_key q (f g.0) ≡ b → P q
+    later : (q : List Value) (ts : Tallied) → tallies_at (keyed f es) q ≡ Some ts → (b : Bool) → is_key q (f g.0) ≡ b → P q
     later q ts e true here = all q g.1 (ap (at q) here)
     later q ts e false here = all q ts (ap (at q) here ∙ e)
 
-pub part-keyed : (bound : Bound) (part : Parts) (es : List (Vec Value × List Tally)) → IsPart bound part
+pub part-keyed : (bound : Bound) (part : Parts) (es : List (Vec Value × Tallied)) → IsPart bound part
     → held (λ k. k.items) es ≡ part.groups → AreKeyed (length bound.groups) es
 part-keyed bound part es is of =
     entries-all (λ (k : Vec Value). k.items) (λ q. length q ≡ length bound.groups) es (λ q ts e.

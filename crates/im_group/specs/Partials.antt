@@ -11,12 +11,10 @@ use Rattle.im_values.specs.declared.truth.Truth.TheVariants.{Yes, No, Unknown}
 use Rattle.im_values.specs.declared.value.Value.{Value}
 use Rattle.im_values.specs.Order.{order}
 use Rattle.im_syntax.specs.Condition.{CondOf}
-use Rattle.im_syntax.specs.declared.bound.Item.{Item}
 use Rattle.im_syntax.specs.declared.bound.Bound.{Bound}
 use Rattle.im_syntax.specs.BoundFits.{value_at}
 use Rattle.im_eval.specs.Holds.{truth_of}
-use Rattle.im_group.specs.declared.tally.Tally.{Tally}
-use Rattle.im_group.specs.Tallies.{tally_of, all_joined, CanJoin}
+use Rattle.im_group.specs.Tallies.{Tallied, wanted, asked_in, tallied, all_joined, CanJoin}
 
 -- a row with its number
 abbrev pub Numbered : Type 0
@@ -53,17 +51,13 @@ kept bound rows = filter (λ r. keeps bound.filter r.1) rows
 
 -- ---- groups
 
--- the items that a query takes of each group: those of its list, then those of its keys
-abbrev pub wanted : Bound → List Item
-wanted bound = bound.items ++ map (λ key. key.item) bound.keys
-
 -- the rows of a group
 abbrev pub members : List ℕ → List (List Value) → List Value → List (List Value)
 members columns rows key = filter (λ row. is_key (key_of columns row) key) rows
 
 -- what a group has taken of its rows
-abbrev pub tallies_of : Bound → List (List Value) → List Value → List Tally
-tallies_of bound rows key = map (λ i. tally_of i (members bound.groups rows key)) (wanted bound)
+abbrev pub tallies_of : Bound → List (List Value) → List Value → Tallied
+tallies_of bound rows key = tallied (asked_in (wanted bound)) (members bound.groups rows key)
 
 -- the keys of groups: those of the rows. Without GROUP BY there is one group, also over no row
 abbrev pub keys_of : List ℕ → List (List Value) → List (List Value)
@@ -72,13 +66,13 @@ keys_of (column ∷ columns) rows = map (key_of (column ∷ columns)) rows
 
 -- each group's tallies, by its key
 abbrev pub Groups : Type 0
-Groups = map_of.FinMap key_order (List Tally)
+Groups = map_of.FinMap key_order Tallied
 
 -- groups as they are held: in any order, each key once, and the values of a key in a container
-abbrev pub keyed : {K : Type 0} → (K → List Value) → List (K × List Tally) → List (List Value × List Tally)
+abbrev pub keyed : {K : Type 0} → (K → List Value) → List (K × Tallied) → List (List Value × Tallied)
 keyed values es = map (λ e. (values e.0, e.1)) es
 
-abbrev pub held : {K : Type 0} → (K → List Value) → List (K × List Tally) → Groups
+abbrev pub held : {K : Type 0} → (K → List Value) → List (K × Tallied) → Groups
 held values es = map_of.from_entries (keyed values es)
 
 abbrev pub groups_of : Bound → List (List Value) → Groups
@@ -102,7 +96,7 @@ pub record IsPart (bound : Bound) (part : Parts) : Type 0 where
   pub is : part ≡ partial bound rows
 
 -- the groups of two parts: a group of both joins what it has in each
-abbrev pub with_tallies : Option (List Tally) → List Tally → List Tally
+abbrev pub with_tallies : Option Tallied → Tallied → Tallied
 with_tallies None ts = ts
 with_tallies (Some old) ts = all_joined old ts
 

@@ -1,111 +1,99 @@
--- What is counted, added up and compared of the rows of one group.
-use Rattle.std.specs.Prelude.{ℕ, ◌+◌, ◌<◌, ◌^◌, ◌==◌, not, List, [], ◌∷◌, length, map, filter, fold, ℤ, pos, ◌+ℤ◌, if◌then◌else◌}
-use Rattle.std.specs.Ordering.{is_lt}
+-- What a group has taken of its rows: how many there are, and one summary for each column that the query aggregates.
+use Rattle.std.specs.Prelude.{◌≡◌, ℕ, ◌+◌, ◌<◌, ◌^◌, ◌==◌, Bool, true, false, ◌&&◌, List, [], ◌∷◌, ◌++◌, length, map, fold, get_or, if◌then◌else◌}
+use Rattle.std.specs.List.{AllByRecursion, list_any}
 use Rattle.im_values.specs.declared.value.Value.{Value}
-use Rattle.im_values.specs.declared.value.Value.TheVariants.{Null}
-use Rattle.im_values.specs.Order.{order, is_null}
-use Rattle.im_syntax.specs.declared.bound.Item.{Item}
-use Rattle.im_syntax.specs.declared.bound.Item.TheVariants as item
+use Rattle.im_syntax.specs.declared.bound.Bound.{Bound}
+use Rattle.im_syntax.specs.declared.item.ItemOf.{ItemOf}
+use Rattle.im_syntax.specs.declared.item.ItemOf.TheVariants as item
 use Rattle.im_syntax.specs.BoundFits.{value_at}
-use Rattle.im_group.specs.declared.cell.Cell.{Cell}
-use Rattle.im_group.specs.declared.cell.Cell.TheVariants as cell
-use Rattle.im_group.specs.declared.tally.Tally.{Tally}
-use Rattle.im_group.specs.declared.tally.Tally.TheVariants as tally
-use Rattle.im_group.specs.Sums.{SumOf, number, added, joined_sum}
-use Rattle.im_group.specs.Cells.{cell_of}
+use Rattle.im_syntax.specs.BoundQuery.{is_listed}
+use Rattle.im_group.specs.declared.asked.Asked.{Asked}
+use Rattle.im_group.specs.declared.asked.End.{End}
+use Rattle.im_group.specs.declared.asked.End.TheVariants as end
+use Rattle.im_group.specs.Sums.{SumsOf, column_of, sums_of, no_sums, reads, taken, joined}
 
--- the values of rows in a column
-abbrev pub column_of : ℕ → List (List Value) → List Value
-column_of column rows = map (λ row. value_at row column) rows
+-- ---- what is asked of a group
 
--- those that are not NULL
-abbrev pub present : List Value → List Value
-present vs = filter (λ v. not (is_null v)) vs
+-- the items that a query takes of each group: those of its list, then those of its keys
+abbrev pub wanted : Bound → List (ItemOf ℕ)
+wanted bound = bound.items ++ map (λ key. key.item) bound.keys
 
-abbrev pub total : List Value → ℤ
-total vs = fold (λ sum v. sum +ℤ number v) (pos 0) vs
+-- the columns that aggregates go over, each once
+abbrev pub with_column : List ℕ → ItemOf ℕ → List ℕ
+with_column columns (item.Column column) = columns
+with_column columns item.CountAll = columns
+with_column columns (item.Aggregate function column) = if is_listed columns column then columns else columns ++ column ∷ []
 
--- the lesser of two values, and the greater, where NULL gives way to the other
-abbrev pub lesser : Value → Value → Value
-lesser a b = if is_lt (order b a) then b else a
+-- an item reads an end of the values of this column
+abbrev pub asks : End → ℕ → ItemOf ℕ → Bool
+asks end column (item.Column other) = false
+asks end column item.CountAll = false
+asks end column (item.Aggregate function other) = reads end function && other == column
 
-abbrev pub greater : Value → Value → Value
-greater a b = if is_null b then a else (if is_null a then b else (if is_lt (order a b) then b else a))
+-- what is asked of a column
+abbrev pub asked_of : List (ItemOf ℕ) → ℕ → Asked
+asked_of items column = record {
+  column = column;
+  least = list_any (asks end.Least column) items;
+  greatest = list_any (asks end.Greatest column) items;
+}
 
-abbrev pub least : List Value → Value
-least vs = fold lesser Null vs
+-- what a query asks of the columns of each group
+unfoldable pub asked_in : List (ItemOf ℕ) → List Asked
+asked_in items = map (asked_of items) (fold with_column [] items)
 
-abbrev pub greatest : List Value → Value
-greatest vs = fold greater Null vs
+-- ---- what a group has
 
--- ---- one item
+pub record Tallied : Type 0 where
+  pub rows : ℕ
+  pub sums : List SumsOf
 
--- how many values there are, and what they add up to
-abbrev pub sum_of : List Value → SumOf
-sum_of vs = record { values = length (present vs); total = total vs }
+-- what a group of these rows has
+abbrev pub tallied : List Asked → List (List Value) → Tallied
+tallied asked rows = record { rows = length rows; sums = map (λ a. sums_of a (column_of a.column rows)) asked }
 
--- what an item takes of the rows of a group: a column is the group's own, and takes nothing
-abbrev pub tally_of : Item → List (List Value) → Tally
-tally_of (item.Column column) rows = tally.Column
-tally_of item.CountAll rows = tally.Count (length rows)
-tally_of (item.Count column) rows = tally.Count (length (present (column_of column rows)))
-tally_of (item.Sum column) rows = tally.Sum (sum_of (column_of column rows))
-tally_of (item.Min column) rows = tally.Least (least (column_of column rows))
-tally_of (item.Max column) rows = tally.Greatest (greatest (column_of column rows))
+-- ---- one row more
 
--- the tally of one row more
-abbrev pub one_more : Value → ℕ → ℕ
-one_more v n = if is_null v then n else n + 1
+abbrev pub each_taken : List Asked → List SumsOf → List Value → List SumsOf
+each_taken [] ss row = ss
+each_taken (a ∷ qs) [] row = []
+each_taken (a ∷ qs) (s ∷ ss) row = taken a s (value_at row a.column) ∷ each_taken qs ss row
 
-abbrev pub taken : Item → Tally → List Value → Tally
-taken item.CountAll (tally.Count n) row = tally.Count (n + 1)
-taken (item.Count column) (tally.Count n) row = tally.Count (one_more (value_at row column) n)
-taken (item.Sum column) (tally.Sum s) row = tally.Sum (added s (value_at row column))
-taken (item.Min column) (tally.Least v) row = tally.Least (lesser v (value_at row column))
-taken (item.Max column) (tally.Greatest v) row = tally.Greatest (greater v (value_at row column))
-taken i t row = t
+abbrev pub row_taken : List Asked → Tallied → List Value → Tallied
+row_taken asked t row = record { rows = t.rows + 1; sums = each_taken asked t.sums row }
 
-abbrev pub all_taken : List Item → List Tally → List Value → List Tally
-all_taken [] ts row = ts
-all_taken (i ∷ is) [] row = []
-all_taken (i ∷ is) (t ∷ ts) row = taken i t row ∷ all_taken is ts row
-
--- the cell of a tally; a sum over no value is NULL
-abbrev pub sum_cell : SumOf → Cell
-sum_cell s = if s.values == 0 then cell.Null else cell.Int s.total
-
-abbrev pub cell_of_tally : Tally → Cell
-cell_of_tally tally.Column = cell.Null
-cell_of_tally (tally.Count n) = cell.Int (pos n)
-cell_of_tally (tally.Sum s) = sum_cell s
-cell_of_tally (tally.Least v) = cell_of v
-cell_of_tally (tally.Greatest v) = cell_of v
+-- the counts stay below 2^64 with one row more
+pub record HasRoom (t : Tallied) : Type 0 where
+  pub rows : t.rows + 1 < 2 ^ 64
+  pub sums : AllByRecursion (λ s. s.values + 1 < 2 ^ 64) t.sums
 
 -- ---- two parts of one group
 
--- the tally of both parts; two tallies of different items do not meet
-abbrev pub joined : Tally → Tally → Tally
-joined (tally.Count n) (tally.Count m) = tally.Count (n + m)
-joined (tally.Sum s) (tally.Sum t) = tally.Sum (joined_sum s t)
-joined (tally.Least v) (tally.Least w) = tally.Least (lesser v w)
-joined (tally.Greatest v) (tally.Greatest w) = tally.Greatest (greater v w)
-joined t u = t
+abbrev pub each_joined : List SumsOf → List SumsOf → List SumsOf
+each_joined [] us = []
+each_joined (t ∷ ts) [] = t ∷ ts
+each_joined (t ∷ ts) (u ∷ us) = joined t u ∷ each_joined ts us
 
-abbrev pub all_joined : List Tally → List Tally → List Tally
-all_joined [] us = []
-all_joined (t ∷ ts) [] = t ∷ ts
-all_joined (t ∷ ts) (u ∷ us) = joined t u ∷ all_joined ts us
-
--- how much a tally has counted
-abbrev pub counted : Tally → ℕ
-counted (tally.Count n) = n
-counted (tally.Sum s) = s.values
-counted tally.Column = 0
-counted (tally.Least v) = 0
-counted (tally.Greatest v) = 0
+abbrev pub all_joined : Tallied → Tallied → Tallied
+all_joined t u = record { rows = t.rows + u.rows; sums = each_joined t.sums u.sums }
 
 -- the counts of two parts stay below 2^64
-abbrev pub CanJoin : List Tally → List Tally → Type 0
-CanJoin [] us = Unit {0}
-CanJoin (t ∷ ts) [] = Unit {0}
-CanJoin (t ∷ ts) (u ∷ us) = (counted t + counted u < 2 ^ 64) × CanJoin ts us
+abbrev pub CanJoinEach : List SumsOf → List SumsOf → Type 0
+CanJoinEach [] us = Unit {0}
+CanJoinEach (t ∷ ts) [] = Unit {0}
+CanJoinEach (t ∷ ts) (u ∷ us) = (t.values + u.values < 2 ^ 64) × CanJoinEach ts us
+
+pub record CanJoin (t u : Tallied) : Type 0 where
+  pub rows : t.rows + u.rows < 2 ^ 64
+  pub sums : CanJoinEach t.sums u.sums
+
+-- ---- reading
+
+-- where the summary of a column stands
+abbrev pub place_of : List Asked → ℕ → ℕ
+place_of [] column = 0
+place_of (a ∷ qs) column = if a.column == column then 0 else place_of qs column + 1
+
+-- the summary of a column
+abbrev pub sums_at : List Asked → List SumsOf → ℕ → SumsOf
+sums_at asked ss column = get_or ss (place_of asked column) no_sums

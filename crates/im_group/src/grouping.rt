@@ -1,13 +1,15 @@
-ghost use Rattle.std.specs.Prelude.{◌≡◌, ◌+◌, ◌<◌, ◌≤◌, ◌^◌, ◌++◌, ◌∷◌, [], None, IfOk, OnOk, OnErr, map, length};
+ghost use Rattle.std.specs.Prelude.{◌≡◌, ◌+◌, ◌<◌, ◌≤◌, ◌++◌, ◌∷◌, [], None, IfOk, OnOk, OnErr, map, length};
 ghost use Rattle.std.specs.List.{AllByRecursion};
 ghost use Rattle.std.specs.Option.{ForSome};
 ghost use Rattle.indexmap.specs.IndexMap.{spare};
-ghost use Rattle.im_syntax.specs.BoundFits.{BoundFits, FilterFits, ItemFits};
-ghost use Rattle.im_group.specs.inner.Holding.{CanJoinGroups, CanTake, as_groups, kept_values, lent, lent_key, own, with_first, with_group, with_taken};
+ghost use Rattle.im_syntax.specs.BoundFits.{BoundFits, FilterFits};
+ghost use Rattle.im_group.specs.inner.Holding.{CanJoinGroups, CanTake, as_groups, asked_by, kept_values, lent, lent_key, own, with_first, with_group, with_taken};
 ghost use Rattle.im_group.specs.Partials as spec;
 ghost use Rattle.im_group.specs.inner.Steps.{tallies_at, with_kept, with_row, one_group, GroupsAre};
-ghost use Rattle.im_group.specs.Tallies.{CanJoin, counted};
+ghost use Rattle.im_group.specs.Tallies as group;
+ghost use Rattle.im_group.specs.Tallies.{CanJoin, HasRoom};
 
+use crate::asked::{Asked, asked_in};
 use crate::tallies::Tallies;
 use im_eval::holds;
 use im_syntax::{Bound, Filter, Item};
@@ -34,7 +36,7 @@ pub fn keeps(filter: &Option<Filter>, row: &Row) -> bool
 
 /// What a query wants of each group: its items, then those of its keys.
 pub fn wanted(alloc: Global, bound: &Bound) -> Result<Vec<Item>, NoMemory>
-    ensures { IfOk result (λ items. items.items ≡ spec.wanted bound.now) }
+    ensures { IfOk result (λ items. items.items ≡ group.wanted bound.now) }
 {
     let mut items = Vec::from_slice(alloc, bound.items.items())?;
     for key in bound.keys.items() {
@@ -58,17 +60,17 @@ fn lend_key<'a>(columns: &[u32], row: &'a [Value], key: &mut Vec<&'a Value>) -> 
 /// A group of a key that is new takes its first row.
 fn put_group<'a>(
     alloc: Global,
-    wanted: &[Item],
+    asked: &[Asked],
     key: &[&'a Value],
     row: &[Value],
     groups: &mut Lent<'a>,
 ) -> Result<(), NoMemory>
-    requires fits { AllByRecursion (ItemFits row.now) wanted.now }
+    requires fits { AllByRecursion (λ a. a.column < length row.now) asked.now }
     requires new { tallies_at (lent groups.old.entries) (lent_key key.now) ≡ None }
-    ensures { OnOk result (lent groups.new.entries ≡ with_first wanted.now (lent groups.old.entries) (lent_key key.now) row.now) }
+    ensures { OnOk result (lent groups.new.entries ≡ with_first asked.now (lent groups.old.entries) (lent_key key.now) row.now) }
 {
-    let mut tallies = Tallies::new(alloc, wanted)?;
-    tallies.take(alloc, wanted, row)?;
+    let mut tallies = Tallies::new(alloc, asked)?;
+    tallies.take(alloc, asked, row)?;
     groups.insert(Vec::from_slice(alloc, key)?, tallies)?;
     Ok(())
 }
@@ -76,18 +78,18 @@ fn put_group<'a>(
 /// The group of a key takes a row. A key that is there is looked up once and not copied.
 fn take_row<'a>(
     alloc: Global,
-    wanted: &[Item],
+    asked: &[Asked],
     key: &[&'a Value],
     row: &[Value],
     groups: &mut Lent<'a>,
 ) -> Result<(), NoMemory>
-    requires fits { AllByRecursion (ItemFits row.now) wanted.now }
-    requires few { CanTake wanted.now (lent groups.old.entries) (lent_key key.now) }
-    ensures { OnOk result (lent groups.new.entries ≡ with_taken wanted.now (lent groups.old.entries) (lent_key key.now) row.now) }
+    requires fits { AllByRecursion (λ a. a.column < length row.now) asked.now }
+    requires few { CanTake asked.now (lent groups.old.entries) (lent_key key.now) }
+    ensures { OnOk result (lent groups.new.entries ≡ with_taken asked.now (lent groups.old.entries) (lent_key key.now) row.now) }
 {
     match groups.get_mut(key) {
-        Some(tallies) => tallies.take(alloc, wanted, row),
-        None => put_group(alloc, wanted, key, row, groups),
+        Some(tallies) => tallies.take(alloc, asked, row),
+        None => put_group(alloc, asked, key, row, groups),
     }
 }
 
@@ -95,19 +97,19 @@ fn take_row<'a>(
 fn take_kept<'a>(
     alloc: Global,
     bound: &Bound,
-    wanted: &[Item],
+    asked: &[Asked],
     row: &'a Row,
     key: &mut Vec<&'a Value>,
     groups: &mut Lent<'a>,
 ) -> Result<(), NoMemory>
-    requires wanted { wanted.now ≡ spec.wanted bound.now }
+    requires asked { asked.now ≡ asked_by bound.now }
     requires fits { BoundFits row.now bound.now }
-    requires few { CanTake wanted.now (lent groups.old.entries) (spec.key_of bound.now.groups row.now) }
+    requires few { CanTake asked.now (lent groups.old.entries) (spec.key_of bound.now.groups row.now) }
     ensures { OnOk result (lent groups.new.entries ≡ with_row bound.now (lent groups.old.entries) row.now) }
 {
     if keeps(&bound.filter, row) {
         lend_key(bound.groups.items(), row.values(), key)?;
-        take_row(alloc, wanted, key.as_slice(), row.values(), groups)
+        take_row(alloc, asked, key.as_slice(), row.values(), groups)
     } else {
         Ok(())
     }
@@ -117,10 +119,10 @@ fn take_kept<'a>(
 fn lent_groups<'a>(
     alloc: Global,
     bound: &Bound,
-    wanted: &[Item],
+    asked: &[Asked],
     rows: &[(u64, &'a Row)],
 ) -> Result<Lent<'a>, NoMemory>
-    requires wanted { wanted.now ≡ spec.wanted bound.now }
+    requires asked { asked.now ≡ asked_by bound.now }
     requires some { 0 < length bound.now.groups }
     requires fits { AllByRecursion (λ r. BoundFits r.1.now bound.now) rows.now }
     ensures groups { IfOk result (λ groups.
@@ -129,7 +131,7 @@ fn lent_groups<'a>(
     let mut groups = IndexMap::new(alloc);
     let mut key = Vec::with_capacity(alloc, bound.groups.items().len())?;
     for (_, row) in rows {
-        take_kept(alloc, bound, wanted, *row, &mut key, &mut groups)?;
+        take_kept(alloc, bound, asked, *row, &mut key, &mut groups)?;
     }
     Ok(groups)
 }
@@ -138,17 +140,17 @@ fn lent_groups<'a>(
 fn tally_kept(
     alloc: Global,
     bound: &Bound,
-    wanted: &[Item],
+    asked: &[Asked],
     row: &Row,
     tallies: &mut Tallies,
 ) -> Result<(), NoMemory>
-    requires wanted { wanted.now ≡ spec.wanted bound.now }
+    requires asked { asked.now ≡ asked_by bound.now }
     requires fits { BoundFits row.now bound.now }
-    requires few { AllByRecursion (λ t. counted t + 1 < 2 ^ 64) tallies.old }
+    requires few { HasRoom tallies.old }
     ensures { OnOk result (tallies.new ≡ with_kept bound.now tallies.old row.now) }
 {
     if keeps(&bound.filter, row) {
-        tallies.take(alloc, wanted, row.values())
+        tallies.take(alloc, asked, row.values())
     } else {
         Ok(())
     }
@@ -158,18 +160,18 @@ fn tally_kept(
 fn whole_tallies(
     alloc: Global,
     bound: &Bound,
-    wanted: &[Item],
+    asked: &[Asked],
     rows: &[(u64, &Row)],
 ) -> Result<Tallies, NoMemory>
-    requires wanted { wanted.now ≡ spec.wanted bound.now }
+    requires asked { asked.now ≡ asked_by bound.now }
     requires whole { bound.now.groups ≡ [] }
     requires fits { AllByRecursion (λ r. BoundFits r.1.now bound.now) rows.now }
     ensures groups { IfOk result (λ tallies.
         GroupsAre bound.now (kept_values bound.now (spec.lent_rows rows.now)) (one_group tallies)) }
 {
-    let mut tallies = Tallies::new(alloc, wanted)?;
+    let mut tallies = Tallies::new(alloc, asked)?;
     for (_, row) in rows {
-        tally_kept(alloc, bound, wanted, *row, &mut tallies)?;
+        tally_kept(alloc, bound, asked, *row, &mut tallies)?;
     }
     Ok(tallies)
 }
@@ -198,16 +200,16 @@ fn put_new(groups: &mut Groups, key: Vec<Value>, tallies: Tallies) -> Result<(),
 fn whole_group(
     alloc: Global,
     bound: &Bound,
-    wanted: &[Item],
+    asked: &[Asked],
     rows: &[(u64, &Row)],
 ) -> Result<Groups, NoMemory>
-    requires wanted { wanted.now ≡ spec.wanted bound.now }
+    requires asked { asked.now ≡ asked_by bound.now }
     requires whole { bound.now.groups ≡ [] }
     requires fits { AllByRecursion (λ r. BoundFits r.1.now bound.now) rows.now }
     ensures { IfOk result (λ groups.
         as_groups groups.entries ≡ spec.groups_of bound.now (kept_values bound.now (spec.lent_rows rows.now))) }
 {
-    let tallies = whole_tallies(alloc, bound, wanted, rows)?;
+    let tallies = whole_tallies(alloc, bound, asked, rows)?;
     let mut groups = IndexMap::new(alloc);
     put_new(&mut groups, Vec::new(alloc), tallies)?;
     Ok(groups)
@@ -217,16 +219,16 @@ fn whole_group(
 fn groups_by_key(
     alloc: Global,
     bound: &Bound,
-    wanted: &[Item],
+    asked: &[Asked],
     rows: &[(u64, &Row)],
 ) -> Result<Groups, NoMemory>
-    requires wanted { wanted.now ≡ spec.wanted bound.now }
+    requires asked { asked.now ≡ asked_by bound.now }
     requires some { 0 < length bound.now.groups }
     requires fits { AllByRecursion (λ r. BoundFits r.1.now bound.now) rows.now }
     ensures { IfOk result (λ groups.
         as_groups groups.entries ≡ spec.groups_of bound.now (kept_values bound.now (spec.lent_rows rows.now))) }
 {
-    let lent = lent_groups(alloc, bound, wanted, rows)?;
+    let lent = lent_groups(alloc, bound, asked, rows)?;
     let mut groups = IndexMap::new(alloc);
     groups.reserve(lent.len())?;
     for (key, tallies) in lent {
@@ -245,10 +247,11 @@ pub fn groups_of(alloc: Global, bound: &Bound, rows: &[(u64, &Row)]) -> Result<G
         as_groups groups.entries ≡ spec.groups_of bound.now (kept_values bound.now (spec.lent_rows rows.now))) }
 {
     let wanted = wanted(alloc, bound)?;
+    let asked = asked_in(alloc, wanted.as_slice())?;
     if bound.groups.items().is_empty() {
-        whole_group(alloc, bound, wanted.as_slice(), rows)
+        whole_group(alloc, bound, asked.as_slice(), rows)
     } else {
-        groups_by_key(alloc, bound, wanted.as_slice(), rows)
+        groups_by_key(alloc, bound, asked.as_slice(), rows)
     }
 }
 

@@ -1,22 +1,22 @@
 //! The answer of a query, from the parts that lists of rows give.
 //!
 //! A [`Partial`] is what some rows give to a query: the kept rows, or, where the query is grouped, what each group has
-//! counted, added up and compared. Contracts see it as `Parts`, in `specs/Partials.antt`: groups are a map from the values
-//! in the columns of GROUP BY, in SQL's order with NULL last. Parts of rows that follow each other are merged into the
-//! part of them all, and [`Partial::finish`] makes the answer of it: one record for each row or group, in the order that
+//! taken of its rows: their number, and one summary for each column that an aggregate goes over. Contracts see it as
+//! `Parts`, in `specs/Partials.antt`: groups are a map from the values in the columns of GROUP BY, in SQL's order with
+//! NULL last. Parts of rows that follow each other are merged into the part of them all, and [`Partial::finish`] makes the answer of it: one record for each row or group, in the order that
 //! ORDER BY asks for. `answer`, in `specs/Answers.antt`, is that answer as a function of the list of all rows.
 //!
-//! Start with `specs/Tallies.antt`, `specs/Partials.antt` and `specs/Answers.antt`, then `partial.rt`.
+//! Start with `specs/Sums.antt`, `specs/Tallies.antt`, `specs/Partials.antt` and `specs/Answers.antt`, then `partial.rt`.
 #![tactic(auto)]
 
+mod asked;
 mod cell;
 mod grouping;
 mod partial;
 mod record;
 mod records;
-mod sum;
+mod sums;
 mod tallies;
-mod tally;
 
 pub use cell::Cell;
 pub use grouping::keeps;

@@ -4,8 +4,10 @@ ghost use Rattle.im_syntax.specs.BoundFits.{BoundFits};
 ghost use Rattle.im_syntax.specs.BoundQuery.{IsOfGroup, IsQuery};
 ghost use Rattle.im_group.specs.inner.Holding.{AreKeyed, as_groups, entry_order, held_records};
 ghost use Rattle.im_group.specs.Partials as spec;
-ghost use Rattle.im_group.specs.Answers.{finished, group_records, in_order, records};
+ghost use Rattle.im_group.specs.Tallies as group;
+ghost use Rattle.im_group.specs.Answers.{finished, group_records, in_order, part_records};
 
+use crate::asked::{Asked, asked_in};
 use crate::cell::Cell;
 use crate::grouping::{Groups, copy_groups, groups_of, join_groups, keeps, wanted};
 use crate::record::Record;
@@ -93,17 +95,18 @@ fn sort_groups(groups: &mut Groups) -> Result<(), NoMemory>
 fn put_records(
     alloc: Global,
     bound: &Bound,
+    asked: &[Asked],
     wanted: &[Item],
     groups: Groups,
     records: &mut Vec<Record>,
 ) -> Result<(), NoMemory>
     requires listed { AllByRecursion (IsOfGroup bound.now.groups) wanted.now }
     requires keyed { AreKeyed (length bound.now.groups) groups.entries }
-    ensures { OnOk result (records.new.items ≡ records.old.items ++ held_records bound.now.groups wanted.now groups.entries) }
+    ensures { OnOk result (records.new.items ≡ records.old.items ++ held_records bound.now.groups asked.now wanted.now groups.entries) }
 {
     for (key, tallies) in groups {
         let columns = bound.groups.items();
-        records.push(group_record(alloc, columns, wanted, key.as_slice(), tallies)?)?;
+        records.push(group_record(alloc, columns, asked, wanted, key.as_slice(), &tallies)?)?;
     }
     Ok(())
 }
@@ -120,8 +123,9 @@ fn group_records(
     ensures { IfOk result (λ records. records.items ≡ group_records bound.now.groups wanted.now (as_groups groups.entries)) }
 {
     let mut records = Vec::with_capacity(alloc, groups.len())?;
+    let asked = asked_in(alloc, wanted)?;
     sort_groups(&mut groups)?;
-    put_records(alloc, bound, wanted, groups, &mut records)?;
+    put_records(alloc, bound, asked.as_slice(), wanted, groups, &mut records)?;
     Ok(records)
 }
 
@@ -133,10 +137,10 @@ fn records_of(
     rows: &[(u64, Row)],
     groups: Groups,
 ) -> Result<Vec<Record>, NoMemory>
-    requires wanted { wanted.now ≡ spec.wanted bound.now }
+    requires wanted { wanted.now ≡ group.wanted bound.now }
     requires query { IsQuery bound.now }
     requires keyed { AreKeyed (length bound.now.groups) groups.entries }
-    ensures { IfOk result (λ made. made.items ≡ records bound.now (record { rows = rows.now; groups = as_groups groups.entries })) }
+    ensures { IfOk result (λ made. made.items ≡ part_records bound.now (record { rows = rows.now; groups = as_groups groups.entries })) }
 {
     if bound.grouped {
         group_records(alloc, bound, wanted, groups)

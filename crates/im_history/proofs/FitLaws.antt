@@ -1,8 +1,9 @@
 -- In a legal history all that was put into a table fits it.
-use Rattle.std.proofs.Common.{◌≡◌, ℕ, zero, suc, ◌+◌, ◌==◌, ◌&&◌, Bool, true, false, IsTrue, if◌then◌else◌, List, [], ◌∷◌, ◌++◌, take, filter, All, Option, Some, None, slice_get, refl, sym, ap, ◌∙◌, ⊎_elim, arith}
+use Rattle.std.proofs.Common.{◌≡◌, ℕ, zero, suc, ◌+◌, ◌==◌, ◌&&◌, Bool, true, false, IsTrue, if◌then◌else◌, List, [], ◌∷◌, ◌++◌, take, filter, All, Option, Some, None, slice_get, refl, sym, ap, subst, ◌∙◌, ⊎_elim, arith}
 use Rattle.std.specs.List.{fold, flat_map}
 use Rattle.std.proofs.lemmas.Bool.Decides.{nat_tests}
 use Rattle.std.proofs.lemmas.List.Elements.{All-nil, All-cons, All-head, All-tail, All-append, All-weaker, All-take, All-filter}
+use Rattle.im_values.specs.declared.schema.Column.{Column}
 use Rattle.im_values.specs.Fits.{fits}
 use Rattle.im_history.specs.declared.change.Change.{Change}
 use Rattle.im_history.specs.declared.entry.Entry.{Entry}
@@ -20,6 +21,7 @@ use Rattle.im_history.specs.Transactions.{pending, pending_after}
 use Rattle.im_history.specs.Views.{seen_by, view_at}
 use Rattle.im_history.proofs.Laws.{IsLegal-pop, commits-push, pending-push, tables-push}
 use Rattle.im_history.proofs.RowLaws.{each_history}
+use Rattle.im_history.proofs.ViewLaws.{cursor-columns}
 
 -- there is a table, and what is put fits it
 abbrev fits_in : Option TableInfo → Option Row → Bool
@@ -80,13 +82,16 @@ rewritten-fits h table made (change ∷ changes) is same fit =
     (rewritten-fits h table made changes is (All-tail (λ c. c.table ≡ table) change changes same)
     (All-tail (λ c. IsTrue (row_fits made.schema c.row)) change changes fit))
 
-written-fits : (limits : Limits) (h : History) (who : ℕ) (changes : List Change) → IsAllowed limits h who (Write changes) → All (Fits h) changes
-written-fits limits h who changes allowed =
+written-fits : (limits : Limits) (h : History) (who : ℕ) (changes : List Change) → IsLegal limits h → IsAllowed limits h who (Write changes)
+    → All (Fits h) changes
+written-fits limits h who changes legal allowed =
     ⊎_elim
     (λ (insert : IsInsert limits h who changes). rw insert.next
     (put_from-fits h insert.table _ insert.may.exists.made insert.rows insert.may.exists.is insert.may.fit))
-    (λ (write : IsRewrite limits h who changes). rewritten-fits h write.may.opened.view.table write.may.exists.made changes write.may.exists.is write.may.same
-    write.may.fit)
+    (λ (write : IsRewrite limits h who changes).
+    let has = cursor-columns limits h who write.cursor write.may.opened legal write.may.is in
+    rewritten-fits h write.may.opened.view.table has.made changes has.is write.may.same
+    (subst (λ (columns : List Column). All (λ change. IsTrue (row_fits columns change.row)) changes) has.columns write.may.fit))
     allowed
 
 -- all that is pending fits, and all that was committed
@@ -98,8 +103,9 @@ AllFits-nil : AllFits []
 unfolding pending commits replay
 AllFits-nil = record { waiting = λ who. All-nil (Fits []); done = All-nil (All (Fits [])) }
 
-AllFits-push : (limits : Limits) (h : History) (entry : Entry) → IsAllowed limits h entry.who entry.what → AllFits h → AllFits (h ++ entry ∷ [])
-AllFits-push limits h entry allowed so_far = record {
+AllFits-push : (limits : Limits) (h : History) (entry : Entry) → IsLegal limits h → IsAllowed limits h entry.who entry.what → AllFits h
+    → AllFits (h ++ entry ∷ [])
+AllFits-push limits h entry legal allowed so_far = record {
   waiting = λ who. rw (pending-push h entry who) (later _ (mine who (entry.who == who)));
   done =
       rw (commits-push h entry)
@@ -114,7 +120,7 @@ AllFits-push limits h entry allowed so_far = record {
     each_later = All-weaker (All (Fits h)) (All (Fits (h ++ entry ∷ []))) later
 
     after : (changes : List Change) (what : What) → IsAllowed limits h entry.who what → All (Fits h) changes → All (Fits h) (pending_after changes what)
-    after changes (Write more) may all = All-append (Fits h) changes more all (written-fits limits h entry.who more may)
+    after changes (Write more) may all = All-append (Fits h) changes more all (written-fits limits h entry.who more legal may)
     after changes Commit may all = All-nil (Fits h)
     after changes Rollback may all = All-nil (Fits h)
     after changes _ may all = all
@@ -130,7 +136,7 @@ AllFits-push limits h entry allowed so_far = record {
 
 all_fits : (limits : Limits) (h : History) → IsLegal limits h → AllFits h
 all_fits limits = each_history (λ h. IsLegal limits h → AllFits h) (λ legal. AllFits-nil)
-    (λ h entry so_far legal. let before = IsLegal-pop limits h entry legal in AllFits-push limits h entry before.1 (so_far before.0))
+    (λ h entry so_far legal. let before = IsLegal-pop limits h entry legal in AllFits-push limits h entry before.0 before.1 (so_far before.0))
 
 -- a change that fits puts what fits its table
 put-fits : (h : History) (table : ℕ) (made : TableInfo) (change : Change) → table_at h table ≡ Some made → Fits h change → change.table ≡ table

@@ -21,3 +21,4 @@ pub mod StaleLaws
 pub mod TableLaws
 pub mod TouchLaws
 pub mod UnitLaws
+pub mod ViewLaws

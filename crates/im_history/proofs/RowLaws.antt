@@ -5,13 +5,11 @@ use Rattle.std.proofs.lemmas.Bool.{cases_lt, false≢true}
 use Rattle.std.proofs.lemmas.Grind.{flat_map-append}
 use Rattle.std.proofs.lemmas.List.{take_all, take-append-le, length_push}
 use Rattle.std.proofs.lemmas.List.Sums.{fold-append}
-use Rattle.im_values.specs.declared.schema.Column.{Column}
 use Rattle.im_history.specs.declared.change.Change.{Change}
 use Rattle.im_history.specs.declared.entry.Entry.{Entry}
 use Rattle.im_history.specs.declared.entry.What.{What}
 use Rattle.im_history.specs.declared.entry.What.TheVariants.{Create, Commit}
 use Rattle.im_history.specs.Commits.{commits, committed_by, scn, moves_clock}
-use Rattle.im_history.specs.Grid.{Grid}
 use Rattle.im_history.specs.History.{History}
 use Rattle.im_history.specs.Rows.{Row, rows, row_after}
 use Rattle.im_history.specs.Transactions.{pending}
@@ -88,18 +86,19 @@ row_after-push list changes table n rid past =
     ∙ (fold-append (row_after table rid) None (flat_map (λ c. c) list) (changes ++ [])
     ∙ ap (fold (row_after table rid) (fold (row_after table rid) None (flat_map (λ c. c) list))) (append-nil changes)))
 
--- the creation of a table changes no committed row
-pub rows-push_create : (h : History) (who : ℕ) (name : List ℕ) (schema : List Column) (grid : Grid) (table n rid : ℕ)
-    → rows (h ++ record { who = who; what = Create name schema grid } ∷ []) table n rid ≡ rows h table n rid
+-- an entry that commits no change changes no committed row
+pub rows-push_empty : (h : History) (entry : Entry) (table n rid : ℕ) → committed_by h entry.who entry.what ≡ [] ∷ []
+    → rows (h ++ entry ∷ []) table n rid ≡ rows h table n rid
 unfolding rows
-rows-push_create h who name schema grid table n rid =
-    ap (λ (list : List (List Change)). row_after_commits list table n rid) (commits-push h (record { who = who; what = Create name schema grid }))
+rows-push_empty h entry table n rid empty =
+    ap (λ (list : List (List Change)). row_after_commits list table n rid) (commits-push h entry)
+    ∙ (ap (λ (more : List (List Change)). row_after_commits (commits h ++ more) table n rid) empty
     ∙ ⊎_elim
     (λ (past : scn h < n). row_after-push (commits h) [] table n rid past
     ∙ ap (λ (list : List (List Change)). fold (row_after table rid) None (flat_map (λ c. c) list)) (sym (take_all n (commits h) (omega arith))))
     (λ (within : n ≤ scn h). ap (λ (list : List (List Change)). fold (row_after table rid) None (flat_map (λ c. c) list))
     (take-append-le n (commits h) ([] ∷ []) within))
-    (cases_lt (scn h) n)
+    (cases_lt (scn h) n))
 
 -- after a commit the rows at its SCN, and above it, are those before it, changed by what its session had pending
 pub rows-push_commit : (h : History) (who table n rid : ℕ) → scn h < n

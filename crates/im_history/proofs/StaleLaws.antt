@@ -14,7 +14,7 @@ use Rattle.im_history.specs.Rows.{Row, rows, row_after}
 use Rattle.im_history.specs.Touched.{is_to, touches}
 use Rattle.im_history.specs.Transactions.{pending}
 use Rattle.im_history.specs.Units.{touched_between, touched_between_after}
-use Rattle.im_history.proofs.RowLaws.{each_history, rows-append, rows-push_commit, rows-push_create, rows-push_quiet, rows_past}
+use Rattle.im_history.proofs.RowLaws.{each_history, rows-append, rows-push_commit, rows-push_empty, rows-push_quiet, rows_past}
 use Rattle.im_history.proofs.UnitLaws.{touched_between-push}
 
 -- ---- two tests of which none holds
@@ -105,8 +105,8 @@ keeps-push : (h : History) (who : ℕ) (what : What) (after to table rid : ℕ) 
 keeps-push h who Commit after to table rid within none so_far = keeps-commit h who after to table rid within none so_far
 keeps-push h who (Create name schema grid) after to table rid within none so_far =
     keeps-same h (record { who = who; what = Create name schema grid }) after to table rid
-    (rows-push_create h who name schema grid table to rid) (rows-push_create h who name schema grid table after rid) none
-    so_far
+    (rows-push_empty h (record { who = who; what = Create name schema grid }) table to rid refl)
+    (rows-push_empty h (record { who = who; what = Create name schema grid }) table after rid refl) none so_far
 keeps-push h who what after to table rid within none so_far =
     keeps-same h (record { who = who; what = what }) after to table rid
     (rows-push_quiet h (record { who = who; what = what }) table to rid refl)

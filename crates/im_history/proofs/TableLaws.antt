@@ -10,7 +10,7 @@ use Rattle.im_history.specs.Grid.{per_extent}
 use Rattle.im_history.specs.History.{History}
 use Rattle.im_history.specs.Legal.{Exists}
 use Rattle.im_history.specs.Tables.{created, table_among, table_at, tables, with_memory}
-use Rattle.im_history.specs.Units.{columns_of}
+use Rattle.im_history.specs.Units.{columns_of, opening_at}
 use Rattle.im_history.specs.Views.{per_at}
 use Rattle.im_history.proofs.Laws.{tables-push}
 use Rattle.im_history.proofs.RowLaws.{each_longer}
@@ -56,7 +56,8 @@ stays-among : (ts : List TableInfo) (what : What) (table : ℕ) (made : TableInf
 stays-among ts what zero made is = absurd (found_none made is)
 stays-among ts what (suc before) made is = stays-created ts what before made is
 
-table-stays : (h : History) (entry : Entry) (table : ℕ) (exists : Exists h table) → StaysAs exists.made (table_at (h ++ entry ∷ []) table)
+-- so it stands there after one more entry
+pub table-stays : (h : History) (entry : Entry) (table : ℕ) (exists : Exists h table) → StaysAs exists.made (table_at (h ++ entry ∷ []) table)
 table-stays h entry table exists =
     let now = stays-among (tables h) entry.what table exists.made exists.is in
     record { info = now.info; is = ap (λ (ts : List TableInfo). table_among ts table) (tables-push h entry) ∙ now.is; schema = now.schema; shape = now.shape }
@@ -81,6 +82,15 @@ per_at-push h entry table exists =
     rw (now.is, exists.is) (ap per_extent now.shape)
 
 -- and it has the same columns
+pub columns-longer : (h more : History) (table : ℕ) → Exists h table → columns_of (table_at (h ++ more) table) ≡ columns_of (table_at h table)
+columns-longer h more table exists =
+    let now = table-longer h more table exists in
+    rw (now.is, exists.is) (ap length now.schema)
+
+-- so it is to be opened as before
+pub opening-longer : (h more : History) (table : ℕ) → Exists h table → opening_at (h ++ more) table ≡ opening_at h table
+opening-longer h more table exists = ap (λ (n : ℕ). record { table = table; columns = n }) (columns-longer h more table exists)
+
 pub columns-push : (h : History) (entry : Entry) (table : ℕ) → Exists h table → columns_of (table_at (h ++ entry ∷ []) table) ≡ columns_of (table_at h table)
 columns-push h entry table exists =
     let now = table-stays h entry table exists in

@@ -5,7 +5,7 @@ use Rattle.im_history.specs.declared.change.Change.{Change}
 use Rattle.im_history.specs.declared.entry.What.{What}
 use Rattle.im_history.specs.declared.entry.What.TheVariants.{Create, Commit}
 use Rattle.im_history.specs.History.{History, replay}
-use Rattle.im_history.specs.Kinds.{marks_of}
+use Rattle.im_history.specs.Kinds.{scope_of}
 use Rattle.im_history.specs.Transactions.{pending}
 
 -- what one entry commits: a Commit the pending changes of its session, a Create an empty list, any other entry nothing
@@ -24,4 +24,4 @@ scn history = length (commits history)
 
 -- the SCN moves on with an entry of this kind
 abbrev pub moves_clock : What → Bool
-moves_clock what = (marks_of what).clock
+moves_clock what = (scope_of what).clock

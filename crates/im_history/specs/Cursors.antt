@@ -1,6 +1,7 @@
 -- The open cursors of a session.
 use Rattle.std.specs.Prelude.{ℕ, ◌==◌, Bool, not, List, [], ◌∷◌, ◌++◌, filter, count_by, Option, if◌then◌else◌}
 use Rattle.std.specs.List.{find, list_any}
+use Rattle.im_history.specs.declared.cursors.TheConstants.{OWN_CURSOR}
 use Rattle.im_history.specs.declared.entry.What.{What}
 use Rattle.im_history.specs.declared.entry.What.TheVariants.{Open, Shut}
 use Rattle.im_history.specs.declared.view.View.{View}
@@ -34,6 +35,24 @@ cursor_at history who cursor = find (is_cursor cursor) (opened history who)
 abbrev pub is_cursor_open : History → ℕ → ℕ → Bool
 is_cursor_open history who cursor = list_any (is_cursor cursor) (opened history who)
 
--- how many cursors are open beside cursor 0, which a statement's own scan uses
+-- ---- the cursors that a statement opens by itself
+
+-- their numbers, the greatest first
+abbrev pub own_cursors : List ℕ
+own_cursors = OWN_CURSOR ∷ []
+
+-- the cursor is one of these
+abbrev pub is_one_of : List ℕ → ℕ → Bool
+is_one_of cursors cursor = list_any (λ other. cursor == other) cursors
+
+-- a statement opens it by itself
+abbrev pub is_own : ℕ → Bool
+is_own cursor = is_one_of own_cursors cursor
+
+-- one of them is open
+abbrev pub has_own_open : History → ℕ → Bool
+has_own_open history who = list_any (λ other. is_own other.cursor) (opened history who)
+
+-- how many other cursors are open
 abbrev pub cursors_open : History → ℕ → ℕ
-cursors_open history who = count_by (λ other. not (is_cursor 0 other)) (opened history who)
+cursors_open history who = count_by (λ other. not (is_own other.cursor)) (opened history who)

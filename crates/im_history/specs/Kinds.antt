@@ -3,8 +3,8 @@ use Rattle.std.specs.Prelude.{Bool, true, false, is_none}
 use Rattle.im_history.specs.declared.entry.What.{What}
 use Rattle.im_history.specs.declared.entry.What.TheVariants.{Create, Memory, Begin, Open, Shut, Write, Commit, Rollback, Build, Switch, Cancel, Trickle, Evict, Leave}
 
--- what an entry may change: where a mark is false it changes nothing of that
-pub record Marks : Type 0 where
+-- what an entry may change: where a field is false it changes nothing of that
+pub record Scope : Type 0 where
   -- the SCN
   pub clock : Bool
   -- the rows that are committed
@@ -26,9 +26,9 @@ pub record Marks : Type 0 where
   -- who left
   pub leaves : Bool
 
--- an entry that changes nothing
-abbrev pub unmarked : Marks
-unmarked = record {
+-- of an entry that changes nothing
+abbrev pub no_scope : Scope
+no_scope = record {
   clock = false;
   rows = false;
   tables = false;
@@ -41,19 +41,19 @@ unmarked = record {
   leaves = false;
 }
 
--- the marks of each kind
-abbrev pub marks_of : What → Marks
-marks_of (Create name schema grid) = record unmarked { clock = true; tables = true }
-marks_of (Memory table priority) = record unmarked { tables = true; takes_out = is_none priority }
-marks_of (Begin mode) = record unmarked { transaction = true }
-marks_of (Open cursor table) = record unmarked { cursors = true }
-marks_of (Shut cursor) = record unmarked { cursors = true }
-marks_of (Write changes) = record unmarked { transaction = true; changes = true }
-marks_of Commit = record unmarked { clock = true; rows = true; transaction = true }
-marks_of Rollback = record unmarked { transaction = true }
-marks_of (Build id table extent trickle) = record unmarked { builds = true }
-marks_of (Switch id) = record unmarked { builds = true }
-marks_of (Cancel id full) = record unmarked { builds = true }
-marks_of (Trickle count) = record unmarked { credits = true }
-marks_of (Evict table extent) = record unmarked { takes_out = true }
-marks_of Leave = record unmarked { leaves = true }
+-- what an entry of each kind may change
+abbrev pub scope_of : What → Scope
+scope_of (Create name schema grid) = record no_scope { clock = true; tables = true }
+scope_of (Memory table priority) = record no_scope { tables = true; takes_out = is_none priority }
+scope_of (Begin mode) = record no_scope { transaction = true }
+scope_of (Open cursor table) = record no_scope { cursors = true }
+scope_of (Shut cursor) = record no_scope { cursors = true }
+scope_of (Write changes) = record no_scope { transaction = true; changes = true }
+scope_of Commit = record no_scope { clock = true; rows = true; transaction = true }
+scope_of Rollback = record no_scope { transaction = true }
+scope_of (Build id table extent trickle) = record no_scope { builds = true }
+scope_of (Switch id) = record no_scope { builds = true }
+scope_of (Cancel id full) = record no_scope { builds = true }
+scope_of (Trickle count) = record no_scope { credits = true }
+scope_of (Evict table extent) = record no_scope { takes_out = true }
+scope_of Leave = record no_scope { leaves = true }

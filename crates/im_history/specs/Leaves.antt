@@ -2,11 +2,11 @@
 use Rattle.std.specs.Prelude.{ℕ, ◌+◌, ◌==◌, ◌&&◌, ◌||◌, Bool, false, if◌then◌else◌}
 use Rattle.im_history.specs.declared.entry.What.{What}
 use Rattle.im_history.specs.History.{History, replay}
-use Rattle.im_history.specs.Kinds.{marks_of}
+use Rattle.im_history.specs.Kinds.{scope_of}
 
 -- the entry is a Leave
 abbrev pub is_leave : What → Bool
-is_leave what = (marks_of what).leaves
+is_leave what = (scope_of what).leaves
 
 -- how many sessions left
 unfoldable pub leaves : History → ℕ

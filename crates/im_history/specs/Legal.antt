@@ -57,7 +57,7 @@ pub record IsInsert (limits : Limits) (history : History) (who : ℕ) (changes :
   pub next : changes ≡ put_from table (given history table) rows
   pub allowed : insert_refusal limits history who changes ≡ None
 
--- a row that is put fits the table
+-- a row that is put fits these columns
 abbrev pub row_fits : List Column → Option Row → Bool
 row_fits schema None = true
 row_fits schema (Some row) = fits row schema
@@ -68,18 +68,17 @@ still_seen history who opened rid = fold (row_after opened.view.table rid) (seen
 
 -- changes that may be written to rows which an open cursor saw: there are some, all of the cursor's table and of rising row
 -- numbers. Each is to a row that the cursor's view saw and that still stands after the session's present changes, and what
--- it puts fits the table
+-- it puts fits the columns of the view
 pub record MayWrite (history : History) (who cursor : ℕ) (changes : List Change) : Type 0 where
   pub opened : Opened
   pub is : cursor_at history who cursor ≡ Some opened
-  pub exists : Exists history opened.view.table
   pub some : 1 ≤ length changes
   pub same : All (λ change. change.table ≡ opened.view.table) changes
   pub rising : AllAdjacentBelow (λ before after. before.rid < after.rid) changes (length changes)
   pub inside : All (λ change. change.rid < opened.view.rows) changes
   pub saw : All (λ change. IsTrue (is_some (seen_by history opened.view change.rid))) changes
   pub stands : All (λ change. IsTrue (is_some (still_seen history who opened change.rid))) changes
-  pub fit : All (λ change. IsTrue (row_fits exists.made.schema change.row)) changes
+  pub fit : All (λ change. IsTrue (row_fits opened.view.columns change.row)) changes
 
 -- a write to rows that an open cursor saw, which nothing refuses at its snapshot
 pub record IsRewrite (limits : Limits) (history : History) (who : ℕ) (changes : List Change) : Type 0 where

@@ -1,5 +1,5 @@
 -- Why a call of the store is refused: each cause by itself, and the first that applies.
-use Rattle.std.specs.Prelude.{ℕ, ◌-◌, ◌&&◌, Bool, true, false, not, ◌==◌, nat_lt, List, [], ◌∷◌, length, Option, Some, None, is_none}
+use Rattle.std.specs.Prelude.{ℕ, ◌-◌, ◌&&◌, Bool, true, false, not, nat_lt, List, [], ◌∷◌, length, Option, Some, None, is_none}
 use Rattle.std.specs.Option.{option_map, option_or}
 use Rattle.im_values.specs.declared.limits.TheConstants.{MOST_CURSORS, MOST_TABLES}
 use Rattle.im_history.specs.declared.change.Change.{Change}
@@ -8,7 +8,7 @@ use Rattle.im_history.specs.declared.entry.Mode.TheVariants as mode
 use Rattle.im_history.specs.declared.limits.Limits.{Limits}
 use Rattle.im_history.specs.declared.refused.Why.{Why}
 use Rattle.im_history.specs.declared.refused.Why.TheVariants.{TableExists, TooManyTables, TransactionOpen, ReadOnly, CursorOpen, TooManyCursors, RowLocked, Serialize, TooManyChanges, StoreFull, NoUnit}
-use Rattle.im_history.specs.Cursors.{is_cursor_open, cursors_open}
+use Rattle.im_history.specs.Cursors.{is_cursor_open, is_own, cursors_open}
 use Rattle.im_history.specs.History.{History}
 use Rattle.im_history.specs.Tables.{tables, table_named}
 use Rattle.im_history.specs.Touched.{holder, last_touch}
@@ -94,7 +94,7 @@ begin_refusal history who = option_map (λ place. TransactionOpen place) (begun 
 abbrev pub open_refusal : History → ℕ → ℕ → Option Why
 open_refusal history who cursor =
     option_or (when (is_cursor_open history who cursor) CursorOpen)
-    (when (not (cursor == 0) && not (nat_lt (cursors_open history who) MOST_CURSORS)) TooManyCursors)
+    (when (not (is_own cursor) && not (nat_lt (cursors_open history who) MOST_CURSORS)) TooManyCursors)
 
 -- the unit of an extent may not be taken out of the column store where there is none
 abbrev pub evict_refusal : History → ℕ → ℕ → Option Why

@@ -6,6 +6,7 @@ use Rattle.im_history.specs.declared.view.View.{View}
 use Rattle.im_history.specs.History.{History}
 use Rattle.im_history.specs.Rows.{Row, rows}
 use Rattle.im_history.specs.Units.{Content, content_at, stale, unit}
+use Rattle.im_history.specs.Views.{shown}
 
 -- the SCN of a unit, unless it is newer than this one
 abbrev pub not_newer : ℕ → Option ℕ → Option ℕ
@@ -32,13 +33,21 @@ committed_among history view numbers = map (λ rid. (rid, rows history view.tabl
 abbrev pub committed_in : History → View → ℕ → List (ℕ × Option Row)
 committed_in history view extent = committed_among history view (range_with_len (extent * view.per) (rows_in view extent))
 
--- what is fetched from the versions beside the unit of this SCN: its stale rows, and without one all rows of the extent that
+-- what is read of the versions beside the unit of this SCN: its stale rows, and without one all rows of the extent that
 -- the view has
 abbrev pub fetched_by : History → View → ℕ → Option ℕ → List (ℕ × Option Row)
 fetched_by history view extent None = committed_in history view extent
 fetched_by history view extent (Some unit_scn) =
     committed_among history view (stale history view.table extent unit_scn view.scn)
 
--- what a pin of an extent fetches for a view
+-- what a pin of an extent reads of the versions for a view, as it was committed
+abbrev pub read_in : History → View → ℕ → List (ℕ × Option Row)
+read_in history view extent = fetched_by history view extent (serving history view extent)
+
+-- row numbers, each with its row as a view shows it
+abbrev pub shown_all : View → List (ℕ × Option Row) → List (ℕ × Option Row)
+shown_all view rows = map (λ row. (row.0, shown view row.1)) rows
+
+-- what a pin of an extent fetches for a view: what it reads, as the view shows it
 abbrev pub fetched_in : History → View → ℕ → List (ℕ × Option Row)
-fetched_in history view extent = fetched_by history view extent (serving history view extent)
+fetched_in history view extent = shown_all view (read_in history view extent)

@@ -7,20 +7,24 @@ use Rattle.im_history.specs.declared.entry.What.TheVariants.{Memory, Commit, Bui
 use Rattle.im_history.specs.declared.look.TableInfo.{TableInfo}
 use Rattle.im_history.specs.declared.task.Held.{Held}
 use Rattle.im_history.specs.declared.task.Task.{Task}
+use Rattle.im_history.specs.declared.view.Opening.{Opening}
 use Rattle.im_history.specs.Commits.{scn}
 use Rattle.im_history.specs.History.{History, replay}
 use Rattle.im_history.specs.Rows.{Row, rows}
 use Rattle.im_history.specs.Tables.{table_at, given}
 use Rattle.im_history.specs.Touched.{touches}
 use Rattle.im_history.specs.Transactions.{or_here, pending}
-use Rattle.im_history.specs.Views.{per_at}
+use Rattle.im_history.specs.Views.{per_at, schema_of}
 
 -- ---- builds
 
 -- how many columns a table has
 abbrev pub columns_of : Option TableInfo → ℕ
-columns_of None = 0
-columns_of (Some table) = length table.schema
+columns_of table = length (schema_of table)
+
+-- a table that is to be opened, with the columns that it has after this history
+abbrev pub opening_at : History → ℕ → Opening
+opening_at history table = record { table = table; columns = columns_of (table_at history table) }
 
 -- a build of this number that begins after this history: its unit has the SCN that stands there
 abbrev pub task_at : History → ℕ → ℕ → ℕ → Bool → Task

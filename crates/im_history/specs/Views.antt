@@ -1,5 +1,6 @@
 -- What an opening of a cursor sees, from then on.
-use Rattle.std.specs.Prelude.{ℕ, length, Option, Some, None}
+use Rattle.std.specs.Prelude.{ℕ, List, [], length, Option, Some, None}
+use Rattle.im_values.specs.declared.schema.Column.{Column}
 use Rattle.im_history.specs.declared.look.Look.{Look}
 use Rattle.im_history.specs.declared.look.TableInfo.{TableInfo}
 use Rattle.im_history.specs.declared.view.View.{View}
@@ -19,8 +20,13 @@ grid_of (Some table) = table.shape
 abbrev pub per_at : History → ℕ → ℕ
 per_at history table = per_extent (grid_of (table_at history table))
 
+-- the columns of a table; where there is none, none
+abbrev pub schema_of : Option TableInfo → List Column
+schema_of None = []
+schema_of (Some table) = table.schema
+
 -- the view of a table that an opening by this session has after this history: it reads at the session's snapshot, changed by
--- the changes that the session has pending, and knows the row numbers given so far
+-- the changes that the session has pending, and knows the row numbers given so far and the columns that the table has
 abbrev pub view_at : History → ℕ → ℕ → View
 view_at history who table = record {
   place = length history;
@@ -29,6 +35,7 @@ view_at history who table = record {
   rows = given history table;
   per = per_at history table;
   extents = extents_for (given history table) (per_at history table);
+  columns = schema_of (table_at history table);
   own = own_changes history who table;
 }
 

@@ -2,7 +2,7 @@ ghost use Rattle.std.specs.Prelude.{◌≡◌, ◌+◌, ◌^◌, ◌<◌, ◌≤
 ghost use Rattle.im_history.specs.Puts.{put_from, lent_change};
 
 use crate::change::Change;
-use im_values::Row;
+use im_values::{Row, Rows, Value};
 use std::marker::Model;
 
 /// A change that is lent.
@@ -12,14 +12,14 @@ pub struct LentChange<'a> {
     pub table: u32,
     /// The row number, from 0.
     pub rid: u64,
-    /// The row that is put, or None where the row is taken away.
-    pub row: Option<&'a Row>,
+    /// The values of the row that is put, or None where the row is taken away.
+    pub row: Option<&'a [Value]>,
 }
 
 /// How changes are kept: rows put from a row number of a table on, or each change by itself.
 #[derive(Drop)]
 enum Form {
-    Put(u32, u64, Vec<Row>),
+    Put(u32, u64, Rows),
     Each(Vec<Change>),
 }
 
@@ -55,9 +55,9 @@ impl Changes {
     }
 
     /// Rows put at row numbers of a table, from the first on. It takes no memory.
-    pub fn put(table: u32, first: u64, rows: Vec<Row>) -> Changes
-        requires { first + length rows.items ≤ 2 ^ 63 }
-        ensures { result ≡ put_from table first rows.items }
+    pub fn put(table: u32, first: u64, rows: Rows) -> Changes
+        requires { first + length rows ≤ 2 ^ 63 }
+        ensures { result ≡ put_from table first rows }
     {
         Changes {
             form: Form::Put(table, first, rows),
@@ -90,7 +90,7 @@ impl Changes {
             Form::Put(table, first, rows) => LentChange {
                 table: *table,
                 rid: *first + place as u64,
-                row: Some(&rows[place]),
+                row: Some(rows.values(place)),
             },
             Form::Each(changes) => lent(&changes[place]),
         }
@@ -104,6 +104,6 @@ fn lent(change: &Change) -> LentChange<'_>
     LentChange {
         table: change.table,
         rid: change.rid,
-        row: change.row.as_ref(),
+        row: change.row.as_ref().map(Row::values),
     }
 }

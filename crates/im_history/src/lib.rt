@@ -13,6 +13,7 @@
 
 mod change;
 mod changes;
+mod cursors;
 mod entry;
 mod last;
 mod limits;
@@ -28,16 +29,17 @@ mod who;
 
 pub use change::Change;
 pub use changes::{Changes, LentChange};
+pub use cursors::{OWN_CURSOR, is_own};
 pub use entry::{Entry, Mode, What};
 pub use im_values::Priority;
 pub use last::LastRows;
 pub use limits::Limits;
-pub use look::{Catalog, Look, TableInfo};
+pub use look::{Catalog, Look, SharedTable, TableInfo};
 pub use own::OwnChanges;
 pub use refused::{Refused, Why};
 pub use shape::Shape;
 pub use stored::History;
 pub use task::{Choice, Held, Task};
 pub use unit::UnitLike;
-pub use view::View;
+pub use view::{Opening, View};
 pub use who::{Who, callers_have_numbers};

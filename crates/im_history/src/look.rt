@@ -1,6 +1,7 @@
-ghost use Rattle.std.specs.Prelude.{◌≡◌, ◌<◌, ◌≤◌, [], ◌∷◌, ◌++◌, length, IfOk, IfSome};
+ghost use Rattle.std.specs.Prelude.{◌≡◌, ◌<◌, ◌≤◌, [], ◌∷◌, ◌++◌, length, IfOk, IfSome, OnOk};
 ghost use Rattle.std.specs.List.{position};
-ghost use Rattle.im_history.specs.Tables.{is_named, number_among, remembered};
+ghost use Rattle.im_history.specs.Tables.{is_named, number_among, remembered, table_among};
+ghost use Rattle.im_history.specs.Units.{columns_of};
 
 use crate::entry::Mode;
 use crate::shape::Shape;
@@ -21,15 +22,56 @@ pub struct TableInfo {
 }
 
 impl TableInfo {
-    /// The same once more.
-    pub fn copy(&self, alloc: Global) -> Result<TableInfo, NoMemory>
-        ensures { IfOk result (λ table. table ≡ self.now) }
+    /// The same with this priority in the column store, or outside it where none is given.
+    fn with_memory(&self, alloc: Global, memory: Option<Priority>) -> Result<TableInfo, NoMemory>
+        ensures { IfOk result (λ table. table ≡ record self.now { memory = memory }) }
     {
         Ok(TableInfo {
             name: self.name.copy(alloc)?,
-            schema: self.schema.copy(alloc)?,
+            schema: self.schema.share()?,
             shape: self.shape,
-            memory: self.memory,
+            memory,
+        })
+    }
+}
+
+/// A table of a catalog. It never changes, so all catalogs that have it share it.
+///
+/// Contracts see the [`TableInfo`].
+#[derive(Drop)]
+pub struct SharedTable {
+    info: Arc<TableInfo>,
+}
+
+impl Model for SharedTable {
+    ghost use Rattle.im_history.specs.declared.look.TableInfo.{TableInfo as Info};
+
+    ghost Value = { Info };
+
+    ghost view = { λ t. t.info.value };
+}
+
+impl SharedTable {
+    fn of(alloc: Global, info: TableInfo) -> Result<SharedTable, NoMemory>
+        ensures { IfOk result (λ table. table ≡ info) }
+    {
+        Ok(SharedTable {
+            info: Arc::new(alloc, info)?,
+        })
+    }
+
+    /// The table as it stands.
+    pub fn info(&self) -> &TableInfo
+        ensures { result.now ≡ self.now }
+    {
+        &self.info
+    }
+
+    fn share(&self) -> Result<SharedTable, NoMemory>
+        ensures { IfOk result (λ table. table ≡ self.now) }
+    {
+        Ok(SharedTable {
+            info: Arc::try_clone(&self.info)?,
         })
     }
 }
@@ -39,7 +81,7 @@ impl TableInfo {
 /// Contracts see the list, which has at most [`MOST_TABLES`]. A catalog never changes, so one list serves all who look at it.
 #[derive(Drop)]
 pub struct Catalog {
-    tables: Arc<Vec<TableInfo>>,
+    tables: Arc<Vec<SharedTable>>,
 }
 
 impl Model for Catalog {
@@ -67,7 +109,7 @@ impl Catalog {
     }
 
     /// The tables, in order.
-    pub fn tables(&self) -> &[TableInfo]
+    pub fn tables(&self) -> &[SharedTable]
         ensures tables { result.now ≡ self.now }
         ensures few { length self.now ≤ MOST_TABLES }
     {
@@ -91,20 +133,33 @@ impl Catalog {
         Some(place as u32 + 1)
     }
 
-    /// A list of these tables and one more. It copies them all.
+    /// How many columns the table of a number has; where there is none, none.
+    pub fn columns_of(&self, table: u32) -> u32
+        ensures { result ≡ columns_of (table_among self.now table) }
+    {
+        if table == 0 {
+            return 0;
+        }
+        match self.tables().get(table as usize - 1) {
+            Some(table) => table.info().schema.columns().len() as u32,
+            None => 0,
+        }
+    }
+
+    /// A list of these tables, which it shares, and one more.
     pub fn with(&self, alloc: Global, table: TableInfo) -> Result<Catalog, NoMemory>
         requires { length self.now < MOST_TABLES }
         ensures { IfOk result (λ catalog. catalog ≡ self.now ++ table ∷ []) }
     {
-        let mut tables = copied(alloc, self.tables())?;
-        tables.push(table)?;
+        let mut tables = shared(alloc, self.tables())?;
+        tables.push(SharedTable::of(alloc, table)?)?;
         Ok(Catalog {
             tables: Arc::new(alloc, tables)?,
         })
     }
 
     /// A list of these tables, the one of this number having joined the column store with a priority, or left it where none
-    /// is given. It copies them all.
+    /// is given. It copies that one, and shares the others.
     pub fn with_memory(
         &self,
         alloc: Global,
@@ -113,39 +168,50 @@ impl Catalog {
     ) -> Result<Catalog, NoMemory>
         ensures { IfOk result (λ catalog. catalog ≡ remembered table priority self.now) }
     {
-        let mut tables = copied(alloc, self.tables())?;
-        remember(tables.as_mut_slice(), table, priority);
+        let mut tables = shared(alloc, self.tables())?;
+        remember(alloc, tables.as_mut_slice(), table, priority)?;
         Ok(Catalog {
             tables: Arc::new(alloc, tables)?,
         })
     }
 }
 
-fn copied(alloc: Global, tables: &[TableInfo]) -> Result<Vec<TableInfo>, NoMemory>
+/// The same tables, shared.
+fn shared(alloc: Global, tables: &[SharedTable]) -> Result<Vec<SharedTable>, NoMemory>
     ensures { IfOk result (λ copies. copies.items ≡ tables.now) }
 {
     let mut copies = Vec::with_capacity(alloc, tables.len())?;
     for table in tables {
-        copies.push(table.copy(alloc)?)?;
+        copies.push(table.share()?)?;
     }
     Ok(copies)
 }
 
 /// Lets the table of a number join the column store with a priority, or leave it.
-fn remember(tables: &mut [TableInfo], table: u32, priority: Option<Priority>)
-    ensures { tables.new ≡ remembered table priority tables.old }
+fn remember(
+    alloc: Global,
+    tables: &mut [SharedTable],
+    table: u32,
+    priority: Option<Priority>,
+) -> Result<(), NoMemory>
+    ensures { OnOk result (tables.new ≡ remembered table priority tables.old) }
 {
     if table > 0 && table as usize <= tables.len() {
-        tables[table as usize - 1].memory = priority;
+        let place = table as usize - 1;
+        let info = tables[place].info().with_memory(alloc, priority)?;
+        tables[place] = SharedTable::of(alloc, info)?;
     }
+    Ok(())
 }
 
 /// The place of the first table of this name.
-fn place_named(tables: &[TableInfo], name: &[u8]) -> Option<usize>
+fn place_named(tables: &[SharedTable], name: &[u8]) -> Option<usize>
     ensures place { result ≡ position (is_named name.now) tables.now }
     ensures within { IfSome result (λ place. place < length tables.now) }
 {
-    tables.iter().position(|table| name == table.name.bytes())
+    tables
+        .iter()
+        .position(|table| name == table.info().name.bytes())
 }
 
 /// What a session finds when it looks at the store.

@@ -11,7 +11,7 @@ pub enum Why {
     ReadOnly,
     /// The session has opened this cursor already.
     CursorOpen,
-    /// The session has [`MOST_CURSORS`](im_values::limits::MOST_CURSORS) cursors open beside cursor 0.
+    /// The session has [`MOST_CURSORS`](im_values::limits::MOST_CURSORS) cursors open beside its statements' own.
     TooManyCursors,
     /// Another session has a change to the row pending.
     RowLocked { row: u64, holder: u32 },

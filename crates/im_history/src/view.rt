@@ -1,4 +1,14 @@
 use crate::own::OwnChanges;
+use im_values::Schema;
+
+/// What is to be opened, or written to, as the caller saw it.
+#[derive(Clone, Copy)]
+pub struct Opening {
+    /// The table's number.
+    pub table: u32,
+    /// How many columns the caller saw it to have.
+    pub columns: u32,
+}
 
 /// What a cursor sees of its table, from its opening on.
 #[derive(Drop)]
@@ -15,6 +25,8 @@ pub struct View {
     pub per: u64,
     /// How many extents the row numbers fill, the last one in part perhaps.
     pub extents: u64,
+    /// The columns of the table, shared.
+    pub columns: Schema,
     /// The changes to the table that the session had pending.
     pub own: OwnChanges,
 }

@@ -78,7 +78,7 @@ lexes_or_bad bs ts n l b = let same = yields_once bs (Ok ts) (Err n) l b in cc
 
 -- ---- one round, and what stands behind it
 
-skip : (at : ℕ) (bs : List ℕ) (ts : Tokens) → front bs ≡ Blank → Lexes (at + 1) (drop 1 bs) ts → Lexes at bs ts
+pub skip : (at : ℕ) (bs : List ℕ) (ts : Tokens) → front bs ≡ Blank → Lexes (at + 1) (drop 1 bs) ts → Lexes at bs ts
 unfolding front
 skip at [] ts e l = absurd cc
 skip at (b ∷ bs) ts e l = skips at b bs ts e l
@@ -88,7 +88,7 @@ unfolding front
 skip_bad at [] n e l = absurd cc
 skip_bad at (b ∷ bs) n e l = behind_blank at b bs n e l
 
-one_token : (at : ℕ) (bs : List ℕ) (t : Token) (more : ℕ) (ts : Tokens) → front bs ≡ Lexed t more → Lexes (at + 1 + more) (drop (suc more) bs) ts
+pub one_token : (at : ℕ) (bs : List ℕ) (t : Token) (more : ℕ) (ts : Tokens) → front bs ≡ Lexed t more → Lexes (at + 1 + more) (drop (suc more) bs) ts
     → Lexes at bs ((t, at) ∷ ts)
 unfolding front
 one_token at [] t more ts e l = absurd cc
@@ -217,14 +217,14 @@ token_room at line t more within e =
     let left = length-drop at line in
     omega arith
 
-blank_room : (at : ℕ) (line : List ℕ) → at ≤ length line → front (drop at line) ≡ Blank → at + 1 ≤ length line
+pub blank_room : (at : ℕ) (line : List ℕ) → at ≤ length line → front (drop at line) ≡ Blank → at + 1 ≤ length line
 blank_room at line within e =
     let room = blank_all_fits (drop at line) e in
     let left = length-drop at line in
     omega arith
 
 -- so many bytes further on in a line
-further : (at more : ℕ) (line : List ℕ) → drop (at + 1 + more) line ≡ drop (suc more) (drop at line)
+pub further : (at more : ℕ) (line : List ℕ) → drop (at + 1 + more) line ≡ drop (suc more) (drop at line)
 further at more line =
     let place : at + 1 + more ≡ at + suc more = omega arith in
     ap (λ (k : ℕ). drop k line) place ∙ sym (drop-drop (suc more) at line)

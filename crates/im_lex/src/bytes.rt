@@ -56,6 +56,14 @@ fn capital_of(byte: u8) -> Option<u8>
     by_entry(CAPITALS[usize::from(byte)])
 }
 
+/// Whether a byte goes on in a word.
+#[tactic(auto, using(crate::proofs::Capitals::part_in_table))]
+pub fn is_word_part(byte: u8) -> bool
+    ensures { result ≡ bytes_of.is_word_part byte }
+{
+    CAPITALS[usize::from(byte)] != 0
+}
+
 /// Writes the word at the front into a buffer, with its letters as capitals, and says how long it is. There is none where
 /// the buffer is too short for it.
 pub fn put_word(buffer: &mut [u8], bytes: &[u8]) -> Option<usize>

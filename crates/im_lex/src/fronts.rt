@@ -22,7 +22,8 @@ fn word_token(alloc: Global, word: &[u8]) -> Result<Token, NoMemory>
 }
 
 /// A word, as long as it goes on.
-fn word(alloc: Global, bytes: &[u8]) -> Result<Front, NoMemory>
+#[inline(always)]
+pub fn word(alloc: Global, bytes: &[u8]) -> Result<Front, NoMemory>
     ensures { IfOk result (λ f. f ≡ bytes_of.word_front (bytes_of.run bytes_of.is_word_part bytes.now)) }
 {
     let mut buffer = [0; MOST_WORD_BYTES];
@@ -34,7 +35,8 @@ fn word(alloc: Global, bytes: &[u8]) -> Result<Front, NoMemory>
 }
 
 /// A number without a sign.
-fn positive(bytes: &[u8]) -> Front
+#[inline(always)]
+pub fn positive(bytes: &[u8]) -> Front
     ensures { result ≡ bytes_of.positive_front (bytes_of.run is_ascii_digit bytes.now) }
 {
     let digits = leading_digits(bytes);
@@ -45,6 +47,7 @@ fn positive(bytes: &[u8]) -> Front
 }
 
 /// A number behind its minus.
+#[inline(always)]
 fn negative(bytes: &[u8]) -> Front
     ensures { result ≡ bytes_of.negative_front (bytes_of.run is_ascii_digit bytes.now) }
 {
@@ -59,7 +62,8 @@ fn negative(bytes: &[u8]) -> Front
 }
 
 /// A comment or a number, behind a minus.
-fn behind_minus(rest: &[u8]) -> Front
+#[inline(always)]
+pub fn behind_minus(rest: &[u8]) -> Front
     ensures { result ≡ bytes_of.minus_front rest.now }
 {
     let next = first(rest);
@@ -153,6 +157,7 @@ fn bang(next: u8) -> Front
 }
 
 /// A text in which a quote stands, byte by byte, behind its opening quote.
+#[inline(never)]
 fn quoted_text(alloc: Global, bytes: &[u8]) -> Result<Front, NoMemory>
     ensures { IfOk result (λ f. f ≡ bytes_of.text_found (bytes_of.text_of bytes.now)) }
 {
@@ -175,7 +180,8 @@ fn quoted_text(alloc: Global, bytes: &[u8]) -> Result<Front, NoMemory>
 }
 
 /// A text, behind its opening quote. One in which no quote stands is copied once.
-fn text(alloc: Global, bytes: &[u8]) -> Result<Front, NoMemory>
+#[inline(always)]
+pub fn text(alloc: Global, bytes: &[u8]) -> Result<Front, NoMemory>
     ensures { IfOk result (λ f. f ≡ bytes_of.text_found (bytes_of.text_of bytes.now)) }
 {
     let plain = plain_len(bytes);
@@ -201,6 +207,7 @@ fn end_of_line(rest: &[u8]) -> Front
 }
 
 /// What stands at the front, by its first byte.
+#[inline(always)]
 fn front_at(alloc: Global, byte: u8, rest: &[u8], bytes: &[u8]) -> Result<Front, NoMemory>
     requires { bytes.now ≡ byte ∷ rest.now }
     ensures { IfOk result (λ f. f ≡ bytes_of.front_at byte rest.now) }
@@ -228,6 +235,7 @@ fn front_at(alloc: Global, byte: u8, rest: &[u8], bytes: &[u8]) -> Result<Front,
 
 /// What stands at the front of the bytes.
 #[tactic(auto, unfolding(crate::specs::Bytes::front))]
+#[inline(always)]
 pub fn front(alloc: Global, bytes: &[u8]) -> Result<Front, NoMemory>
     ensures { IfOk result (λ f. f ≡ bytes_of.front bytes.now) }
 {

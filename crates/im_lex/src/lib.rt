@@ -12,7 +12,11 @@
 mod bytes;
 mod front;
 mod fronts;
+mod inserts;
 mod lexing;
+mod places;
+mod straight;
 
 pub use bytes::{begins_comment, behind, is_blank};
+pub use inserts::insert;
 pub use lexing::{LexFault, lex, place_of};

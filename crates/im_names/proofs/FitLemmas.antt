@@ -18,13 +18,13 @@ use Rattle.im_names.specs.Faults.{first_fault}
 use Rattle.im_names.specs.Lookups.{is_called, column_called, number_of, of_column, unknown, unknown_fault}
 use Rattle.im_names.specs.Literals.{value_of, is_other, compared, is_textual, summed}
 use Rattle.im_names.specs.Conditions.{behind, term_names, conj_names, cond_names, term_values, conj_values, cond_values, term_map, conj_map, cond_map, value_fault, values_fault, where_names, where_values, filter_of}
-use Rattle.im_syntax.specs.declared.query.ItemPart.{ItemPart}
-use Rattle.im_syntax.specs.declared.query.ItemPart.TheVariants as part
+use Rattle.im_syntax.specs.declared.item.ItemOf.{ItemOf}
+use Rattle.im_syntax.specs.declared.item.ItemOf.TheVariants as item
+use Rattle.im_syntax.specs.Functions.{adds}
 use Rattle.im_syntax.specs.declared.query.KeyPart.{KeyPart}
 use Rattle.im_syntax.specs.declared.query.ListPart.{ListPart}
 use Rattle.im_syntax.specs.declared.query.ListPart.TheVariants as list
 use Rattle.im_syntax.specs.declared.query.Query.{Query}
-use Rattle.im_syntax.specs.declared.bound.Item.TheVariants as item
 use Rattle.im_names.specs.Queries.{items_of, key_item, item_names, item_of, key_of, item_fault, list_of, bound_of, names_fault, kinds_fault, query_fault}
 use Rattle.im_names.proofs.FaultLemmas.{first_fault-append}
 
@@ -162,15 +162,15 @@ module _ (row : List Value) (columns : List Column) (f : fits row columns ≡ tr
   all_fit a zero le = tt
   all_fit a (suc n) le = (omega arith, all_fit (a + 1) n (omega arith))
 
-  item_fits : (i : ItemPart) → unknown_fault columns (item_names i) ≡ None → item_fault columns i ≡ None → ItemFits row (item_of columns i)
-  item_fits (part.Column name) n e = has_one name n
-  item_fits part.CountAll n e = tt
-  item_fits (part.Count name) n e = has_one name n
-  item_fits (part.Sum name) n e = (has_one name n, no_text row columns (number_of columns name) f e)
-  item_fits (part.Min name) n e = has_one name n
-  item_fits (part.Max name) n e = has_one name n
+  item_fits : (i : ItemOf (List ℕ)) → unknown_fault columns (item_names i) ≡ None → item_fault columns i ≡ None → ItemFits row (item_of columns i)
+  item_fits (item.Column name) n e = has_one name n
+  item_fits item.CountAll n e = tt
+  item_fits (item.Aggregate function name) n e = (
+    has_one name n,
+    λ sums. no_text row columns (number_of columns name) f (ap (λ b. cond b (of_column columns (number_of columns name) summed) None) (sym sums) ∙ e),
+  )
 
-  items_fit : (is : List ItemPart) → unknown_fault columns (flat_map item_names is) ≡ None → first_fault (map (item_fault columns) is) ≡ None
+  items_fit : (is : List (ItemOf (List ℕ))) → unknown_fault columns (flat_map item_names is) ≡ None → first_fault (map (item_fault columns) is) ≡ None
       → AllByRecursion (ItemFits row) (map (item_of columns) is)
   items_fit [] n e = tt
   items_fit (i ∷ is) n e =

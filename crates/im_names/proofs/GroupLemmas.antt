@@ -4,8 +4,8 @@ use Rattle.std.specs.List.{position_from, range_with_len}
 use Rattle.std.specs.Option.{unwrap_or}
 use Rattle.std.proofs.lemmas.List.FromFn.{get_or-map-range_with_len}
 use Rattle.im_values.specs.declared.schema.Column.{Column}
-use Rattle.im_syntax.specs.declared.query.ItemPart.{ItemPart}
-use Rattle.im_syntax.specs.declared.query.ItemPart.TheVariants as part
+use Rattle.im_syntax.specs.declared.item.ItemOf.{ItemOf}
+use Rattle.im_syntax.specs.declared.item.ItemOf.TheVariants as item
 use Rattle.im_syntax.specs.declared.query.Query.{Query}
 use Rattle.im_syntax.specs.BoundQuery.{is_listed}
 use Rattle.im_names.specs.declared.fault.NameFault.TheVariants.{NotGrouped}
@@ -29,22 +29,18 @@ number_within columns name some = place_within (is_called name) 0 (length column
 abbrev pub all_marks : List Column → List (List ℕ) → List Bool
 all_marks columns groups = map (is_listed (map (number_of columns) groups)) (range_with_len 0 (length columns))
 
-marked : (columns : List Column) (groups : List (List ℕ)) (item : ItemPart) → 1 ≤ length columns
-    → marked_fault columns (all_marks columns groups) item ≡ lone_fault columns groups item
-marked columns groups (part.Column name) some =
+marked : (columns : List Column) (groups : List (List ℕ)) (part : ItemOf (List ℕ)) → 1 ≤ length columns
+    → marked_fault columns (all_marks columns groups) part ≡ lone_fault columns groups part
+marked columns groups (item.Column name) some =
     ap (λ (b : Bool). cond b None (Some (NotGrouped (Some name))))
     (get_or-map-range_with_len (is_listed (map (number_of columns) groups)) 0 (length columns) (number_of columns name)
     (number_of columns name) false (number_within columns name some) (omega arith))
-marked columns groups part.CountAll some = refl
-marked columns groups (part.Count name) some = refl
-marked columns groups (part.Sum name) some = refl
-marked columns groups (part.Min name) some = refl
-marked columns groups (part.Max name) some = refl
+marked columns groups part some = refl
 
-all_marked : (columns : List Column) (groups : List (List ℕ)) (items : List ItemPart) → 1 ≤ length columns
-    → first_fault (map (marked_fault columns (all_marks columns groups)) items) ≡ first_fault (map (lone_fault columns groups) items)
+all_marked : (columns : List Column) (groups : List (List ℕ)) (parts : List (ItemOf (List ℕ))) → 1 ≤ length columns
+    → first_fault (map (marked_fault columns (all_marks columns groups)) parts) ≡ first_fault (map (lone_fault columns groups) parts)
 all_marked columns groups [] some = refl
-all_marked columns groups (item ∷ items) some = rw (marked columns groups item some, all_marked columns groups items some) refl
+all_marked columns groups (part ∷ parts) some = rw (marked columns groups part some, all_marked columns groups parts some) refl
 
 -- so a query that is checked by marks is checked by the columns of GROUP BY
 pub marks_serve : (columns : List Column) (q : Query) → 1 ≤ length columns → marked_faults columns (all_marks columns q.groups) q ≡ lone_faults columns q

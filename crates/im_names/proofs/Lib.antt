@@ -9,3 +9,4 @@ pub mod RowLemmas
 pub mod ServeLemmas
 pub mod TargetLemmas
 pub mod Fitting
+pub mod EvenLemmas

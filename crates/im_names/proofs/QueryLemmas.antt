@@ -2,50 +2,45 @@
 use Rattle.std.proofs.Common.{◌≡◌, ℕ, Bool, true, false, cond, ◌||◌, List, [], ◌∷◌, length, map, Some, None, refl, sym, ap, ◌∙◌}
 use Rattle.std.specs.List.{AllByRecursion, list_any, range_with_len}
 use Rattle.im_values.specs.declared.schema.Column.{Column}
-use Rattle.im_syntax.specs.declared.bound.Item.TheVariants as item
-use Rattle.im_syntax.specs.declared.query.ItemPart.{ItemPart}
-use Rattle.im_syntax.specs.declared.query.ItemPart.TheVariants as part
+use Rattle.im_syntax.specs.declared.item.ItemOf.{ItemOf}
+use Rattle.im_syntax.specs.declared.item.ItemOf.TheVariants as item
 use Rattle.im_syntax.specs.declared.query.KeyPart.{KeyPart}
 use Rattle.im_syntax.specs.declared.query.ListPart.{ListPart}
 use Rattle.im_syntax.specs.declared.query.ListPart.TheVariants as list
 use Rattle.im_syntax.specs.declared.query.Query.{Query}
-use Rattle.im_syntax.specs.BoundQuery as bound_query
+use Rattle.im_syntax.specs.Functions.{is_aggregate}
 use Rattle.im_syntax.specs.BoundQuery.{is_filled, is_listed, IsOfGroup, IsQuery}
 use Rattle.im_names.specs.declared.fault.NameFault.TheVariants.{NotGrouped}
 use Rattle.im_names.specs.Faults.{first_fault}
 use Rattle.im_names.specs.Lookups.{number_of}
-use Rattle.im_names.specs.Queries.{items_of, key_item, item_of, key_of, is_aggregate, is_grouped, lone_fault, lone_faults, grouped_fault, star_fault, names_fault, kinds_fault, query_fault, list_of, bound_of}
+use Rattle.im_names.specs.Queries.{items_of, key_item, item_of, key_of, is_grouped, lone_fault, lone_faults, grouped_fault, star_fault, names_fault, kinds_fault, query_fault, list_of, bound_of}
 use Rattle.im_names.proofs.FitLemmas.{neither}
 
 filled-map : {A B : Type 0} (f : A → B) (xs : List A) → is_filled xs ≡ is_filled (map f xs)
 filled-map f [] = refl
 filled-map f (x ∷ xs) = refl
 
-no_aggregate : (numbers : List ℕ) → false ≡ list_any bound_query.is_aggregate (map item.Column numbers)
+no_aggregate : (numbers : List ℕ) → false ≡ list_any is_aggregate (map item.Column numbers)
 no_aggregate [] = refl
 no_aggregate (n ∷ numbers) = no_aggregate numbers
 
 module _ (columns : List Column) where
   -- ---- aggregates
 
-  aggregate-of : (i : ItemPart) → is_aggregate i ≡ bound_query.is_aggregate (item_of columns i)
-  aggregate-of (part.Column name) = refl
-  aggregate-of part.CountAll = refl
-  aggregate-of (part.Count name) = refl
-  aggregate-of (part.Sum name) = refl
-  aggregate-of (part.Min name) = refl
-  aggregate-of (part.Max name) = refl
+  aggregate-of : (i : ItemOf (List ℕ)) → is_aggregate i ≡ is_aggregate (item_of columns i)
+  aggregate-of (item.Column name) = refl
+  aggregate-of i = refl
 
-  items-aggregate : (is : List ItemPart) → list_any is_aggregate is ≡ list_any bound_query.is_aggregate (map (item_of columns) is)
+  items-aggregate : (is : List (ItemOf (List ℕ))) → list_any is_aggregate is ≡ list_any is_aggregate (map (item_of columns) is)
   items-aggregate [] = refl
   items-aggregate (i ∷ is) = λ j. aggregate-of i j || items-aggregate is j
 
-  list-aggregate : (l : ListPart) → list_any is_aggregate (items_of l) ≡ list_any bound_query.is_aggregate (list_of columns l)
+  list-aggregate : (l : ListPart) → list_any is_aggregate (items_of l) ≡ list_any is_aggregate (list_of columns l)
   list-aggregate list.Star = no_aggregate (range_with_len 0 (length columns))
   list-aggregate (list.Items is) = items-aggregate is
 
   keys-aggregate : (keys : List KeyPart)
-      → list_any is_aggregate (map key_item keys) ≡ list_any bound_query.is_aggregate (map (λ key. key.item) (map (key_of columns) keys))
+      → list_any is_aggregate (map key_item keys) ≡ list_any is_aggregate (map (λ key. key.item) (map (key_of columns) keys))
   keys-aggregate [] = refl
   keys-aggregate (key ∷ keys) = λ j. aggregate-of key.item j || keys-aggregate keys j
 
@@ -60,15 +55,12 @@ module _ (columns : List Column) where
     listed name true is e = is
     listed name false is e = absurd cc
 
-    item-grouped : (i : ItemPart) → lone_fault columns groups i ≡ None → IsOfGroup numbers (item_of columns i)
-    item-grouped (part.Column name) e = listed name (is_listed numbers (number_of columns name)) refl e
-    item-grouped part.CountAll e = tt
-    item-grouped (part.Count name) e = tt
-    item-grouped (part.Sum name) e = tt
-    item-grouped (part.Min name) e = tt
-    item-grouped (part.Max name) e = tt
+    item-grouped : (i : ItemOf (List ℕ)) → lone_fault columns groups i ≡ None → IsOfGroup numbers (item_of columns i)
+    item-grouped (item.Column name) e = listed name (is_listed numbers (number_of columns name)) refl e
+    item-grouped item.CountAll e = tt
+    item-grouped (item.Aggregate function name) e = tt
 
-    items-grouped : (is : List ItemPart) → first_fault (map (lone_fault columns groups) is) ≡ None
+    items-grouped : (is : List (ItemOf (List ℕ))) → first_fault (map (lone_fault columns groups) is) ≡ None
         → AllByRecursion (IsOfGroup numbers) (map (item_of columns) is)
     items-grouped [] e = tt
     items-grouped (i ∷ is) e = let both = neither (lone_fault columns groups i) _ e in (item-grouped i both.0, items-grouped is both.1)

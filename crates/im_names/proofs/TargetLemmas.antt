@@ -87,7 +87,7 @@ row_long width numbers tuple =
 
 -- ---- the faults of a tuple, value by value
 
-drop_at : {A : Type 0} (xs : List A) (i : ℕ) (x : A) → slice_get xs i ≡ Some x → drop i xs ≡ x ∷ drop (i + 1) xs
+pub drop_at : {A : Type 0} (xs : List A) (i : ℕ) (x : A) → slice_get xs i ≡ Some x → drop i xs ≡ x ∷ drop (i + 1) xs
 drop_at [] i x is = absurd cc
 drop_at (y ∷ ys) zero x is = let same : y ≡ x = cc in cc
 drop_at (y ∷ ys) (suc i) x is = let next : suc i + 1 ≡ suc (i + 1) = omega arith in rw next (drop_at ys i x is)

@@ -2,19 +2,19 @@
 use Rattle.std.specs.Prelude.{ℕ, Bool, true, false, ◌||◌, List, [], ◌∷◌, get_or, length, map, Option, Some, None, if◌then◌else◌}
 use Rattle.std.specs.List.{flat_map, list_any, range_with_len}
 use Rattle.im_values.specs.declared.schema.Column.{Column}
-use Rattle.im_syntax.specs.declared.query.ItemPart.{ItemPart}
-use Rattle.im_syntax.specs.declared.query.ItemPart.TheVariants as part
+use Rattle.im_syntax.specs.declared.item.Function.{Function}
+use Rattle.im_syntax.specs.declared.item.ItemOf.{ItemOf}
+use Rattle.im_syntax.specs.declared.item.ItemOf.TheVariants as item
 use Rattle.im_syntax.specs.declared.query.KeyPart.{KeyPart}
 use Rattle.im_syntax.specs.declared.query.ListPart.{ListPart}
 use Rattle.im_syntax.specs.declared.query.ListPart.TheVariants as list
 use Rattle.im_syntax.specs.declared.query.Way.{Way}
 use Rattle.im_syntax.specs.declared.query.Way.TheVariants as way
 use Rattle.im_syntax.specs.declared.query.Query.{Query}
-use Rattle.im_syntax.specs.declared.bound.Item.{Item}
-use Rattle.im_syntax.specs.declared.bound.Item.TheVariants as item
 use Rattle.im_syntax.specs.declared.bound.Key.{Key}
 use Rattle.im_syntax.specs.declared.bound.Bound.{Bound}
 use Rattle.im_syntax.specs.BoundQuery.{is_filled, is_listed}
+use Rattle.im_syntax.specs.Functions.{adds, is_aggregate}
 use Rattle.im_names.specs.declared.fault.NameFault.{NameFault}
 use Rattle.im_names.specs.declared.fault.NameFault.TheVariants.{NotGrouped}
 use Rattle.im_names.specs.Faults.{first_fault}
@@ -25,31 +25,25 @@ use Rattle.im_names.specs.Conditions.{where_names, where_values, values_fault, f
 -- ---- items and keys
 
 -- the items of a list; `*` has none
-abbrev pub items_of : ListPart → List ItemPart
+abbrev pub items_of : ListPart → List (ItemOf (List ℕ))
 items_of list.Star = []
 items_of (list.Items items) = items
 
 -- the item of a key
-abbrev pub key_item : KeyPart → ItemPart
+abbrev pub key_item : KeyPart → ItemOf (List ℕ)
 key_item key = key.item
 
 -- the names of columns in an item
-abbrev pub item_names : ItemPart → List (List ℕ)
-item_names (part.Column name) = name ∷ []
-item_names part.CountAll = []
-item_names (part.Count name) = name ∷ []
-item_names (part.Sum name) = name ∷ []
-item_names (part.Min name) = name ∷ []
-item_names (part.Max name) = name ∷ []
+abbrev pub item_names : ItemOf (List ℕ) → List (List ℕ)
+item_names (item.Column name) = name ∷ []
+item_names item.CountAll = []
+item_names (item.Aggregate function name) = name ∷ []
 
 -- the item with the number of its column
-abbrev pub item_of : List Column → ItemPart → Item
-item_of columns (part.Column name) = item.Column (number_of columns name)
-item_of columns part.CountAll = item.CountAll
-item_of columns (part.Count name) = item.Count (number_of columns name)
-item_of columns (part.Sum name) = item.Sum (number_of columns name)
-item_of columns (part.Min name) = item.Min (number_of columns name)
-item_of columns (part.Max name) = item.Max (number_of columns name)
+abbrev pub item_of : List Column → ItemOf (List ℕ) → ItemOf ℕ
+item_of columns (item.Column name) = item.Column (number_of columns name)
+item_of columns item.CountAll = item.CountAll
+item_of columns (item.Aggregate function name) = item.Aggregate function (number_of columns name)
 
 -- a key is descending where DESC is written
 abbrev pub is_descending : Way → Bool
@@ -60,48 +54,33 @@ is_descending way.Desc = true
 abbrev pub key_of : List Column → KeyPart → Key
 key_of columns key = record { item = item_of columns key.item; descending = is_descending key.way }
 
--- a SUM of a column of texts; the other aggregates go over each kind
-abbrev pub item_fault : List Column → ItemPart → Option NameFault
-item_fault columns (part.Sum name) = of_column columns (number_of columns name) summed
-item_fault columns (part.Column name) = None
-item_fault columns part.CountAll = None
-item_fault columns (part.Count name) = None
-item_fault columns (part.Min name) = None
-item_fault columns (part.Max name) = None
+-- a function that adds up goes over no column of texts
+abbrev pub function_fault : List Column → Function → ℕ → Option NameFault
+function_fault columns function number = if adds function then of_column columns number summed else None
+
+abbrev pub item_fault : List Column → ItemOf (List ℕ) → Option NameFault
+item_fault columns (item.Column name) = None
+item_fault columns item.CountAll = None
+item_fault columns (item.Aggregate function name) = function_fault columns function (number_of columns name)
 
 -- ---- grouping
-
--- the item is an aggregate
-abbrev pub is_aggregate : ItemPart → Bool
-is_aggregate (part.Column name) = false
-is_aggregate part.CountAll = true
-is_aggregate (part.Count name) = true
-is_aggregate (part.Sum name) = true
-is_aggregate (part.Min name) = true
-is_aggregate (part.Max name) = true
 
 -- A query is grouped where it has GROUP BY, or an aggregate in its list or keys.
 abbrev pub is_grouped : Query → Bool
 is_grouped q = is_filled q.groups || list_any is_aggregate (items_of q.list) || list_any is_aggregate (map key_item q.keys)
 
 -- the item is a plain column that is not among those of GROUP BY
-abbrev pub lone_fault : List Column → List (List ℕ) → ItemPart → Option NameFault
-lone_fault columns groups (part.Column name) =
+abbrev pub lone_fault : List Column → List (List ℕ) → ItemOf (List ℕ) → Option NameFault
+lone_fault columns groups (item.Column name) =
     if is_listed (map (number_of columns) groups) (number_of columns name) then None else Some (NotGrouped (Some name))
-lone_fault columns groups part.CountAll = None
-lone_fault columns groups (part.Count name) = None
-lone_fault columns groups (part.Sum name) = None
-lone_fault columns groups (part.Min name) = None
-lone_fault columns groups (part.Max name) = None
+lone_fault columns groups item.CountAll = None
+lone_fault columns groups (item.Aggregate function name) = None
 
 -- the same where the columns of GROUP BY are marked
-abbrev pub marked_fault : List Column → List Bool → ItemPart → Option NameFault
-marked_fault columns marks (part.Column name) = if get_or marks (number_of columns name) false then None else Some (NotGrouped (Some name))
-marked_fault columns marks part.CountAll = None
-marked_fault columns marks (part.Count name) = None
-marked_fault columns marks (part.Sum name) = None
-marked_fault columns marks (part.Min name) = None
-marked_fault columns marks (part.Max name) = None
+abbrev pub marked_fault : List Column → List Bool → ItemOf (List ℕ) → Option NameFault
+marked_fault columns marks (item.Column name) = if get_or marks (number_of columns name) false then None else Some (NotGrouped (Some name))
+marked_fault columns marks item.CountAll = None
+marked_fault columns marks (item.Aggregate function name) = None
 
 -- `*` in a grouped query
 abbrev pub star_fault : ListPart → Option NameFault
@@ -152,7 +131,7 @@ abbrev pub query_fault : List Column → Query → Option NameFault
 query_fault columns q = first_fault (names_fault columns q ∷ kinds_fault columns q ∷ grouped_fault columns q ∷ [])
 
 -- `*` is every column
-abbrev pub list_of : List Column → ListPart → List Item
+abbrev pub list_of : List Column → ListPart → List (ItemOf ℕ)
 list_of columns list.Star = map item.Column (range_with_len 0 (length columns))
 list_of columns (list.Items items) = map (item_of columns) items
 

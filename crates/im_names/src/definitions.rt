@@ -31,7 +31,7 @@ pub fn schema_of(alloc: Global, parts: &[ColumnPart]) -> Result<Schema, NoMemory
             kind: kind_of(part.kind),
         })?;
     }
-    Ok(Schema::of(columns))
+    Schema::of(alloc, columns)
 }
 
 /// The shape of a table that is created.

@@ -14,6 +14,7 @@
 mod columns;
 mod conditions;
 mod definitions;
+mod even;
 mod fault;
 mod literals;
 mod queries;

@@ -1,8 +1,8 @@
-ghost use Rattle.std.specs.Prelude.{◌≡◌, ◌||◌, length, map, None, IfOk, OnOk, IfErr};
+ghost use Rattle.std.specs.Prelude.{◌≡◌, ◌||◌, ℕ, List, length, map, None, IfOk, OnOk, IfErr};
 ghost use Rattle.std.specs.List.{flat_map, list_any, range_with_len};
-ghost use Rattle.im_syntax.specs.declared.query.ItemPart.{ItemPart as AnyItem};
-ghost use Rattle.im_syntax.specs.declared.query.ItemPart.TheVariants as part;
-ghost use Rattle.im_syntax.specs.declared.bound.Item.TheVariants as bound_item;
+ghost use Rattle.im_syntax.specs.declared.item.ItemOf.{ItemOf as AnyItem};
+ghost use Rattle.im_syntax.specs.declared.item.ItemOf.TheVariants as part;
+ghost use Rattle.im_syntax.specs.Functions.{is_aggregate};
 ghost use Rattle.im_syntax.specs.BoundQuery.{is_listed as listed};
 ghost use Rattle.im_names.specs.Faults.{IsCause, Passes, first_fault};
 ghost use Rattle.im_names.specs.Lookups.{number_of as number, unknown_fault};
@@ -12,13 +12,13 @@ use crate::columns::{check_all_known, check_known, number_of, width_of};
 use crate::conditions::{bind_where, check_where};
 use crate::fault::NameFault;
 use crate::literals::check_summed;
-use im_syntax::{Bound, Item, ItemPart, Key, KeyPart, ListPart, Query, Way};
+use im_syntax::{Bound, Function, Item, ItemPart, Key, KeyPart, ListPart, Query, Way};
 use im_values::{List, Name, NoMemory, Schema};
 use std::alloc::Global;
 
 /// A part of a query that has an item: the item itself, or a key.
 trait HasItem {
-    ghost own_item: { Self → AnyItem };
+    ghost own_item: { Self → AnyItem (List ℕ) };
 
     fn item(&self) -> &ItemPart
         ensures { result.now ≡ own_item self.now };
@@ -57,11 +57,7 @@ fn check_item(alloc: Global, schema: &Schema, item: &ItemPart) -> Result<(), Nam
 {
     match item {
         ItemPart::CountAll => Ok(()),
-        ItemPart::Column(name)
-        | ItemPart::Count(name)
-        | ItemPart::Sum(name)
-        | ItemPart::Min(name)
-        | ItemPart::Max(name) => check_known(alloc, schema, name),
+        ItemPart::Column(name) | ItemPart::Aggregate(_, name) => check_known(alloc, schema, name),
     }
 }
 
@@ -79,17 +75,39 @@ fn check_items<T: HasItem>(alloc: Global, schema: &Schema, parts: &[T]) -> Resul
 
 // ---- items and keys
 
-fn bind_sum(alloc: Global, schema: &Schema, name: &Name) -> Result<Item, NameFault>
+/// A function that goes over the values of a column.
+fn check_function(
+    alloc: Global,
+    schema: &Schema,
+    function: Function,
+    number: u32,
+) -> Result<(), NameFault>
+    ensures ok { OnOk result (spec.function_fault schema.now function number ≡ None) }
+    ensures err { IfErr result (IsCause (spec.function_fault schema.now function number)) }
+{
+    if !function.adds() {
+        return Ok(());
+    }
+    match schema.columns().get(number as usize) {
+        Some(column) => check_summed(alloc, column),
+        None => Ok(()),
+    }
+}
+
+fn bind_aggregate(
+    alloc: Global,
+    schema: &Schema,
+    function: Function,
+    name: &Name,
+) -> Result<Item, NameFault>
     ensures ok { IfOk result (λ x. Passes
-        (spec.item_fault schema.now (part.Sum name.now))
-        (x ≡ spec.item_of schema.now (part.Sum name.now))) }
-    ensures err { IfErr result (IsCause (spec.item_fault schema.now (part.Sum name.now))) }
+        (spec.item_fault schema.now (part.Aggregate function name.now))
+        (x ≡ spec.item_of schema.now (part.Aggregate function name.now))) }
+    ensures err { IfErr result (IsCause (spec.item_fault schema.now (part.Aggregate function name.now))) }
 {
     let number = number_of(schema, name);
-    if let Some(column) = schema.columns().get(number as usize) {
-        check_summed(alloc, column)?;
-    }
-    Ok(Item::Sum(number))
+    check_function(alloc, schema, function, number)?;
+    Ok(Item::Aggregate(function, number))
 }
 
 fn bind_item(alloc: Global, schema: &Schema, item: &ItemPart) -> Result<Item, NameFault>
@@ -101,10 +119,7 @@ fn bind_item(alloc: Global, schema: &Schema, item: &ItemPart) -> Result<Item, Na
     match item {
         ItemPart::CountAll => Ok(Item::CountAll),
         ItemPart::Column(name) => Ok(Item::Column(number_of(schema, name))),
-        ItemPart::Count(name) => Ok(Item::Count(number_of(schema, name))),
-        ItemPart::Sum(name) => bind_sum(alloc, schema, name),
-        ItemPart::Min(name) => Ok(Item::Min(number_of(schema, name))),
-        ItemPart::Max(name) => Ok(Item::Max(number_of(schema, name))),
+        ItemPart::Aggregate(function, name) => bind_aggregate(alloc, schema, *function, name),
     }
 }
 
@@ -122,7 +137,7 @@ fn bind_items(alloc: Global, schema: &Schema, items: &[ItemPart]) -> Result<List
 }
 
 fn all_columns(alloc: Global, width: u32) -> Result<List<Item>, NoMemory>
-    ensures { IfOk result (λ xs. xs ≡ map bound_item.Column (range_with_len 0 width)) }
+    ensures { IfOk result (λ xs. xs ≡ map part.Column (range_with_len 0 width)) }
 {
     let mut items = Vec::with_capacity(alloc, width as usize)?;
     for number in 0..width {
@@ -187,17 +202,11 @@ fn bind_groups(alloc: Global, schema: &Schema, groups: &[Name]) -> Result<List<u
 
 // ---- grouping
 
-fn is_aggregate(item: &ItemPart) -> bool
-    ensures { result ≡ spec.is_aggregate item.now }
-{
-    !matches!(item, ItemPart::Column(_))
-}
-
 fn has_aggregate<T: HasItem>(parts: &[T]) -> bool
-    ensures { result ≡ list_any spec.is_aggregate (map T.own_item parts.now) }
+    ensures { result ≡ list_any is_aggregate (map T.own_item parts.now) }
 {
     for part in parts {
-        if is_aggregate(part.item()) {
+        if part.item().is_aggregate() {
             return true;
         }
     }

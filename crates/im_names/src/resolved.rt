@@ -1,6 +1,6 @@
 use im_history::{Mode, Priority, Shape};
 use im_syntax::{Bound, Filter};
-use im_values::{List, Name, Row, Schema, Value};
+use im_values::{List, Name, Rows, Schema, Value};
 
 /// A statement whose names are numbers: of a table from 1 on in the order of creation, and of a column from 0 on.
 #[derive(Drop)]
@@ -22,7 +22,7 @@ pub enum Resolved {
     /// Each row has a value for each column of the table.
     Insert {
         table: u32,
-        rows: List<Row>,
+        rows: Rows,
     },
     Update {
         table: u32,

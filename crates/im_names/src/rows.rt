@@ -8,7 +8,7 @@ use crate::fault::NameFault;
 use crate::literals::{check_stored, value_of};
 use crate::targets::Targets;
 use im_syntax::Lit;
-use im_values::{List, Name, NoMemory, Row, Schema, Value, rows_of_block};
+use im_values::{List, Name, NoMemory, Rows, Schema, Value};
 use std::alloc::Global;
 
 // ---- INSERT
@@ -105,7 +105,7 @@ pub fn rows_of(
     schema: &Schema,
     targets: &Targets,
     tuples: &[List<Lit>],
-) -> Result<List<Row>, NameFault>
+) -> Result<Rows, NameFault>
     ensures ok { IfOk result (λ rows. Passes
         (first_fault (map (spec.tuple_fault schema.now (numbers_of targets.now)) tuples.now))
         (rows ≡ map (spec.row_of (length schema.now) (numbers_of targets.now)) tuples.now)) }
@@ -119,8 +119,7 @@ pub fn rows_of(
         check_tuple(alloc, schema, targets, tuple.items())?;
         push_row(alloc, &mut values, width, targets, tuple.items())?;
     }
-    let rows = rows_of_block(alloc, values, width as usize, tuples.len())?;
-    Ok(List::of(rows))
+    Ok(Rows::of(alloc, values, width as usize, tuples.len())?)
 }
 
 // ---- UPDATE

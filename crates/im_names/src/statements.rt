@@ -1,5 +1,6 @@
 ghost use Rattle.std.specs.Prelude.{◌≡◌, ◌⊎◌, List, ℕ, map, Some, Ok, Err, IfOk, IfErr};
 ghost use Rattle.im_syntax.specs.Rules.{IsStmt, IsCreate};
+ghost use Rattle.im_syntax.specs.Tuples.{written};
 ghost use Rattle.im_syntax.specs.declared.statement.Stmt.TheVariants as form;
 ghost use Rattle.im_names.specs.declared.resolved.Resolved.TheVariants as resolved;
 ghost use Rattle.im_names.specs.declared.fault.NameFault.TheVariants.{NoMemory as Lacks};
@@ -12,18 +13,21 @@ ghost use Rattle.im_names.specs.Statements.{resolution, query_answer, create_ans
 use crate::columns::{check_distinct, check_listed};
 use crate::conditions::{bind_where, check_where};
 use crate::definitions::{memory_of, priority_of, schema_of, shape_of};
+use crate::even::all_fit;
 use crate::fault::NameFault;
 use crate::queries::bind_query;
 use crate::resolved::Resolved;
 use crate::rows::{bind_sets, check_counts, rows_of};
 use crate::tables::table_called;
 use crate::targets::Targets;
-use im_history::{Look, Mode, Priority, TableInfo};
-use im_syntax::{Bound, ColumnPart, Cond, Lit, MemoryPart, Query, Stmt};
+use im_history::{Look, Mode, Priority, SharedTable};
+use im_syntax::{
+    Bound, ColumnPart, Cond, EvenTuples, Lit, MemoryPart, Query, Stmt, Tuples, TuplesForm,
+};
 use im_values::{List, Name, Schema};
 use std::alloc::Global;
 
-fn resolve_query(alloc: Global, tables: &[TableInfo], query: &Query) -> Result<Bound, NameFault>
+fn resolve_query(alloc: Global, tables: &[SharedTable], query: &Query) -> Result<Bound, NameFault>
     ensures ok { IfOk result (λ bound. query_answer tables.now query.now ≡ Ok bound) }
     ensures err { IfErr result (IsErr (query_answer tables.now query.now)) }
 {
@@ -54,7 +58,7 @@ fn resolve_create(
 
 fn resolve_memory(
     alloc: Global,
-    tables: &[TableInfo],
+    tables: &[SharedTable],
     name: &Name,
     priority: Option<Priority>,
 ) -> Result<Resolved, NameFault>
@@ -84,18 +88,58 @@ fn bind_insert(
     Ok(Resolved::Insert { table, rows })
 }
 
+/// Tuples that are kept as values are the rows as they are, where all columns are meant and every value may stand in its own. What
+/// is wrong with others is told of them as they are written.
+fn bind_even(
+    alloc: Global,
+    table: u32,
+    schema: &Schema,
+    names: &[Name],
+    tuples: &EvenTuples,
+) -> Result<Resolved, NameFault>
+    ensures ok { IfOk result (λ r. Passes
+        (insert_fault schema.now names.now (written tuples.now))
+        (r ≡ resolved.Insert table (all_rows schema.now names.now (written tuples.now)))) }
+    ensures err { IfErr result (IsCause (insert_fault schema.now names.now (written tuples.now))) }
+{
+    if names.is_empty() && all_fit(tuples, schema) {
+        let rows = tuples.rows()?;
+        return Ok(Resolved::Insert { table, rows });
+    }
+    let tuples = tuples.to_list(alloc)?;
+    bind_insert(alloc, table, schema, names, tuples.as_slice())
+}
+
+fn bind_tuples(
+    alloc: Global,
+    table: u32,
+    schema: &Schema,
+    names: &[Name],
+    tuples: &Tuples,
+) -> Result<Resolved, NameFault>
+    ensures ok { IfOk result (λ r. Passes
+        (insert_fault schema.now names.now tuples.now)
+        (r ≡ resolved.Insert table (all_rows schema.now names.now tuples.now))) }
+    ensures err { IfErr result (IsCause (insert_fault schema.now names.now tuples.now)) }
+{
+    match tuples.form() {
+        TuplesForm::Even(tuples) => bind_even(alloc, table, schema, names, tuples),
+        TuplesForm::Listed(tuples) => bind_insert(alloc, table, schema, names, tuples.items()),
+    }
+}
+
 fn resolve_insert(
     alloc: Global,
-    tables: &[TableInfo],
+    tables: &[SharedTable],
     name: &Name,
     names: &[Name],
-    tuples: &[List<Lit>],
+    tuples: &Tuples,
 ) -> Result<Resolved, NameFault>
     ensures ok { IfOk result (λ r. resolution tables.now (form.Insert name.now names.now tuples.now) ≡ Ok r) }
     ensures err { IfErr result (IsErr (resolution tables.now (form.Insert name.now names.now tuples.now))) }
 {
     let (number, schema) = table_called(alloc, tables, name)?;
-    bind_insert(alloc, number, schema, names, tuples)
+    bind_tuples(alloc, number, schema, names, tuples)
 }
 
 fn bind_update(
@@ -123,7 +167,7 @@ fn bind_update(
 
 fn resolve_update(
     alloc: Global,
-    tables: &[TableInfo],
+    tables: &[SharedTable],
     name: &Name,
     sets: &[(Name, Lit)],
     cond: &Option<Cond>,
@@ -153,7 +197,7 @@ fn bind_delete(
 
 fn resolve_delete(
     alloc: Global,
-    tables: &[TableInfo],
+    tables: &[SharedTable],
     name: &Name,
     cond: &Option<Cond>,
 ) -> Result<Resolved, NameFault>
@@ -166,7 +210,7 @@ fn resolve_delete(
 
 fn resolve_evict(
     alloc: Global,
-    tables: &[TableInfo],
+    tables: &[SharedTable],
     name: &Name,
     extent: u64,
 ) -> Result<Resolved, NameFault>
@@ -177,7 +221,7 @@ fn resolve_evict(
     Ok(Resolved::Evict { table, extent })
 }
 
-fn resolve_among(alloc: Global, stmt: &Stmt, tables: &[TableInfo]) -> Result<Resolved, NameFault>
+fn resolve_among(alloc: Global, stmt: &Stmt, tables: &[SharedTable]) -> Result<Resolved, NameFault>
     requires { IsStmt stmt.now }
     ensures ok { IfOk result (λ resolved. resolution tables.now stmt.now ≡ Ok resolved) }
     ensures err { IfErr result (IsErr (resolution tables.now stmt.now)) }
@@ -204,7 +248,7 @@ fn resolve_among(alloc: Global, stmt: &Stmt, tables: &[TableInfo]) -> Result<Res
             name,
             columns,
             tuples,
-        } => resolve_insert(alloc, tables, name, columns.items(), tuples.items()),
+        } => resolve_insert(alloc, tables, name, columns.items(), tuples),
         Stmt::Update { name, sets, cond } => {
             resolve_update(alloc, tables, name, sets.items(), cond)
         }

@@ -6,12 +6,12 @@ ghost use Rattle.im_names.specs.Lookups as spec;
 ghost use Rattle.im_names.specs.Lookups.{StandsAt, absent};
 
 use crate::fault::NameFault;
-use im_history::TableInfo;
+use im_history::{SharedTable, TableInfo};
 use im_values::{Name, Schema};
 use std::alloc::Global;
 
 /// The first table of this name, and how many stand before it.
-fn find<'a>(tables: &'a [TableInfo], name: &Name) -> Option<(usize, &'a TableInfo)>
+fn find<'a>(tables: &'a [SharedTable], name: &Name) -> Option<(usize, &'a TableInfo)>
     ensures { MatchOption result
         (spec.table_called tables.now name.now ≡ None)
         (λ found. (spec.table_called tables.now name.now ≡ Some found.1.now)
@@ -19,8 +19,8 @@ fn find<'a>(tables: &'a [TableInfo], name: &Name) -> Option<(usize, &'a TableInf
         × (found.0 < length tables.now)) }
 {
     for (i, table) in tables.iter().enumerate() {
-        if name == &table.name {
-            return Some((i, table));
+        if name == &table.info().name {
+            return Some((i, table.info()));
         }
     }
     None
@@ -29,7 +29,7 @@ fn find<'a>(tables: &'a [TableInfo], name: &Name) -> Option<(usize, &'a TableInf
 /// The number of the table of this name, from 1 on, and its columns.
 pub fn table_called<'a>(
     alloc: Global,
-    tables: &'a [TableInfo],
+    tables: &'a [SharedTable],
     name: &Name,
 ) -> Result<(u32, &'a Schema), NameFault>
     ensures ok { IfOk result (λ found. StandsAt tables.now name.now found.0 found.1.now) }

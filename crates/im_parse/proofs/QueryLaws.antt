@@ -1,5 +1,5 @@
 -- Queries are read as they are spelled.
-use Rattle.std.proofs.Common.{◌≡◌, ℕ, Bool, true, false, List, [], ◌∷◌, ◌++◌, Option, Some, None, refl, sym, ap, append_assoc}
+use Rattle.std.proofs.Common.{◌≡◌, ℕ, Bool, true, false, List, [], ◌∷◌, ◌++◌, Option, Some, None, refl, sym, ap, append_assoc, ◌∙◌, subst}
 use Rattle.std.specs.List.{AllByRecursion}
 use Rattle.im_readers.specs.Reading.{Read, made, joined, optional}
 use Rattle.im_readers.specs.Grammar.{Ends, at_end, at_other, BeginsWith, begins_with, Reads, never, Any, GoodJoined, GoodBoth, GoodOptional, spell_both, goes_both, goes_joined, spell_optional, goes_optional, goes_behind}
@@ -11,8 +11,12 @@ use Rattle.im_syntax.specs.declared.token.Token.{Token}
 use Rattle.im_syntax.specs.declared.token.Token.TheVariants as token
 use Rattle.im_syntax.specs.declared.token.Sign.TheVariants as sign
 use Rattle.im_syntax.specs.declared.literal.Lit.{Lit}
-use Rattle.im_syntax.specs.declared.query.ItemPart.{ItemPart}
-use Rattle.im_syntax.specs.declared.query.ItemPart.TheVariants as item
+use Rattle.im_syntax.specs.declared.item.Function.{Function}
+use Rattle.im_syntax.specs.declared.item.Function.TheVariants as function
+use Rattle.im_syntax.specs.declared.item.ItemOf.{ItemOf}
+use Rattle.im_syntax.specs.declared.item.ItemOf.TheVariants as item
+use Rattle.im_syntax.specs.Functions.{keyword_of, function_of}
+use Rattle.im_syntax.proofs.FunctionLaws.{function_of-keyword, function_of-only, one_keyword}
 use Rattle.im_syntax.specs.declared.query.Way.{Way}
 use Rattle.im_syntax.specs.declared.query.Way.TheVariants as way
 use Rattle.im_syntax.specs.declared.query.KeyPart.{KeyPart}
@@ -24,8 +28,8 @@ use Rattle.im_syntax.specs.Words.{IsName}
 use Rattle.im_syntax.specs.Rules.{IsItem, IsKey, IsList, IsQuery, IsWhere}
 use Rattle.im_syntax.specs.Spelling.{word, comma, in_parens, spell_names, spell_item, spell_way, spell_key, spell_list, spell_where, spell_groups, spell_keys, spell_query}
 use Rattle.im_parse.specs.inner.Marks.{is_key, is_comma, is_star, Lead, keyword, name, lead, name_at}
-use Rattle.im_parse.specs.inner.Queries.{listed, aggregate_at, counted_by, counted_at, count_at, item_by, item_at, direction_of, is_direction, way_of, way_at, key_of, key_at, list_by, list_at, groups_at, keys_at, query_of, query_at}
-use Rattle.im_parse.proofs.MarkLaws.{Ends-never, left_mark, right_mark, comma_mark, star_mark, after_word_law, before_word_law, name_law, chosen_word, unknown}
+use Rattle.im_parse.specs.inner.Queries.{listed, operand_by, operand_at, call_at, called_by, item_by, item_at, direction_of, is_direction, way_of, way_at, key_of, key_at, list_by, list_at, groups_at, keys_at, query_of, query_at}
+use Rattle.im_parse.proofs.MarkLaws.{Ends-never, left_mark, right_mark, comma_mark, star_mark, after_word_law, before_word_law, name_law, some_name, chosen_word}
 use Rattle.im_parse.proofs.ConditionLaws.{goes_where, where_law, goes_where-false}
 
 -- ---- a list that may be left out
@@ -62,132 +66,121 @@ module _ {A : Type 0} (begins : Token → Bool) {s : List A → List Token} {g :
 
 -- ---- items
 
-abbrev first_item : ItemPart → Lead
+abbrev Part : Type 0
+Part = ItemOf (List ℕ)
+
+abbrev first_item : Part → Lead
 first_item (item.Column n) = name
 first_item item.CountAll = keyword key.Count
-first_item (item.Count n) = keyword key.Count
-first_item (item.Sum n) = keyword key.Sum
-first_item (item.Min n) = keyword key.Min
-first_item (item.Max n) = keyword key.Max
+first_item (item.Aggregate f n) = keyword (keyword_of f)
 
-item_firsts : (i : ItemPart) → IsItem i → FirstKind lead (first_item i) (spell_item i)
+item_firsts : (i : Part) → IsItem i → FirstKind lead (first_item i) (spell_item i)
 item_firsts (item.Column n) g = first_kind (token.Word n) [] refl
 item_firsts item.CountAll g = first_kind (word key.Count) _ refl
-item_firsts (item.Count n) g = first_kind (word key.Count) _ refl
-item_firsts (item.Sum n) g = first_kind (word key.Sum) _ refl
-item_firsts (item.Min n) g = first_kind (word key.Min) _ refl
-item_firsts (item.Max n) g = first_kind (word key.Max) _ refl
+item_firsts (item.Aggregate f n) g = first_kind (word (keyword_of f)) _ refl
 
-aggregate_law : (k : Keyword) → Reads (λ n. word k ∷ in_parens (token.Word n ∷ [])) IsName never (aggregate_at k)
-unfolding aggregate_at
-aggregate_law k = after_word_law k (after_law left_mark (before_law right_mark name_law (λ a g. refl)))
+-- what a function goes over
+abbrev spell_operand : Part → List Token
+spell_operand item.CountAll = token.Sign sign.Star ∷ []
+spell_operand (item.Aggregate f n) = token.Word n ∷ []
+spell_operand (item.Column n) = []
 
--- what COUNT counts
-abbrev spell_counted : ItemPart → List Token
-spell_counted item.CountAll = token.Sign sign.Star ∷ []
-spell_counted (item.Count n) = token.Word n ∷ []
-spell_counted i = []
+abbrev IsOperand : Function → Part → Type 0
+IsOperand f item.CountAll = function.Count ≡ f
+IsOperand f (item.Aggregate g n) = (g ≡ f) × IsName n
+IsOperand f (item.Column n) = ⊥
 
-abbrev IsCounted : ItemPart → Type 0
-IsCounted item.CountAll = Unit {0}
-IsCounted (item.Count n) = IsName n
-IsCounted i = ⊥
+abbrev first_operand : Part → Bool
+first_operand item.CountAll = true
+first_operand i = false
 
-abbrev first_counted : ItemPart → Bool
-first_counted item.CountAll = true
-first_counted i = false
+module _ (f : Function) where
+  operand_firsts : (i : Part) → IsOperand f i → FirstKind is_star (first_operand i) (spell_operand i)
+  operand_firsts item.CountAll g = first_kind (token.Sign sign.Star) [] refl
+  operand_firsts (item.Aggregate h n) g = first_kind (token.Word n) [] refl
+  operand_firsts (item.Column n) g = absurd g
 
-counted_firsts : (i : ItemPart) → IsCounted i → FirstKind is_star (first_counted i) (spell_counted i)
-counted_firsts item.CountAll g = first_kind (token.Sign sign.Star) [] refl
-counted_firsts (item.Count n) g = first_kind (token.Word n) [] refl
-counted_firsts i g = absurd g
+  column_operand : (i : Part) → IsOperand f i → first_operand i ≡ false → Makes (item.Aggregate f) IsName i
+  column_operand (item.Aggregate h n) g e = record { of = n; is = ap (λ (k : Function). item.Aggregate k n) (sym g.0); is_good = g.1 }
+  column_operand item.CountAll g e = absurd cc
+  column_operand (item.Column n) g e = absurd g
 
-count_all_back : (i : ItemPart) → IsCounted i → first_counted i ≡ true → Makes (λ (u : Unit {0}). item.CountAll) Any i
-count_all_back item.CountAll g e = record { of = tt; is = refl; is_good = tt }
-count_all_back i g e = absurd cc
+all_rows : (i : Part) → IsOperand function.Count i → first_operand i ≡ true → Makes (λ (u : Unit {0}). item.CountAll) Any i
+all_rows item.CountAll g e = record { of = tt; is = refl; is_good = tt }
+all_rows i g e = absurd cc
 
-count_back : (i : ItemPart) → IsCounted i → first_counted i ≡ false → Makes item.Count IsName i
-count_back (item.Count n) g e = record { of = n; is = refl; is_good = g }
-count_back item.CountAll g e = absurd cc
-count_back i g e = absurd g
+-- a star stands for the rows that COUNT counts alone
+no_star : (f : Function) → (function.Count ≡ f → ⊥) → (i : Part) → IsOperand f i → first_operand i ≡ true → ⊥
+no_star f other item.CountAll g e = other g
+no_star f other (item.Aggregate h n) g e = absurd cc
+no_star f other (item.Column n) g e = absurd cc
 
-counted_choices : (k : Bool) → Choice spell_counted IsCounted never first_counted k (counted_by k)
-counted_choices true =
-    chosen (made_law spell_counted (GoodFirst IsCounted first_counted true) never (λ u. item.CountAll) (mark_law star_mark)
-    (λ u g. record { is_good = tt; is_first = refl }) (λ i g. count_all_back i g.is_good g.is_first) (λ u. refl) (λ u t. refl))
-counted_choices false =
-    chosen (made_law spell_counted (GoodFirst IsCounted first_counted false) never item.Count name_law
-    (λ n g. record { is_good = g; is_first = refl }) (λ i g. count_back i g.is_good g.is_first) (λ n. refl) (λ n t. refl))
+operand_choices : (f : Function) (k : Bool) → Choice spell_operand (IsOperand f) never first_operand k (operand_by f k)
+operand_choices function.Count true =
+    chosen (made_law spell_operand (GoodFirst (IsOperand function.Count) first_operand true) never (λ u. item.CountAll) (mark_law star_mark)
+    (λ u g. record { is_good = refl; is_first = refl }) (λ i g. all_rows i g.is_good g.is_first) (λ u. refl) (λ u t. refl))
+operand_choices f true = none_chosen (λ ts. refl) (no_star f (λ e. absurd cc))
+operand_choices f false =
+    chosen (made_law spell_operand (GoodFirst (IsOperand f) first_operand false) never (item.Aggregate f) name_law
+    (λ n g. record { is_good = (refl, g); is_first = refl }) (λ i g. column_operand f i g.is_good g.is_first) (λ n. refl) (λ n t. refl))
 
-counted_law : Reads spell_counted IsCounted never counted_at
-unfolding counted_at
-counted_law = picked_law spell_counted IsCounted never is_star counted_by first_counted item.CountAll tt counted_firsts counted_choices
+operand_law : (f : Function) → Reads spell_operand (IsOperand f) never (operand_at f)
+unfolding operand_at
+operand_law f =
+    picked_law spell_operand (IsOperand f) never is_star (operand_by f) first_operand (item.Aggregate f (65 ∷ [])) (refl, some_name)
+    (operand_firsts f) (operand_choices f)
 
-counted_item : (i : ItemPart) → IsCounted i → GoodFirst IsItem first_item (keyword key.Count) i
-counted_item item.CountAll g = record { is_good = tt; is_first = refl }
-counted_item (item.Count n) g = record { is_good = g; is_first = refl }
-counted_item i g = absurd g
+module _ (f : Function) where
+  call_forth : (i : Part) → IsOperand f i → GoodFirst IsItem first_item (keyword (keyword_of f)) i
+  call_forth item.CountAll g = record { is_good = tt; is_first = ap (λ (k : Function). keyword (keyword_of k)) g }
+  call_forth (item.Aggregate h n) g = record { is_good = g.1; is_first = ap (λ (k : Function). keyword (keyword_of k)) g.0 }
+  call_forth (item.Column n) g = absurd g
 
-item_counted : (i : ItemPart) → IsItem i → first_item i ≡ (keyword key.Count) → IsCounted i
-item_counted item.CountAll g e = tt
-item_counted (item.Count n) g e = g
-item_counted i g e = absurd cc
+  call_back : (i : Part) → IsItem i → first_item i ≡ keyword (keyword_of f) → IsOperand f i
+  call_back item.CountAll g e = one_keyword function.Count f cc
+  call_back (item.Aggregate h n) g e = (one_keyword h f cc, g)
+  call_back (item.Column n) g e = absurd cc
 
-counted_spells : (i : ItemPart) → IsCounted i → spell_item i ≡ word key.Count ∷ in_parens (spell_counted i)
-counted_spells item.CountAll g = refl
-counted_spells (item.Count n) g = refl
-counted_spells i g = absurd g
+  call_spells : (i : Part) → IsOperand f i → spell_item i ≡ word (keyword_of f) ∷ in_parens (spell_operand i)
+  call_spells item.CountAll g = ap (λ (k : Function). word (keyword_of k) ∷ in_parens (token.Sign sign.Star ∷ [])) g
+  call_spells (item.Aggregate h n) g = ap (λ (k : Function). word (keyword_of k) ∷ in_parens (token.Word n ∷ [])) g.0
+  call_spells (item.Column n) g = absurd g
 
-count_law : Reads spell_item (GoodFirst IsItem first_item (keyword key.Count)) never count_at
-unfolding count_at
-count_law =
-    agreed_law spell_item (GoodFirst IsItem first_item (keyword key.Count)) never
-    (after_word_law key.Count (after_law left_mark (before_law right_mark counted_law (λ a g. refl))))
-    counted_item (λ i g. item_counted i g.is_good g.is_first) counted_spells (λ i g t. refl)
+call_law : (f : Function) → Reads spell_item (GoodFirst IsItem first_item (keyword (keyword_of f))) never (call_at f)
+unfolding call_at
+call_law f =
+    agreed_law spell_item (GoodFirst IsItem first_item (keyword (keyword_of f))) never
+    (after_word_law (keyword_of f) (after_law left_mark (before_law right_mark (operand_law f) (λ a g. refl))))
+    (call_forth f) (λ i g. call_back f i g.is_good g.is_first) (call_spells f) (λ i g t. refl)
 
-column_back : (i : ItemPart) → IsItem i → first_item i ≡ name → Makes item.Column IsName i
+column_back : (i : Part) → IsItem i → first_item i ≡ name → Makes item.Column IsName i
 column_back (item.Column n) g e = record { of = n; is = refl; is_good = g }
 column_back i g e = absurd cc
 
-sum_back : (i : ItemPart) → IsItem i → first_item i ≡ (keyword key.Sum) → Makes item.Sum IsName i
-sum_back (item.Sum n) g e = record { of = n; is = refl; is_good = g }
-sum_back i g e = absurd cc
+-- what begins with a keyword that is no function's is no item
+no_call : (k : Keyword) → function_of k ≡ None → (i : Part) → IsItem i → first_item i ≡ keyword k → ⊥
+no_call k none item.CountAll g e = let same : key.Count ≡ k = cc in let twice : Some function.Count ≡ None = ap function_of same ∙ none in absurd cc
+no_call k none (item.Aggregate f n) g e =
+    let same : keyword_of f ≡ k = cc in let twice : Some f ≡ None = sym (function_of-keyword f) ∙ ap function_of same ∙ none in absurd cc
+no_call k none (item.Column n) g e = absurd cc
 
-min_back : (i : ItemPart) → IsItem i → first_item i ≡ (keyword key.Min) → Makes item.Min IsName i
-min_back (item.Min n) g e = record { of = n; is = refl; is_good = g }
-min_back i g e = absurd cc
+called_choices : (k : Keyword) (o : Option Function) → function_of k ≡ o → Choice spell_item IsItem never first_item (keyword k) (called_by o)
+called_choices k (Some f) is =
+    subst (λ (w : Keyword). Choice spell_item IsItem never first_item (keyword w) (call_at f)) (sym (function_of-only k f is)) (chosen (call_law f))
+called_choices k None is = none_chosen (λ ts. refl) (no_call k is)
 
-max_back : (i : ItemPart) → IsItem i → first_item i ≡ (keyword key.Max) → Makes item.Max IsName i
-max_back (item.Max n) g e = record { of = n; is = refl; is_good = g }
-max_back i g e = absurd cc
-
-abbrev is_item : Lead → Bool
-is_item (keyword key.Count) = true
-is_item (keyword key.Sum) = true
-is_item (keyword key.Min) = true
-is_item (keyword key.Max) = true
-is_item name = true
-is_item l = false
-
-all_items : (i : ItemPart) → IsItem i → is_item (first_item i) ≡ true
-all_items item.CountAll g = refl
-all_items i g = refl
+-- what begins with neither a keyword nor a name is no item
+no_item : (l : Lead) → (l ≡ name → ⊥) → ((k : Keyword) → keyword k ≡ l → ⊥) → (i : Part) → IsItem i → first_item i ≡ l → ⊥
+no_item l other none (item.Column n) g e = other (sym e)
+no_item l other none item.CountAll g e = none key.Count e
+no_item l other none (item.Aggregate f n) g e = none (keyword_of f) e
 
 item_choices : (l : Lead) → Choice spell_item IsItem never first_item l (item_by l)
 item_choices name =
     chosen (made_law spell_item (GoodFirst IsItem first_item name) never item.Column name_law
     (λ n g. record { is_good = g; is_first = refl }) (λ i g. column_back i g.is_good g.is_first) (λ n. refl) (λ n t. refl))
-item_choices (keyword key.Count) = chosen count_law
-item_choices (keyword key.Sum) =
-    chosen (made_law spell_item (GoodFirst IsItem first_item (keyword key.Sum)) never item.Sum (aggregate_law key.Sum)
-    (λ n g. record { is_good = g; is_first = refl }) (λ i g. sum_back i g.is_good g.is_first) (λ n. refl) (λ n t. refl))
-item_choices (keyword key.Min) =
-    chosen (made_law spell_item (GoodFirst IsItem first_item (keyword key.Min)) never item.Min (aggregate_law key.Min)
-    (λ n g. record { is_good = g; is_first = refl }) (λ i g. min_back i g.is_good g.is_first) (λ n. refl) (λ n t. refl))
-item_choices (keyword key.Max) =
-    chosen (made_law spell_item (GoodFirst IsItem first_item (keyword key.Max)) never item.Max (aggregate_law key.Max)
-    (λ n g. record { is_good = g; is_first = refl }) (λ i g. max_back i g.is_good g.is_first) (λ n. refl) (λ n t. refl))
-item_choices l = none_chosen (λ ts. refl) (unknown is_item IsItem first_item all_items l refl)
+item_choices (keyword k) = called_choices k (function_of k) refl
+item_choices l = none_chosen (λ ts. refl) (no_item l (λ e. absurd cc) (λ k e. absurd cc))
 
 item_law : Reads spell_item IsItem never item_at
 unfolding item_at
@@ -265,13 +258,10 @@ abbrev first_list : ListPart → Bool
 first_list list.Star = true
 first_list (list.Items items) = false
 
-item_no_star : (i : ItemPart) (more : List Token) → FirstKind is_star false (spell_item i ++ more)
+item_no_star : (i : Part) (more : List Token) → FirstKind is_star false (spell_item i ++ more)
 item_no_star (item.Column n) more = first_kind (token.Word n) _ refl
 item_no_star item.CountAll more = first_kind (word key.Count) _ refl
-item_no_star (item.Count n) more = first_kind (word key.Count) _ refl
-item_no_star (item.Sum n) more = first_kind (word key.Sum) _ refl
-item_no_star (item.Min n) more = first_kind (word key.Min) _ refl
-item_no_star (item.Max n) more = first_kind (word key.Max) _ refl
+item_no_star (item.Aggregate f n) more = first_kind (word (keyword_of f)) _ refl
 
 list_firsts : (l : ListPart) → IsList l → FirstKind is_star (first_list l) (spell_list l)
 list_firsts list.Star g = first_kind (token.Sign sign.Star) [] refl

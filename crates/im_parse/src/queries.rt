@@ -1,4 +1,4 @@
-ghost use Rattle.std.specs.Prelude.{◌≡◌};
+ghost use Rattle.std.specs.Prelude.{◌≡◌, true};
 ghost use Rattle.im_readers.specs.Reading.{Found};
 ghost use Rattle.im_readers.specs.Answers.{Gives};
 ghost use Rattle.im_parse.specs.inner.Marks as marks;
@@ -8,50 +8,67 @@ use crate::conditions::cond;
 use crate::marks::{begins, is_comma, is_key, left_paren, name, peek, right_paren, star, word};
 use crate::values::Names;
 use im_readers::{Halt, Part, list};
-use im_syntax::{Cond, ItemPart, KeyPart, Keyword, ListPart, Query, Sign, Token, Way};
+use im_syntax::{Cond, Function, ItemPart, KeyPart, Keyword, ListPart, Query, Sign, Token, Way};
 use im_values::limits::MOST_LEVELS;
 use im_values::{List, Name};
 use std::alloc::Global;
 
-/// The column of an aggregate, in parentheses behind its keyword.
-#[tactic(auto, unfolding(crate::specs::inner::Queries::aggregate_at))]
-fn aggregate(alloc: Global, keyword: Keyword, tokens: &[Token]) -> Result<(Name, &[Token]), Halt>
-    ensures { Gives (λ x. Found x.0 x.1.now) result (queries.aggregate_at keyword tokens.now) }
+/// The star that stands for all rows, in the parentheses of COUNT.
+#[tactic(auto, unfolding(crate::specs::inner::Queries::operand_by))]
+fn all_rows(function: Function, tokens: &[Token]) -> Result<(ItemPart, &[Token]), Halt>
+    ensures { Gives (λ x. Found x.0 x.1.now) result (queries.operand_by function true tokens.now) }
 {
-    let rest = word(tokens, keyword)?;
-    let rest = left_paren(rest)?;
-    let (column, rest) = name(alloc, rest)?;
-    let rest = right_paren(rest)?;
-    Ok((column, rest))
-}
-
-/// What stands in the parentheses of COUNT.
-#[tactic(auto, unfolding(crate::specs::inner::Queries::counted_at))]
-fn counted(alloc: Global, tokens: &[Token]) -> Result<(ItemPart, &[Token]), Halt>
-    ensures { Gives (λ x. Found x.0 x.1.now) result (queries.counted_at tokens.now) }
-{
-    match peek(tokens)? {
-        Token::Sign(Sign::Star) => {
+    match function {
+        Function::Count => {
             let rest = star(tokens)?;
             Ok((ItemPart::CountAll, rest))
         }
+        _ => Err(Halt::Left(tokens.len())),
+    }
+}
+
+/// What stands in the parentheses of a function.
+#[tactic(auto, unfolding(crate::specs::inner::Queries::operand_at, crate::specs::inner::Queries::operand_by))]
+fn operand(
+    alloc: Global,
+    function: Function,
+    tokens: &[Token],
+) -> Result<(ItemPart, &[Token]), Halt>
+    ensures { Gives (λ x. Found x.0 x.1.now) result (queries.operand_at function tokens.now) }
+{
+    match peek(tokens)? {
+        Token::Sign(Sign::Star) => all_rows(function, tokens),
         _ => {
             let (column, rest) = name(alloc, tokens)?;
-            Ok((ItemPart::Count(column), rest))
+            Ok((ItemPart::Aggregate(function, column), rest))
         }
     }
 }
 
-/// COUNT of rows or of a column.
-#[tactic(auto, unfolding(crate::specs::inner::Queries::count_at))]
-fn count(alloc: Global, tokens: &[Token]) -> Result<(ItemPart, &[Token]), Halt>
-    ensures { Gives (λ x. Found x.0 x.1.now) result (queries.count_at tokens.now) }
+/// A function of what stands in parentheses behind its keyword.
+#[tactic(auto, unfolding(crate::specs::inner::Queries::call_at))]
+fn call(alloc: Global, function: Function, tokens: &[Token]) -> Result<(ItemPart, &[Token]), Halt>
+    ensures { Gives (λ x. Found x.0 x.1.now) result (queries.call_at function tokens.now) }
 {
-    let rest = word(tokens, Keyword::Count)?;
+    let rest = word(tokens, function.keyword())?;
     let rest = left_paren(rest)?;
-    let (item, rest) = counted(alloc, rest)?;
+    let (item, rest) = operand(alloc, function, rest)?;
     let rest = right_paren(rest)?;
     Ok((item, rest))
+}
+
+/// What begins with a keyword: a function.
+fn called(
+    alloc: Global,
+    function: Option<Function>,
+    tokens: &[Token],
+) -> Result<(ItemPart, &[Token]), Halt>
+    ensures { Gives (λ x. Found x.0 x.1.now) result (queries.called_by function tokens.now) }
+{
+    match function {
+        Some(function) => call(alloc, function, tokens),
+        None => Err(Halt::Left(tokens.len())),
+    }
 }
 
 /// One column of an answer.
@@ -60,19 +77,7 @@ fn item(alloc: Global, tokens: &[Token]) -> Result<(ItemPart, &[Token]), Halt>
     ensures { Gives (λ x. Found x.0 x.1.now) result (queries.item_at tokens.now) }
 {
     match peek(tokens)? {
-        Token::Keyword(Keyword::Count) => count(alloc, tokens),
-        Token::Keyword(Keyword::Sum) => {
-            let (column, rest) = aggregate(alloc, Keyword::Sum, tokens)?;
-            Ok((ItemPart::Sum(column), rest))
-        }
-        Token::Keyword(Keyword::Min) => {
-            let (column, rest) = aggregate(alloc, Keyword::Min, tokens)?;
-            Ok((ItemPart::Min(column), rest))
-        }
-        Token::Keyword(Keyword::Max) => {
-            let (column, rest) = aggregate(alloc, Keyword::Max, tokens)?;
-            Ok((ItemPart::Max(column), rest))
-        }
+        Token::Keyword(keyword) => called(alloc, Function::of(*keyword), tokens),
         Token::Word(_) => {
             let (column, rest) = name(alloc, tokens)?;
             Ok((ItemPart::Column(column), rest))

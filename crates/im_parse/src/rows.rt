@@ -9,14 +9,14 @@ use crate::marks::{equals, is_comma, is_left_paren, left_paren, lit, name, right
 use crate::queries::where_part;
 use crate::values::{Names, tuple};
 use im_readers::{Halt, Part, list};
-use im_syntax::{Keyword, Lit, Stmt, Token};
+use im_syntax::{Keyword, Lit, Stmt, Token, Tuples};
 use im_values::{List, Name};
 use std::alloc::Global;
 
 /// Tuples in a list.
-struct Tuples;
+struct EachTuple;
 
-impl Part<Token> for Tuples {
+impl Part<Token> for EachTuple {
     type Value = List<Lit>;
 
     ghost marks = { marks.is_comma };
@@ -104,12 +104,12 @@ pub fn insert(alloc: Global, tokens: &[Token]) -> Result<(Stmt, &[Token]), Halt>
     let (name, rest) = name(alloc, rest)?;
     let (columns, rest) = insert_columns(alloc, rest)?;
     let rest = word(rest, Keyword::Values)?;
-    let (tuples, rest) = list(alloc, &Tuples, rest)?;
+    let (tuples, rest) = list(alloc, &EachTuple, rest)?;
     Ok((
         Stmt::Insert {
             name,
             columns,
-            tuples: List::of(tuples),
+            tuples: Tuples::listed(tuples),
         },
         rest,
     ))

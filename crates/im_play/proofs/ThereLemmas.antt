@@ -6,7 +6,8 @@ use Rattle.im_history.specs.History.{History}
 use Rattle.im_history.specs.Leaves.{has_left}
 use Rattle.im_history.proofs.LeaveLaws.{has_left-nil}
 use Rattle.im_play.specs.Between.{AreThere}
-use Rattle.im_play.proofs.StayingLaws.{nobody-leaves, nobody-leaves-behind, nobody-leaves-dropped}
+use Rattle.im_play.proofs.StayingLaws.{nobody-leaves-behind, nobody-leaves-dropped}
+use Rattle.im_statements.proofs.LineLaws.{nobody-leaves}
 use Rattle.im_reach.specs.Sides.{Known, StoreSide, sole, speaks}
 use Rattle.im_replies.specs.declared.reply.Reply.{Reply}
 use Rattle.im_session.specs.Sessions.{IsStatementPlayed, Kept, state_of}

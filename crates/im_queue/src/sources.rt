@@ -9,12 +9,12 @@ use crate::demand::Demand;
 use crate::rank::{has_rank, is_wanted};
 use crate::reason::Reason;
 use im_directory::Directory;
-use im_history::{Choice, TableInfo, UnitLike};
+use im_history::{Choice, SharedTable, TableInfo, UnitLike};
 
 /// What the choice of the next build reads.
 #[derive(Drop)]
 pub struct Sources<'a, U: UnitLike> {
-    pub tables: &'a [TableInfo],
+    pub tables: &'a [SharedTable],
     /// How many row numbers of each table were given.
     pub given: &'a [u64],
     pub directory: &'a Directory<U>,
@@ -114,7 +114,7 @@ impl<U: UnitLike> Sources<'_, U> {
         requires within { place < length self.now.tables.now }
         ensures { slice_get self.now.tables.now place ≡ Some result.now }
     {
-        &self.tables[place]
+        self.tables[place].info()
     }
 }
 

@@ -116,11 +116,11 @@ told-kind : (area number : ℕ) (of : LineKind) → has_reply of ≡ true → Sp
     → IsReplyForNobody (or_nothing (unasked_reply of)) (asked area number of)
 told-kind area number kind.Skip has speaks = absurd (false≢true has)
 told-kind area number kind.Race has speaks = absurd (false≢true has)
-told-kind area number (kind.Long bytes) has speaks = refl
-told-kind area number (kind.Bad byte) has speaks = refl
+told-kind area number (kind.Long bytes) has speaks = record { number = number; told = refl }
+told-kind area number (kind.Bad byte) has speaks = record { number = number; told = refl }
 told-kind area number (kind.Session who statement) has speaks = let named : ◌≡◌ {A = Option ℕ} None (Some who) = speaks.0 in absurd cc
 told-kind area number (kind.Background statement) has speaks = let named : ◌≡◌ {A = Option ℕ} None (Some 0) = speaks in absurd cc
-told-kind area number kind.NoMemory has speaks = refl
+told-kind area number kind.NoMemory has speaks = record { number = number; told = refl }
 
 told-nobody : (area : ℕ) (replies : List (List Reply)) (line : Line) (speaker : Option ℕ) → speaker ≡ None → has_reply line.kind ≡ true
     → SpeaksAs speaker line.kind → IsReplyForNobody (reply_by replies speaker line) (demand_of area line)
@@ -133,7 +133,7 @@ told-raced : (background : Bool) (area : ℕ) (replies : List (List Reply)) (lin
     → IsReplyForNobody (reply_by replies (cond background (record line { who = None; kind = kind.Bad line.first }) line).who
     (cond background (record line { who = None; kind = kind.Bad line.first }) line))
     (demand_of area (cond background (record line { who = None; kind = kind.Bad line.first }) line))
-told-raced true area replies line has speaks nobody = refl
+told-raced true area replies line has speaks nobody = record { number = line.number; told = refl }
 told-raced false area replies line has speaks nobody = told-nobody area replies line line.who nobody has speaks
 
 told-cons : (b : Bool) (area : ℕ) (replies : List (List Reply)) (line : Line) (lines : List Line) → has_reply line.kind ≡ b

@@ -11,7 +11,9 @@ use denote.Struct.Field.{row_field, bool-field, u32-field, u64-field}
 use denote.Struct.Tuple.{TupleAt, type_at}
 use Rattle.std.proofs.Crossing.{crosses}
 use Rattle.std.specs.contracts.option.Option as option
-use Rattle.im_syntax.proofs.Crossing.{bound_send, statement_sync}
+use Rattle.im_values.specs.contracts.schema.Column as column
+use Rattle.im_values.specs.contracts.schema.Schema as schema
+use Rattle.im_syntax.proofs.Crossing.{bound_send, name_send, name_sync, statement_sync}
 use Rattle.im_script.specs.contracts.line.Line as line
 use Rattle.im_script.specs.contracts.line.LineKind as kind
 use Rattle.im_group.specs.contracts.partial.Partial as partial
@@ -62,10 +64,19 @@ u64_sync = search (sendable, crosses) depth 60 fits 10000
 own_send : IsSend own.the_row
 own_send = search (sendable, crosses, last_crosses.the_send) depth 60 fits 10000
 
+column_send : IsSend column.the_row
+column_send = search (sendable, crosses, name_send) depth 60 fits 10000
+
+column_sync : IsSync column.the_row
+column_sync = search (sendable, crosses, name_sync) depth 60 fits 10000
+
+schema_send : IsSend schema.the_row
+schema_send = search (sendable, crosses, column_send, column_sync) depth 60 fits 10000
+
 seen_send : IsSend view.the_row
 seen_send =
     declared_send view.the_type
-    (u64_send, (u32_send, (u64_send, (u64_send, (u64_send, (u64_send, (as_row_send own.the_field own_send, tt)))))))
+    (u64_send, (u32_send, (u64_send, (u64_send, (u64_send, (u64_send, (as_row_send schema.the_field schema_send, (as_row_send own.the_field own_send, tt))))))))
 
 cursor_send : IsSend cursor.the_row
 cursor_send =

@@ -9,7 +9,7 @@ use Rattle.im_history.specs.History.{History}
 use Rattle.im_history.specs.Leaves.{has_left}
 use Rattle.im_plan.specs.Goes.{Goes, PlayedLine as Whole, Others}
 use Rattle.im_play.specs.Requests.{asked, demand_of, script_limits}
-use Rattle.im_play.proofs.StayingLaws.{nobody-leaves}
+use Rattle.im_statements.proofs.LineLaws.{nobody-leaves}
 use Rattle.im_race.specs.inner.Doing.{HasEnded, HavePlayed, PlaysAll}
 use Rattle.im_race.specs.inner.Playing.{IsAmong, Went}
 use Rattle.im_race.specs.Jobs.{Answer, HasPlayed, OthersThan, PlaysDemand, Worker}

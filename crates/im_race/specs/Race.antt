@@ -6,7 +6,7 @@ use Rattle.im_history.specs.History.{History}
 use Rattle.im_history.specs.Legal.{IsLawful}
 use Rattle.im_plan.specs.Goes.{After}
 use Rattle.im_play.specs.Machine.{Comes, Machine, idle, state_in, without_builds}
-use Rattle.im_play.specs.Requests.{LineDemand, Nothing, Told, Asks, Orders, demand_of, demands_of, script_limits}
+use Rattle.im_play.specs.Requests.{LineDemand, Told, demand_of, demands_of, script_limits}
 use Rattle.im_race.specs.Jobs.{Answer, HasPlayed, Worker}
 use Rattle.im_race.specs.Lines.{has_job, names, prelude_of, raced, sessions_in}
 use Rattle.im_race.specs.Report.{Report}
@@ -30,11 +30,9 @@ abbrev pub takes_part : List Line → ℕ → ℕ → Bool
 takes_part lines workers who = has_job lines who || (nat_le FIRST_WORKER who && nat_lt who (FIRST_WORKER + workers))
 
 -- a line that belongs to no session has the one reply that it is told
-abbrev pub IsReplyForNobody : Reply → LineDemand → Type 0
-IsReplyForNobody reply Nothing = ⊥
-IsReplyForNobody reply (Told number told) = reply ≡ told
-IsReplyForNobody reply (Asks request) = ⊥
-IsReplyForNobody reply (Orders command) = ⊥
+pub record IsReplyForNobody (reply : Reply) (demand : LineDemand) : Type 0 where
+  pub number : ℕ
+  pub told : demand ≡ Told number reply
 
 -- the workers from this number on did their jobs and ended so, from the history `old` to the history `new`
 abbrev pub AreWorkers : Limits → ℕ → ℕ → ℕ → List Ended → History → History → Type 0

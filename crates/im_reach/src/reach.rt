@@ -11,14 +11,14 @@ ghost use Rattle.im_history.specs.Tables.{tables, given};
 ghost use Rattle.im_history.specs.Transactions.{is_open};
 ghost use Rattle.im_history.specs.Views.{look_at, view_at};
 ghost use Rattle.im_core.specs.Answers.{IsRefusal, content_in, cursor_view, evict_refusal, task_fetched, task_rows};
-ghost use Rattle.im_history.specs.Serving.{fetched_in, serving_content};
-ghost use Rattle.im_history.specs.Units.{IsOwn, task_content, unit_content};
+ghost use Rattle.im_history.specs.Serving.{fetched_in, read_in, serving_content};
+ghost use Rattle.im_history.specs.Units.{IsOwn, opening_at, task_content, unit_content};
 ghost use Rattle.im_reach.specs.Sides.{Added, Found, IsSwitched, Known, Missed, Offered, sole, speaks};
 
 use im_core::{Begun, Committed, Evicted, Made, Offer, Pin, Switched, Wrote};
-use im_history::{Change, Look, Mode, Priority, Refused, Shape, Task, UnitLike, View};
+use im_history::{Change, Look, Mode, Opening, Priority, Refused, Shape, Task, UnitLike, View};
 use im_values::limits::{MOST_ROWS, NUMBERS};
-use im_values::{Name, Row, Schema, Steps};
+use im_values::{Name, Rows, Schema, Steps};
 use std::sync::ledger::Ledger;
 use std::sync::{Arc, Wait};
 
@@ -93,19 +93,20 @@ pub trait Reach<U: UnitLike> {
         ensures lawful { IsLawful (known self.new).limits (known self.new).log };
 
     /// Opens a cursor on a table: what it sees is fixed here. It is refused where this cursor is open, and then where
-    /// [`MOST_CURSORS`](im_values::limits::MOST_CURSORS) are open beside cursor 0.
+    /// [`MOST_CURSORS`](im_values::limits::MOST_CURSORS) are open beside its statements' own.
     fn open_cursor<R: Wait>(
         &mut self,
         rt: &R,
         who: u32,
         cursor: u32,
-        table: u32,
+        opening: Opening,
     ) -> Result<View, Refused>
         requires session { who < NUMBERS }
         requires speaks { speaks (known self.old).side who ≡ true }
-        requires exists { Exists (known self.old).log table }
-        ensures ok { IfOk result (λ view. Added (known self.old) (known self.new) who (λ at. what.Open cursor table) (λ at.
-            (open_refusal at who cursor ≡ None) × (view ≡ view_at at who table))) }
+        requires exists { Exists (known self.old).log opening.table }
+        requires seen { opening ≡ opening_at (known self.old).log opening.table }
+        ensures ok { IfOk result (λ view. Added (known self.old) (known self.new) who (λ at. what.Open cursor opening.table) (λ at.
+            (open_refusal at who cursor ≡ None) × (view ≡ view_at at who opening.table))) }
         ensures few { IfOk result (λ view. view.rows ≤ MOST_ROWS) }
         ensures some { IfOk result (λ view. 1 ≤ view.per) }
         ensures err { IfErr result (λ why. Found (known self.old) (known self.new) (λ at.
@@ -132,10 +133,10 @@ pub trait Reach<U: UnitLike> {
             (pin.place ≡ length at)
             × (content_in U.content pin.unit ≡ serving_content at (cursor_view at who cursor) extent)
             × (pin.fetched ≡ fetched_in at (cursor_view at who cursor) extent)
-            × (steps.new ≤ steps.old + length (fetched_in at (cursor_view at who cursor) extent)))) }
+            × (steps.new ≤ steps.old + length (read_in at (cursor_view at who cursor) extent)))) }
         ensures err { IfErr result (λ why. Found (known self.old) (known self.new) (λ at.
             IsRefusal at None why
-            × (steps.new ≤ steps.old + length (fetched_in at (cursor_view at who cursor) extent)))) }
+            × (steps.new ≤ steps.old + length (read_in at (cursor_view at who cursor) extent)))) }
         ensures lawful { IsLawful (known self.new).limits (known self.new).log };
 
     /// Shuts a cursor, and answers the place of the entry. It takes no memory.
@@ -152,18 +153,19 @@ pub trait Reach<U: UnitLike> {
         &mut self,
         rt: &R,
         who: u32,
-        table: u32,
-        rows: Vec<Row>,
+        opening: Opening,
+        rows: Rows,
     ) -> Result<Wrote, Refused>
         requires session { who < NUMBERS }
         requires speaks { speaks (known self.old).side who ≡ true }
-        requires may { MayInsert (known self.old).log table rows.items }
+        requires seen { opening ≡ opening_at (known self.old).log opening.table }
+        requires may { MayInsert (known self.old).log opening.table rows }
         ensures ok { IfOk result (λ wrote. Added (known self.old) (known self.new) who
-            (λ at. what.Write (put_from table (given at table) rows.items)) (λ at.
-            (insert_refusal (known self.old).limits at who (put_from table (given at table) rows.items) ≡ None)
-            × (wrote ≡ record { place = length at; first = given at table }))) }
+            (λ at. what.Write (put_from opening.table (given at opening.table) rows)) (λ at.
+            (insert_refusal (known self.old).limits at who (put_from opening.table (given at opening.table) rows) ≡ None)
+            × (wrote ≡ record { place = length at; first = given at opening.table }))) }
         ensures err { IfErr result (λ why. Found (known self.old) (known self.new) (λ at.
-            IsRefusal at (insert_refusal (known self.old).limits at who (put_from table (given at table) rows.items)) why)) }
+            IsRefusal at (insert_refusal (known self.old).limits at who (put_from opening.table (given at opening.table) rows)) why)) }
         ensures lawful { IsLawful (known self.new).limits (known self.new).log };
 
     /// Writes changes to rows that an open cursor saw, and answers the place of the entry. It is refused where the

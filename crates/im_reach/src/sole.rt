@@ -5,9 +5,9 @@ ghost use Rattle.im_reach.specs.Sides.{IsSwitched, missed, sole};
 
 use crate::reach::Reach;
 use im_core::{Begun, Committed, Core, Evicted, Made, Offer, Pin, Switched, Wrote};
-use im_history::{Change, Look, Mode, Priority, Refused, Shape, Task, UnitLike, View};
+use im_history::{Change, Look, Mode, Opening, Priority, Refused, Shape, Task, UnitLike, View};
 use im_values::limits::NUMBERS;
-use im_values::{Name, Row, Schema, Steps};
+use im_values::{Name, Rows, Schema, Steps};
 use std::sync::ledger::Ledger;
 use std::sync::{Arc, Wait};
 
@@ -67,9 +67,9 @@ impl<U: UnitLike> Reach<U> for Sole<U> {
         _rt: &R,
         who: u32,
         cursor: u32,
-        table: u32,
+        opening: Opening,
     ) -> Result<View, Refused> {
-        let answer = self.core.open_cursor(who, cursor, table);
+        let answer = self.core.open_cursor(who, cursor, opening);
         self.core.known();
         answer
     }
@@ -97,10 +97,10 @@ impl<U: UnitLike> Reach<U> for Sole<U> {
         &mut self,
         _rt: &R,
         who: u32,
-        table: u32,
-        rows: Vec<Row>,
+        opening: Opening,
+        rows: Rows,
     ) -> Result<Wrote, Refused> {
-        let answer = self.core.insert(who, table, rows);
+        let answer = self.core.insert(who, opening, rows);
         self.core.known();
         answer
     }

@@ -32,12 +32,4 @@ impl Records {
     {
         self.records.as_slice()
     }
-
-    /// The records, handed out. It takes no memory.
-    pub fn into_records(self) -> Vec<Vec<Cell>>
-        ensures { map (λ cells. cells.items) result.items ≡ self }
-    {
-        let Records { records } = self;
-        records
-    }
 }

@@ -16,19 +16,14 @@ use Rattle.im_history.specs.Rows.{Row, rows, row_after, seen, present}
 use Rattle.im_history.specs.Units.{Content, content_at, rows_of_extent, stale, unit as current}
 use Rattle.im_history.specs.Views.{per_at, seen_by}
 use Rattle.im_history.proofs.RowLaws.{rows-append}
-use Rattle.im_history.specs.Serving.{not_newer, serving, serving_content, rows_in, committed_in, fetched_by}
+use Rattle.im_history.specs.Serving.{not_newer, serving, serving_content, rows_in, fetched_by, fetched_in, shown_all}
 use Rattle.im_group.specs.Partials.{Numbered, Parts, partial, merged, CanMerge}
 use Rattle.im_group.proofs.ForCallers.{merged-partial, CanMerge-partial}
 use Rattle.im_scan.specs.Parts.{MayAsk}
 use Rattle.im_scan.specs.Pinned.{Serves, IsPinned, seen_in, seen_to, seen_all}
-use Rattle.im_scan.proofs.PinLemmas.{present-same}
+use Rattle.im_scan.proofs.PinLemmas.{pinned-read, present-same}
 
 -- ---- what was pinned
-
--- an extent without a unit, all of which was fetched
-pub pinned-blocks : (h : History) (view : View) (extent : ℕ) (fetched : List (ℕ × Option Row)) → view.per ≡ per_at h view.table
-    → fetched ≡ committed_in h view extent → IsPinned h view extent None fetched
-pinned-blocks h view extent fetched per is = record { per = per; serves = λ content some. absurd cc; is = is }
 
 not_newer-old : (scn : ℕ) (current : Option ℕ) (n : ℕ) → not_newer scn current ≡ Some n → n ≤ scn
 not_newer-old scn None n is = absurd cc
@@ -40,7 +35,7 @@ not_newer-old scn (Some unit_scn) n is = by (nat_le unit_scn scn) refl is
 
 pinned-at : (h : History) (view : View) (extent : ℕ) (current : Option ℕ) → view.per ≡ per_at h view.table
     → ((n : ℕ) → current ≡ Some n → n ≤ view.scn)
-    → IsPinned h view extent (option_map (content_at h view.table extent) current) (fetched_by h view extent current)
+    → IsPinned h view extent (option_map (content_at h view.table extent) current) (shown_all view (fetched_by h view extent current))
 pinned-at h view extent None per old = record { per = per; serves = λ content some. absurd cc; is = refl }
 pinned-at h view extent (Some n) per old = record { per = per; serves = served; is = refl }
   where
@@ -53,7 +48,7 @@ pinned-at h view extent (Some n) per old = record { per = per; serves = served; 
 -- an extent that was pinned: the unit that serves the view was lent, and what is to be fetched beside it was fetched
 pub pinned-serving : (h : History) (view : View) (extent : ℕ) (unit : Option Content) (fetched : List (ℕ × Option Row))
     → view.per ≡ per_at h view.table → unit ≡ serving_content h view extent
-    → fetched ≡ fetched_by h view extent (serving h view extent) → IsPinned h view extent unit fetched
+    → fetched ≡ fetched_in h view extent → IsPinned h view extent unit fetched
 pinned-serving h view extent unit fetched per lent is =
     rw (lent, is) (pinned-at h view extent (serving h view extent) per
     (not_newer-old view.scn (current h view.table extent)))
@@ -87,10 +82,12 @@ pub fetched-may : (bound : Bound) (h : History) (view : View) (extent : ℕ) (un
     (fetched : List (ℕ × Option Row))
     → IsPinned h view extent unit fetched → MayAskOf bound h view.table → AllByRecursion (λ row. MayAsk bound row.1) fetched
 fetched-may bound h view extent None fetched pinned may =
-    rw pinned.is (each-fetched bound (rows h view.table view.scn) (range_with_len (extent * view.per) (rows_in view extent))
+    rw (pinned-read h view extent None fetched pinned)
+    (each-fetched bound (rows h view.table view.scn) (range_with_len (extent * view.per) (rows_in view extent))
     (may.each view.scn))
 fetched-may bound h view extent (Some content) fetched pinned may =
-    rw pinned.is (each-fetched bound (rows h view.table view.scn) (stale h view.table extent content.scn view.scn)
+    rw (pinned-read h view extent (Some content) fetched pinned)
+    (each-fetched bound (rows h view.table view.scn) (stale h view.table extent content.scn view.scn)
     (may.each view.scn))
 
 -- ---- later histories

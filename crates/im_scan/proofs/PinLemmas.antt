@@ -12,6 +12,7 @@ use Rattle.im_history.specs.Rows.{Row, rows, row_after, seen, present}
 use Rattle.im_history.specs.Units.{Content, content_at, rows_of_extent, stale, touched_between}
 use Rattle.im_history.specs.Views.{per_at, seen_by}
 use Rattle.im_history.proofs.StaleLaws.{rows-mended}
+use Rattle.im_history.proofs.ViewLaws.{shown_all-same}
 use Rattle.im_history.specs.Serving.{rows_in, committed_in, fetched_by}
 use Rattle.im_unit.specs.Holding.{row_of}
 use Rattle.im_scan.specs.Parts.{row_in_unit, fetched_after, taken_row, taken_rows}
@@ -102,14 +103,19 @@ within-per : (view : View) (extent per rid : ℕ) → view.per ≡ per → exten
     → rid < extent * view.per + rows_in view extent → (extent * per ≤ rid) × (rid < extent * per + per)
 within-per view extent per rid is from below = rw (← is) (from, omega (arith, below))
 
+-- what was fetched is what was read of the versions
+pub pinned-read : (h : History) (view : View) (extent : ℕ) (unit : Option Content) (fetched : List (ℕ × Option Row))
+    → IsPinned h view extent unit fetched → fetched ≡ fetched_by h view extent (option_map (λ content. content.scn) unit)
+pinned-read h view extent unit fetched pinned = pinned.is ∙ shown_all-same view (fetched_by h view extent (option_map (λ content. content.scn) unit))
+
 committed-row : (h : History) (view : View) (extent rid : ℕ) (unit : Option Content) (fetched : List (ℕ × Option Row))
     → IsPinned h view extent unit fetched → extent * view.per ≤ rid → rid < extent * view.per + rows_in view extent
     → fold (fetched_after rid) (row_in_unit unit rid) fetched ≡ rows h view.table view.scn rid
 committed-row h view extent rid None fetched pinned from below =
-    ap (fold (fetched_after rid) None) pinned.is ∙ fetched-committed h view extent rid from below
+    ap (fold (fetched_after rid) None) (pinned-read h view extent None fetched pinned) ∙ fetched-committed h view extent rid from below
 committed-row h view extent rid (Some content) fetched pinned from below =
     let inside = within-per view extent (per_at h view.table) rid pinned.per from below in
-    ap (fold (fetched_after rid) (row_of content rid)) pinned.is
+    ap (fold (fetched_after rid) (row_of content rid)) (pinned-read h view extent (Some content) fetched pinned)
     ∙ served-row h view extent rid content (pinned.serves content refl) inside.0 inside.1
 
 -- ---- the row that the view sees

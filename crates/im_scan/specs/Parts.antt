@@ -7,6 +7,7 @@ use Rattle.im_history.specs.declared.view.View.{View}
 use Rattle.im_history.specs.Rows.{Row, row_after, present}
 use Rattle.im_history.specs.Units.{Content}
 use Rattle.im_history.specs.Serving.{rows_in}
+use Rattle.im_history.specs.Views.{shown}
 use Rattle.im_group.specs.Partials.{Numbered, Parts, partial}
 use Rattle.im_unit.specs.Holding.{row_of}
 
@@ -20,10 +21,10 @@ abbrev pub fetched_after : ℕ → Option Row → ℕ × Option Row → Option R
 fetched_after rid row fetched = if fetched.0 == rid then fetched.1 else row
 
 -- the row that a scan takes at a row number: what was fetched of it, else what the unit has, and then changed by the view's
--- own changes, in order
+-- own changes, in order; as the view shows it
 abbrev pub taken_row : Option Content → List (ℕ × Option Row) → View → ℕ → Option Row
 taken_row unit fetched view rid =
-    fold (row_after view.table rid) (fold (fetched_after rid) (row_in_unit unit rid) fetched) view.own
+    shown view (fold (row_after view.table rid) (fold (fetched_after rid) (row_in_unit unit rid) fetched) view.own)
 
 -- the rows that a scan takes of an extent: those at the row numbers of the extent that the view has
 abbrev pub taken_rows : Option Content → List (ℕ × Option Row) → View → ℕ → List Numbered
@@ -36,3 +37,7 @@ part_of unit fetched view extent bound = partial bound (taken_rows unit fetched 
 -- a query may be asked of a row, where there is one
 abbrev pub MayAsk : Bound → Option Row → Type 0
 MayAsk bound row = ForSome row (λ values. BoundFits values bound)
+
+-- the same of a row as a view shows it
+abbrev pub MayAskShown : Bound → View → Option Row → Type 0
+MayAskShown bound view row = MayAsk bound (shown view row)

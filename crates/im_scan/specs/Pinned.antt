@@ -6,7 +6,7 @@ use Rattle.im_history.specs.History.{History}
 use Rattle.im_history.specs.Rows.{Row, present}
 use Rattle.im_history.specs.Units.{Content, content_at}
 use Rattle.im_history.specs.Views.{per_at, seen_by}
-use Rattle.im_history.specs.Serving.{fetched_by, rows_in}
+use Rattle.im_history.specs.Serving.{fetched_by, rows_in, shown_all}
 use Rattle.im_group.specs.Partials.{Numbered}
 
 -- a unit serves a view: it holds the rows of the extent at its SCN, and that is not later than the view's
@@ -14,9 +14,9 @@ pub record Serves (history : History) (view : View) (extent : ℕ) (content : Co
   pub holds : content ≡ content_at history view.table extent content.scn
   pub old : content.scn ≤ view.scn
 
--- what is fetched from the versions: the stale rows beside a unit, and else all rows of the extent
+-- what is fetched from the versions: the stale rows beside a unit, and else all rows of the extent, as the view shows them
 abbrev pub fetched_in : History → View → ℕ → Option Content → List (ℕ × Option Row)
-fetched_in history view extent unit = fetched_by history view extent (option_map (λ content. content.scn) unit)
+fetched_in history view extent unit = shown_all view (fetched_by history view extent (option_map (λ content. content.scn) unit))
 
 -- an extent was pinned for a view at this history: a unit was lent that serves the view, or none, and this was fetched
 pub record IsPinned (history : History) (view : View) (extent : ℕ) (unit : Option Content) (fetched : List (ℕ × Option Row))

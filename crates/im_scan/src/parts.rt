@@ -8,7 +8,7 @@ ghost use Rattle.im_history.specs.Units.{Content};
 ghost use Rattle.im_syntax.specs.BoundFits.{BoundFits};
 ghost use Rattle.im_group.specs.Partials as group;
 ghost use Rattle.im_scan.specs.Faces.{Shows, unit_of};
-ghost use Rattle.im_scan.specs.Parts.{MayAsk, part_of, taken_row};
+ghost use Rattle.im_scan.specs.Parts.{MayAsk, MayAskShown, part_of, taken_row};
 ghost use Rattle.im_scan.specs.Pinned.{IsPinned, seen_in};
 ghost use Rattle.im_scan.specs.inner.Steps.{AreRowsOf, lent, numbered, numbered_from};
 
@@ -85,9 +85,9 @@ pub fn part(
 ) -> Result<Partial, NoMemory>
     requires cut { view.now.extents ≡ extents_for view.now.rows view.now.per }
     requires within { extent < view.now.extents }
-    requires unit_fits { ForSome (unit_of face) (λ content. AllByRecursion (MayAsk bound.now) content.rows) }
+    requires unit_fits { ForSome (unit_of face) (λ content. AllByRecursion (MayAskShown bound.now view.now) content.rows) }
     requires fetched_fits { AllByRecursion (λ row. MayAsk bound.now row.1) fetched.now }
-    requires own_fits { AllByRecursion (λ change. MayAsk bound.now change.row) view.now.own }
+    requires own_fits { AllByRecursion (λ change. MayAskShown bound.now view.now change.row) view.now.own }
     ensures taken { IfOk result (λ partial.
         partial ≡ part_of (unit_of face.entry) fetched.now view.now extent bound.now) }
     ensures seen { IfOk result (λ partial. (history : History) (unit : Option Content) →

@@ -1,6 +1,8 @@
 ghost use Rattle.std.specs.Prelude.{◌≡◌, ◌+◌, ◌≤◌, ◌<◌, ◌^◌, ℕ, List, length, drop};
+ghost use Rattle.im_syntax.specs.declared.statement.Side.TheVariants as side;
 ghost use Rattle.im_syntax.specs.declared.token.Token.{Token as AnyToken};
 ghost use Rattle.im_lex.specs.Lexing.{Lexes};
+ghost use Rattle.im_script.specs.declared.line.LineKind.TheVariants as kind;
 ghost use Rattle.im_script.specs.Forms as forms;
 ghost use Rattle.im_script.specs.Lines as lines_are;
 ghost use Rattle.im_script.specs.inner.Statements as statements;
@@ -8,7 +10,7 @@ ghost use Rattle.im_script.specs.inner.Statements as statements;
 use crate::form::Form;
 use crate::forms::{first, form, who};
 use crate::line::{Line, LineKind};
-use im_lex::{LexFault, behind, lex, place_of};
+use im_lex::{LexFault, behind, insert, lex, place_of};
 use im_parse::{ParseFault, parse_for};
 use im_syntax::{Side, Stmt};
 use std::alloc::Global;
@@ -37,7 +39,7 @@ fn kind_of(side: Side, number: u32, stmt: Stmt) -> LineKind
     }
 }
 
-/// What the statement part behind so many bytes of a line says.
+/// What the statement part behind so many bytes of a line says, by its tokens.
 fn statement(alloc: Global, side: Side, number: u32, before: usize, line: &[u8]) -> LineKind
     requires within { before ≤ length line.now }
     requires short { length line.now < 2 ^ 32 }
@@ -54,6 +56,19 @@ fn statement(alloc: Global, side: Side, number: u32, before: usize, line: &[u8])
     }
 }
 
+/// What the statement part of a session's line says. Most are an INSERT, which is read straight from its bytes where it can be.
+fn session_statement(alloc: Global, number: u32, before: usize, line: &[u8]) -> LineKind
+    requires within { before ≤ length line.now }
+    requires short { length line.now < 2 ^ 32 }
+    ensures { lines_are.Says side.Session before line.now (kind.Session number) result }
+{
+    match insert(alloc, behind(line, before)) {
+        Ok(Some(stmt)) => LineKind::Session(number, stmt),
+        Ok(None) => statement(alloc, Side::Session, number, before, line),
+        Err(_) => LineKind::NoMemory,
+    }
+}
+
 fn kind_of_form(alloc: Global, form: Form, line: &[u8]) -> LineKind
     requires { form ≡ forms.form_of line.now }
     ensures { lines_are.HasKind form line.now result }
@@ -63,7 +78,7 @@ fn kind_of_form(alloc: Global, form: Form, line: &[u8]) -> LineKind
         Form::Skip => LineKind::Skip,
         Form::Race => LineKind::Race,
         Form::Bare => LineKind::Bad(first(line)),
-        Form::Session(number, before) => statement(alloc, Side::Session, number, before, line),
+        Form::Session(number, before) => session_statement(alloc, number, before, line),
         Form::Background(before) => statement(alloc, Side::Background, 0, before, line),
     }
 }

@@ -6,7 +6,7 @@ use Rattle.im_group.specs.Partials.{CanMerge, Parts, merged, partial}
 use Rattle.im_history.specs.declared.entry.What.TheVariants.{Open}
 use Rattle.im_history.specs.declared.view.View.{View}
 use Rattle.im_history.specs.Commits.{scn}
-use Rattle.im_history.specs.Cursors.{is_cursor_open}
+use Rattle.im_history.specs.Cursors.{has_own_open}
 use Rattle.im_history.specs.History.{History}
 use Rattle.im_history.specs.Legal.{IsLawful}
 use Rattle.im_names.specs.Fitting.{OfTable, QueryServes}
@@ -23,7 +23,7 @@ use Rattle.im_session.specs.inner.Rests.{IsRest}
 use Rattle.im_session.proofs.RestLemmas.{rest-end, rest-lacks, rest-look}
 use Rattle.im_session.specs.inner.Scans.{IsScan, Longer, Went}
 use Rattle.im_session.proofs.OpeningLemmas.{HasOpened, added-asks, added-scan, present-same}
-use Rattle.im_session.proofs.ScanLemmas.{asks-longer, found-went, longer-went, scan-went, view-longer}
+use Rattle.im_session.proofs.ScanLemmas.{found-went, longer-went, scan-went, view-longer}
 use Rattle.im_session.proofs.TableLemmas.{exists-of}
 use Rattle.im_replies.specs.declared.reply.Reply.{Reply}
 use Rattle.im_replies.specs.declared.served.Served.{Served}
@@ -67,7 +67,7 @@ seen_to-longer old new view extents known longer =
 pub sound-longer : (kept : Cursor) (old new : Known) → Longer old new → IsSound kept old → IsSound kept new
 sound-longer kept old new longer sound = record {
   sees = view-longer kept.view old new longer sound.sees;
-  asks = asks-longer kept.bound kept.view old new longer sound.asks;
+  asks = sound.asks;
   query = sound.query;
   next = sound.next;
   part = sound.part ∙ ap (partial kept.bound) (sym (seen_to-longer old new kept.view kept.next sound.sees.known longer));
@@ -117,7 +117,7 @@ less n m within = grind (arith, nat_tests)
 
 -- one was served, or memory ran out
 pub step-serves : (who : ℕ) (served : Bool) (kept : Cursor) (mark : Served) (old new : Known) (reply : Reply)
-    → speaks old.side who ≡ true → is_cursor_open old.log who 0 ≡ false → Went old new → kept.next < kept.view.extents
+    → speaks old.side who ≡ true → has_own_open old.log who ≡ false → Went old new → kept.next < kept.view.extents
     → mark ≡ mark_at new.log kept.view kept.bound.filter kept.next → reply ≡ served_reply_of served mark
     → IsRest who 0 old (step_query old.log (query_of kept)) (step_outcome kept.number reply served) new
 step-serves who true kept mark old new reply mine shut went more mark_is reply_is =

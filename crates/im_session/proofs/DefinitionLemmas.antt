@@ -10,7 +10,7 @@ use Rattle.im_history.specs.declared.entry.What.TheVariants as what
 use Rattle.im_history.specs.declared.look.TableInfo.{TableInfo}
 use Rattle.im_history.specs.declared.refused.Refused.{Refused}
 use Rattle.im_history.specs.Commits.{scn}
-use Rattle.im_history.specs.Cursors.{is_cursor, is_cursor_open}
+use Rattle.im_history.specs.Cursors.{Opened, has_own_open, is_own}
 use Rattle.im_history.specs.Grid.{Grid}
 use Rattle.im_history.specs.History.{History}
 use Rattle.im_history.specs.Legal.{MaySetMemory}
@@ -32,7 +32,7 @@ use Rattle.im_statements.specs.Turns.{decide_by, refused_reply}
 
 -- the creation was refused, whether or not it was to join the column store
 pub create-refused : (who k : ℕ) (old new : Known) (name : List ℕ) (schema : List Column) (grid : Grid) (memory : Option Priority)
-    (told : Refused) → speaks old.side who ≡ true → is_cursor_open old.log who 0 ≡ false
+    (told : Refused) → speaks old.side who ≡ true → has_own_open old.log who ≡ false
     → Found old new (λ at. IsRefusal at (create_refusal at name) told)
     → IsRest who k old (create_table name schema grid memory) (said (refused_reply (fault_of (aim.Creating name)) k told.place told.why)) new
 create-refused who k old new name schema grid None told mine shut found =
@@ -71,9 +71,9 @@ module _ (who k : ℕ) (old middle : Known) (name : List ℕ) (schema : List Col
     log-is : middle.log ≡ at ++ record { who = who; what = what.Create name schema grid } ∷ []
     log-is = ap (λ (s : Known). s.log) added.now
 
-    pub created-shut : is_cursor_open old.log who 0 ≡ false → is_cursor_open middle.log who 0 ≡ false
+    pub created-shut : has_own_open old.log who ≡ false → has_own_open middle.log who ≡ false
     created-shut shut =
-        ap (list_any (is_cursor 0)) (opened-added who old middle (what.Create name schema grid) IsMade mine added) ∙ shut
+        ap (list_any (λ (other : Opened). is_own other.cursor)) (opened-added who old middle (what.Create name schema grid) IsMade mine added) ∙ shut
 
     slice-last : (ts : List TableInfo) (table : TableInfo) → slice_get (ts ++ table ∷ []) (length ts) ≡ Some table
     slice-last [] table = refl

@@ -6,7 +6,7 @@ use Rattle.std.proofs.lemmas.Bool.Decides.{nat_tests}
 use Rattle.std.proofs.lemmas.List.Elements.{All-head, All-tail}
 use Rattle.im_history.specs.declared.entry.What.{What}
 use Rattle.im_history.specs.declared.entry.What.TheVariants.{Leave, Rollback, Shut}
-use Rattle.im_history.specs.Cursors.{Opened, is_cursor, is_cursor_open, opened}
+use Rattle.im_history.specs.Cursors.{Opened, is_cursor, is_cursor_open, is_own, opened}
 use Rattle.im_history.specs.History.{History}
 use Rattle.im_history.specs.Leaves.{has_left}
 use Rattle.im_history.specs.Legal.{MayLeave}
@@ -284,7 +284,7 @@ record IsIdle (who : ℕ) (now : Known) : Type 0 where
 agrees-idle : (who : ℕ) (now : Known) → IsIdle who now → Agrees (record { who = who; cursors = []; in_transaction = false }) now
 agrees-idle who now idle = record {
   cursors = record {
-    closed = ap (list_any (is_cursor 0)) idle.cursors;
+    closed = ap (list_any (λ (other : Opened). is_own other.cursor)) idle.cursors;
     queries = subst (λ (os : List Opened). AreQueriesOf [] os) (sym idle.cursors) tt;
   };
   sound = tt;

@@ -5,7 +5,7 @@ use Rattle.std.proofs.lemmas.Bool.Decides.{nat_tests}
 use Rattle.std.proofs.lemmas.List.Elements.{All-append, All-cons, All-head, All-nil, All-weaker}
 use Rattle.im_history.specs.declared.entry.Entry.{Entry}
 use Rattle.im_history.specs.declared.entry.What.{What}
-use Rattle.im_history.specs.Cursors.{Opened, is_cursor, opened}
+use Rattle.im_history.specs.Cursors.{Opened, is_own, opened}
 use Rattle.im_history.specs.History.{History}
 use Rattle.im_plan.specs.Goes.{After, Goes, Lacks, PlayedLine, Nobody, Others}
 use Rattle.im_plan.specs.Plan.{End, Plan, Turn, counted, made}
@@ -136,7 +136,7 @@ played-alone s before after old new reply alone played =
 pub agrees-own : (who : ℕ) (other : Kept) (old new : Known) → IsOwn who old.log new.log → (who == other.who) ≡ false → Agrees other old → Agrees other new
 agrees-own who other old new own apart agrees = record {
   cursors = record {
-    closed = ap (list_any (is_cursor 0)) same ∙ agrees.cursors.closed;
+    closed = ap (list_any (λ (other : Opened). is_own other.cursor)) same ∙ agrees.cursors.closed;
     queries = subst (λ (cursors : List Opened). AreQueriesOf (state_of other.cursors).queries cursors) (sym same) agrees.cursors.queries;
   };
   sound =

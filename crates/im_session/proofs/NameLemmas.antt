@@ -6,7 +6,7 @@ use Rattle.im_history.specs.declared.entry.What.TheVariants as what
 use Rattle.im_history.specs.declared.limits.Limits.{Limits}
 use Rattle.im_history.specs.declared.look.Look.{Look}
 use Rattle.im_history.specs.declared.look.TableInfo.{TableInfo}
-use Rattle.im_history.specs.Cursors.{is_cursor, is_cursor_open}
+use Rattle.im_history.specs.Cursors.{Opened, has_own_open, is_own}
 use Rattle.im_history.specs.History.{History}
 use Rattle.im_history.specs.Transactions.{is_open}
 use Rattle.im_history.specs.Views.{look_at}
@@ -23,7 +23,7 @@ use Rattle.im_replies.specs.declared.reply.Reply.{Reply}
 use Rattle.im_replies.specs.Causes.{name_fault}
 use Rattle.im_session.specs.inner.Names.{defines, reading_in}
 use Rattle.im_session.specs.inner.Rests.{IsRest}
-use Rattle.im_session.specs.Reads.{Nothing, Own, Reading, reading_of}
+use Rattle.im_session.specs.Reads.{reading_of}
 use Rattle.im_session.proofs.OtherLemmas.{begun-added, opened-added}
 use Rattle.im_session.proofs.RestLemmas.{rest-adds, rest-end, rest-lacks_here, rest-look}
 use Rattle.im_statements.proofs.AnswerLaws.{formed-each, of_table-each, unless-each}
@@ -33,54 +33,43 @@ use Rattle.im_statements.specs.Turns.{memory_reply, settled_reply}
 use Rattle.im_syntax.specs.declared.statement.Stmt.{Stmt}
 use Rattle.im_syntax.specs.declared.statement.Stmt.TheVariants as stmt
 
--- ---- definitions
+-- ---- what a statement resolves to
 
--- it defines a table, or not
-abbrev Defines : Bool → Resolved → Type 0
-Defines b r = defines r ≡ b
+-- it defines a table where the statement does, and reads for what the statement reads for
+abbrev IsLike : Stmt → Resolved → Type 0
+IsLike s r = (defines r ≡ is_definition s) × (reading_in r ≡ reading_of s)
 
-defines-answer : (ts : List TableInfo) (s : Stmt) → IfOk (resolution ts s) (Defines (is_definition s))
-defines-answer ts (stmt.Select q) = formed-each (Defines false) resolved.Select (λ bound. refl) (query_answer ts q)
-defines-answer ts (stmt.Explain q) = formed-each (Defines false) resolved.Explain (λ bound. refl) (query_answer ts q)
-defines-answer ts (stmt.OpenFor cursor q) = formed-each (Defines false) (resolved.OpenFor cursor) (λ bound. refl) (query_answer ts q)
-defines-answer ts (stmt.Create name columns block extent memory) = unless-each (Defines true) _ _ refl
-defines-answer ts (stmt.AlterMemory name memory) = of_table-each (Defines true) (table_called ts name) name _ (λ table. refl)
-defines-answer ts (stmt.AlterNoMemory name) = of_table-each (Defines true) (table_called ts name) name _ (λ table. refl)
-defines-answer ts (stmt.Insert name names tuples) =
-    of_table-each (Defines false) (table_called ts name) name _ (λ table. unless-each (Defines false) _ _ refl)
-defines-answer ts (stmt.Update name sets cond) =
-    of_table-each (Defines false) (table_called ts name) name _ (λ table. unless-each (Defines false) _ _ refl)
-defines-answer ts (stmt.Delete name cond) = of_table-each (Defines false) (table_called ts name) name _ (λ table. unless-each (Defines false) _ _ refl)
-defines-answer ts (stmt.Evict name extent) = of_table-each (Defines false) (table_called ts name) name _ (λ table. refl)
-defines-answer ts _ = refl
+like-answer : (ts : List TableInfo) (s : Stmt) → IfOk (resolution ts s) (IsLike s)
+like-answer ts (stmt.Select q) = formed-each (IsLike (stmt.Select q)) resolved.Select (λ bound. (refl, refl)) (query_answer ts q)
+like-answer ts (stmt.Explain q) = formed-each (IsLike (stmt.Explain q)) resolved.Explain (λ bound. (refl, refl)) (query_answer ts q)
+like-answer ts (stmt.OpenFor cursor q) =
+    formed-each (IsLike (stmt.OpenFor cursor q)) (resolved.OpenFor cursor) (λ bound. (refl, refl)) (query_answer ts q)
+like-answer ts (stmt.Create name columns block extent memory) =
+    unless-each (IsLike (stmt.Create name columns block extent memory)) _ _ (refl, refl)
+like-answer ts (stmt.AlterMemory name memory) =
+    of_table-each (IsLike (stmt.AlterMemory name memory)) (table_called ts name) name _ (λ table. (refl, refl))
+like-answer ts (stmt.AlterNoMemory name) = of_table-each (IsLike (stmt.AlterNoMemory name)) (table_called ts name) name _ (λ table. (refl, refl))
+like-answer ts (stmt.Insert name names tuples) =
+    of_table-each (IsLike (stmt.Insert name names tuples)) (table_called ts name) name _
+    (λ table. unless-each (IsLike (stmt.Insert name names tuples)) _ _ (refl, refl))
+like-answer ts (stmt.Update name sets cond) =
+    of_table-each (IsLike (stmt.Update name sets cond)) (table_called ts name) name _
+    (λ table. unless-each (IsLike (stmt.Update name sets cond)) _ _ (refl, refl))
+like-answer ts (stmt.Delete name cond) =
+    of_table-each (IsLike (stmt.Delete name cond)) (table_called ts name) name _
+    (λ table. unless-each (IsLike (stmt.Delete name cond)) _ _ (refl, refl))
+like-answer ts (stmt.Evict name extent) =
+    of_table-each (IsLike (stmt.Evict name extent)) (table_called ts name) name _ (λ table. (refl, refl))
+like-answer ts _ = (refl, refl)
 
--- what a statement resolves to defines a table where the statement does
+like-resolved : (ts : List TableInfo) (s : Stmt) (r : Resolved) → resolution ts s ≡ Ok r → IsLike s r
+like-resolved ts s r is = subst (λ (found : Result Resolved NameFault). IfOk found (IsLike s)) is (like-answer ts s)
+
 pub defines-resolved : (ts : List TableInfo) (s : Stmt) (r : Resolved) → resolution ts s ≡ Ok r → defines r ≡ is_definition s
-defines-resolved ts s r is = subst (λ (found : Result Resolved NameFault). IfOk found (Defines (is_definition s))) is (defines-answer ts s)
+defines-resolved ts s r is = (like-resolved ts s r is).0
 
--- ---- what is read
-
--- it reads for this
-abbrev ReadsFor : Reading → Resolved → Type 0
-ReadsFor reading r = reading_in r ≡ reading
-
-reading-answer : (ts : List TableInfo) (s : Stmt) → IfOk (resolution ts s) (ReadsFor (reading_of s))
-reading-answer ts (stmt.Select q) = formed-each (ReadsFor Own) resolved.Select (λ bound. refl) (query_answer ts q)
-reading-answer ts (stmt.Explain q) = formed-each (ReadsFor Own) resolved.Explain (λ bound. refl) (query_answer ts q)
-reading-answer ts (stmt.OpenFor cursor q) = formed-each (ReadsFor Nothing) (resolved.OpenFor cursor) (λ bound. refl) (query_answer ts q)
-reading-answer ts (stmt.Create name columns block extent memory) = unless-each (ReadsFor Nothing) _ _ refl
-reading-answer ts (stmt.AlterMemory name memory) = of_table-each (ReadsFor Nothing) (table_called ts name) name _ (λ table. refl)
-reading-answer ts (stmt.AlterNoMemory name) = of_table-each (ReadsFor Nothing) (table_called ts name) name _ (λ table. refl)
-reading-answer ts (stmt.Insert name names tuples) =
-    of_table-each (ReadsFor Nothing) (table_called ts name) name _ (λ table. unless-each (ReadsFor Nothing) _ _ refl)
-reading-answer ts (stmt.Update name sets cond) = of_table-each (ReadsFor Own) (table_called ts name) name _ (λ table. unless-each (ReadsFor Own) _ _ refl)
-reading-answer ts (stmt.Delete name cond) = of_table-each (ReadsFor Own) (table_called ts name) name _ (λ table. unless-each (ReadsFor Own) _ _ refl)
-reading-answer ts (stmt.Evict name extent) = of_table-each (ReadsFor Nothing) (table_called ts name) name _ (λ table. refl)
-reading-answer ts _ = refl
-
--- what a statement resolves to reads for what the statement does
 pub reading-resolved : (ts : List TableInfo) (s : Stmt) (r : Resolved) → resolution ts s ≡ Ok r → reading_in r ≡ reading_of s
-reading-resolved ts s r is = subst (λ (found : Result Resolved NameFault). IfOk found (ReadsFor (reading_of s))) is (reading-answer ts s)
+reading-resolved ts s r is = (like-resolved ts s r is).1
 
 -- ---- names
 
@@ -97,7 +86,7 @@ name_reply-either k place NoMemory = inl refl
 name_reply-either k place _ = inr refl
 
 pub named-fault : (who k : ℕ) (old : Known) (state : State) (s : Stmt) (found : Look) (fault : NameFault) → speaks old.side who ≡ true
-    → is_cursor_open old.log who 0 ≡ false → found ≡ look_at old.log who → (fault ≡ NoMemory) ⊎ (resolution found.tables s ≡ Err fault)
+    → has_own_open old.log who ≡ false → found ≡ look_at old.log who → (fault ≡ NoMemory) ⊎ (resolution found.tables s ≡ Err fault)
     → IsRest who k old (named_plan old.limits who state s old.log) (said (name_reply k found.place fault)) old
 named-fault who k old state s found fault mine shut look_is cause = elim cause [
   | inl lacking ↦ subst (λ (reply : Reply). IsRest who k old plan (said reply) old) (sym (ap (name_reply k found.place) lacking)) lacks
@@ -128,8 +117,8 @@ module _ (who : ℕ) (old new : Known) (P : History → Type 0) (mine : speaks o
   idle-commit = ap is_some (begun-added who old new what.Commit P mine added)
 
   -- and no cursor that was not
-  pub shut-commit : is_cursor_open old.log who 0 ≡ false → is_cursor_open new.log who 0 ≡ false
-  shut-commit shut = ap (list_any (is_cursor 0)) (opened-added who old new what.Commit P mine added) ∙ shut
+  pub shut-commit : has_own_open old.log who ≡ false → has_own_open new.log who ≡ false
+  shut-commit shut = ap (list_any (λ (other : Opened). is_own other.cursor)) (opened-added who old new what.Commit P mine added) ∙ shut
 
 limits-found : (old middle : Known) (P : History → Type 0) → Found old middle P → middle.limits ≡ old.limits
 limits-found old middle P found = ap (λ (s : Known). s.limits) found.now

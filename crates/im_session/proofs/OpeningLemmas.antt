@@ -5,6 +5,7 @@ use Rattle.std.specs.Option.{option_map}
 use Rattle.std.proofs.lemmas.List.{take-append-drop}
 use Rattle.im_values.specs.declared.limits.TheConstants.{MOST_ROWS}
 use Rattle.im_values.specs.declared.value.Value.{Value}
+use Rattle.im_history.specs.declared.cursors.TheConstants.{OWN_CURSOR}
 use Rattle.im_history.specs.declared.entry.Mode.{Mode}
 use Rattle.im_history.specs.declared.entry.Mode.TheVariants as mode
 use Rattle.im_history.specs.declared.entry.What.TheVariants.{Open}
@@ -13,7 +14,7 @@ use Rattle.im_history.specs.declared.refused.Why.{Why}
 use Rattle.im_history.specs.declared.refused.Why.TheVariants.{CursorOpen}
 use Rattle.im_history.specs.declared.view.View.{View}
 use Rattle.im_history.specs.Commits.{scn}
-use Rattle.im_history.specs.Cursors.{Opened, cursor_at, is_cursor, is_cursor_open, opened, opened_after}
+use Rattle.im_history.specs.Cursors.{Opened, cursor_at, has_own_open, is_cursor, is_cursor_open, opened, opened_after}
 use Rattle.im_history.specs.History.{History}
 use Rattle.im_history.specs.Legal.{Exists, IsLawful, IsLegal}
 use Rattle.im_history.specs.Refusals.{open_refusal}
@@ -38,7 +39,7 @@ use Rattle.im_session.specs.inner.Scans.{IsScan}
 use Rattle.im_session.specs.Cursors.{MayAskIn}
 use Rattle.im_session.proofs.OtherLemmas.{cursor-after, itself}
 use Rattle.im_session.proofs.RestLemmas.{attempt-done, rest-lacks_here, rest-refused}
-use Rattle.im_session.proofs.TableLemmas.{asks-own, exists-longer, of_table-longer, per-longer, scn-longer}
+use Rattle.im_session.proofs.TableLemmas.{asks-own, exists-longer, of_table-longer, opened-columns, per-longer, scn-longer}
 use Rattle.im_statements.specs.Outcomes.{Outcome, said}
 use Rattle.im_statements.specs.Scans.{rows_seen, scan, serve_from}
 use Rattle.im_statements.specs.Turns.{memory_reply, or_refused, refused_reply, unless_refused}
@@ -147,11 +148,9 @@ module _ (who cursor table : ℕ) (old middle : Known) (at : History) (view : Vi
       on_log P holds = subst P (sym log-is) holds
 
   -- a query may be asked of what it sees
-  pub opening-asks : (bound : Bound) → IsLawful middle.limits middle.log → OfTable (tables old.log) table (QueryServes bound) → MayAskIn bound view middle
+  pub opening-asks : (bound : Bound) → IsLawful middle.limits middle.log → OfTable (tables old.log) table (QueryServes bound) → MayAskIn bound view
   opening-asks bound lawful of = record {
-    table =
-        subst (λ (h : History). OfTable (tables h) view.table (QueryServes bound)) (sym log-is)
-        (rw view_is (of_table-longer at (record { who = who; what = Open cursor table } ∷ []) table (QueryServes bound) there));
+    rows = rw view_is (subst (QueryServes bound) (opened-columns at who table there.columns there.are_of) there.is);
     own = rw view_is (asks-own middle.limits at who table bound legal there);
   }
     where
@@ -186,18 +185,18 @@ module _ (who cursor table : ℕ) (old middle : Known) (view : View)
   pub added-fresh : speaks old.side who ≡ true → is_cursor_open old.log who cursor ≡ false
   added-fresh mine = sym (cursor-after old.side who cursor old.log added.at mine added.after) ∙ open_shut added.at who cursor added.fact.0
 
-  pub added-asks : (bound : Bound) → IsLawful middle.limits middle.log → OfTable (tables old.log) table (QueryServes bound) → MayAskIn bound view middle
+  pub added-asks : (bound : Bound) → IsLawful middle.limits middle.log → OfTable (tables old.log) table (QueryServes bound) → MayAskIn bound view
   added-asks bound lawful of = opening-asks who cursor table old middle added.at view added.after added.now added.fact.1 bound lawful of
 
--- cursor 0 was opened for a line's own scan, which then goes on
+-- a cursor was opened for a line's own scan, which then goes on
 pub scan-opened : (who k table : ℕ) (old middle new : Known) (view : View) (filter : Option (CondOf ℕ Value))
     (tail : ℕ → View → List (ℕ × Row) → List Served → Plan Outcome) (outcome : Outcome)
-    → Added old middle who (λ at. Open 0 table) (HasOpened who 0 table view)
+    → Added old middle who (λ at. Open OWN_CURSOR table) (HasOpened who OWN_CURSOR table view)
     → IsRest who (k + 1) middle (serve_from view filter 0 (tail view.place view (seen_all middle.log view))) outcome new
     → IsRest who k old (scan who table filter (λ at view. tail (length at) view (rows_seen at view))) outcome new
 scan-opened who k table old middle new view filter tail outcome added rest =
-    attempt-done who k old middle new (fault_of (aim.Opening 0)) (λ at. open_refusal at who 0) (λ at. Open 0 table)
-    (HasOpened who 0 table view) on outcome added added.fact.0 (subst (λ (p : Plan Outcome). IsRest who (k + 1) middle p outcome new) same rest)
+    attempt-done who k old middle new (fault_of (aim.Opening OWN_CURSOR)) (λ at. open_refusal at who OWN_CURSOR) (λ at. Open OWN_CURSOR table)
+    (HasOpened who OWN_CURSOR table view) on outcome added added.fact.0 (subst (λ (p : Plan Outcome). IsRest who (k + 1) middle p outcome new) same rest)
   where
     on : History → Plan Outcome
     on at = serve_from (view_at at who table) filter 0 (tail (length at) (view_at at who table) (rows_seen at (view_at at who table)))
@@ -208,12 +207,12 @@ scan-opened who k table old middle new view filter tail outcome added rest =
     same : serve_from view filter 0 (tail view.place view (seen_all middle.log view)) ≡ on at
     same =
         ap (λ (rows : List (ℕ × Row)). serve_from view filter 0 (tail view.place view rows))
-        (opening-seen who 0 table old middle at view added.after added.now added.fact.1)
+        (opening-seen who OWN_CURSOR table old middle at view added.after added.now added.fact.1)
         ∙ ap (λ (v : View). serve_from v filter 0 (tail v.place v (rows_seen at (view_at at who table)))) added.fact.1
 
 -- a cursor of this number was not opened
 pub unopened-rest : (who k number table : ℕ) (old new : Known) (decides : Bool) (tells : Why → Fault) (on : History → Plan Outcome) (refused : Refused)
-    → speaks old.side who ≡ true → is_cursor_open old.log who 0 ≡ false → IsUnopened who number refused old new
+    → speaks old.side who ≡ true → has_own_open old.log who ≡ false → IsUnopened who number refused old new
     → IsRest who k old
     (Turn decides (λ at. unless_refused (open_refusal at who number) (Open number table)) (λ at. or_refused tells at (open_refusal at who number) (on at)))
     (said (refused_reply tells k refused.place refused.why)) new

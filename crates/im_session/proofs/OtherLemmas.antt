@@ -5,7 +5,7 @@ use Rattle.std.proofs.lemmas.Bool.Decides.{nat_tests}
 use Rattle.std.proofs.lemmas.List.Elements.{All-head, All-tail, All-weaker}
 use Rattle.im_history.specs.declared.entry.Entry.{Entry}
 use Rattle.im_history.specs.declared.entry.What.{What}
-use Rattle.im_history.specs.Cursors.{Opened, opened, opened_after, is_cursor, is_cursor_open}
+use Rattle.im_history.specs.Cursors.{Opened, has_own_open, is_cursor, is_cursor_open, is_own, opened, opened_after}
 use Rattle.im_history.specs.History.{History}
 use Rattle.im_history.specs.Leaves.{has_left, is_leave}
 use Rattle.im_history.specs.Transactions.{begun, begun_after, is_open, pending}
@@ -55,6 +55,11 @@ opened-after side who =
 pub cursor-after : (side : StoreSide) (who cursor : ℕ) (old at : History) → speaks side who ≡ true → After (AreOthers side) old at
     → is_cursor_open at who cursor ≡ is_cursor_open old who cursor
 cursor-after side who cursor old at mine after = ap (list_any (is_cursor cursor)) (opened-after side who old at mine after)
+
+-- and no cursor that a statement opened by itself is open that was not
+pub own-after : (side : StoreSide) (who : ℕ) (old at : History) → speaks side who ≡ true → After (AreOthers side) old at
+    → has_own_open at who ≡ has_own_open old who
+own-after side who old at mine after = ap (list_any (λ (other : Opened). is_own other.cursor)) (opened-after side who old at mine after)
 
 -- its transaction
 pub begun-after : (side : StoreSide) (who : ℕ) (old at : History) → speaks side who ≡ true → After (AreOthers side) old at

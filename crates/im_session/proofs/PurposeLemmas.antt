@@ -1,5 +1,6 @@
 -- A scan of a statement's own, from its opening to its end: what is left of the line once it served its purpose.
 use Rattle.std.proofs.Common.{◌≡◌, ℕ, true, List, ap, subst, sym, ◌∙◌}
+use Rattle.im_history.specs.declared.cursors.TheConstants.{OWN_CURSOR}
 use Rattle.im_history.specs.declared.limits.Limits.{Limits}
 use Rattle.im_history.specs.Cursors.{is_cursor_open}
 use Rattle.im_history.specs.Legal.{IsLawful}
@@ -27,7 +28,7 @@ use Rattle.im_syntax.specs.declared.bound.Bound.{Bound}
 
 -- ---- the opening
 
-module _ (who : ℕ) (bound : Bound) (cursor : Cursor) (old middle : Known) (opened : IsJustOpened who 0 bound cursor old middle) where
+module _ (who : ℕ) (bound : Bound) (cursor : Cursor) (old middle : Known) (opened : IsJustOpened who OWN_CURSOR bound cursor old middle) where
   same-bound : cursor.bound ≡ bound
   same-bound = ap (λ (k : Cursor). k.bound) opened.is
 
@@ -73,16 +74,16 @@ serving who purpose cursor old = serve_from cursor.view cursor.bound.filter curs
 
 module _ (who : ℕ) (purpose : Purpose) (cursor : Cursor) (old new : Known) (mine : speaks old.side who ≡ true) (may : MayUse who purpose cursor old)
     (went : Went old new) where
-  open-before : is_cursor_open old.log who 0 ≡ true
+  open-before : is_cursor_open old.log who OWN_CURSOR ≡ true
   open-before = subst (λ (n : ℕ). is_cursor_open old.log who n ≡ true) may.own may.kept.scan.is_open
 
-  open-now : is_cursor_open new.log who 0 ≡ true
-  open-now = open-went who 0 old new mine went open-before
+  open-now : is_cursor_open new.log who OWN_CURSOR ≡ true
+  open-now = open-went who OWN_CURSOR old new mine went open-before
 
   -- all extents were served, and the line went on
   pub used-on : (last : Known) (reply : Reply) (marks : List Served)
       → Comes who 1 old (serving who purpose cursor old) new (behind who purpose cursor old marks) → last.side ≡ new.side
-      → is_cursor_open last.log who 0 ≡ true → Longer new last
+      → is_cursor_open last.log who OWN_CURSOR ≡ true → Longer new last
       → ((late : Known) → IsShut who last late → IsRest who 1 new (behind who purpose cursor old marks) (said reply) late)
       → IsUsed who purpose cursor old reply last
   used-on last reply marks comes side is_open longer rest = record {

@@ -9,7 +9,7 @@ use Rattle.im_core.specs.Answers.{cursor_view}
 use Rattle.im_history.specs.declared.entry.What.{What}
 use Rattle.im_history.specs.declared.view.View.{View}
 use Rattle.im_history.specs.History.{History}
-use Rattle.im_history.specs.Serving.{fetched_by, fetched_in, rows_in, serving, serving_content}
+use Rattle.im_history.specs.Serving.{fetched_by, fetched_in, read_in, rows_in, serving, serving_content, shown_all}
 use Rattle.im_history.specs.Units.{content_at}
 use Rattle.im_reach.specs.Sides.{Added, Found, Known, speaks}
 use Rattle.im_replies.specs.declared.reply.Reply.{Reply}
@@ -124,7 +124,7 @@ more-read who cursor view from middle upto a b c first old new earlier later so_
 
 -- an extent was read, at this history
 pub extent-read : (who cursor : ℕ) (view : View) (extent before after : ℕ) (old new : Known) (P : History → Type 0) → speaks old.side who ≡ true
-    → IsScan who cursor view old → Found old new P → after ≤ before + length (fetched_in new.log (cursor_view new.log who cursor) extent)
+    → IsScan who cursor view old → Found old new P → after ≤ before + length (read_in new.log (cursor_view new.log who cursor) extent)
     → AreRead who cursor view extent (extent + 1) before after old.log new.log
 extent-read who cursor view extent before after old new P mine scan found few = record {
   moments = new.log ∷ [];
@@ -140,8 +140,8 @@ extent-read who cursor view extent before after old new P mine scan found few = 
   );
   count = omega arith;
   few =
-      let same : length (fetched_in new.log (cursor_view new.log who cursor) extent) ≡ length (fetched_in new.log view extent)
-      = ap (λ (v : View). length (fetched_in new.log v extent)) (view-scan who cursor view new here) in
+      let same : length (read_in new.log (cursor_view new.log who cursor) extent) ≡ length (read_in new.log view extent)
+      = ap (λ (v : View). length (read_in new.log v extent)) (view-scan who cursor view new here) in
       omega (arith, few, same);
 }
   where
@@ -151,17 +151,22 @@ extent-read who cursor view extent before after old new P mine scan found few = 
     here : IsScan who cursor view new
     here = scan-went who cursor view old new mine went scan
 
+-- so many rows are fetched as are read
+pub fetched-length : (h : History) (view : View) (extent : ℕ) → length (fetched_in h view extent) ≡ length (read_in h view extent)
+fetched-length h view extent = length-map (read_in h view extent) _
+
 -- ---- what marks tell of
 
 -- an extent that is served so
 pub reads-read : (h : History) (view : View) (extent : ℕ)
-    → reads view extent (how_of (serving_content h view extent) (fetched_in h view extent)) ≡ length (fetched_in h view extent)
+    → reads view extent (how_of (serving_content h view extent) (fetched_in h view extent)) ≡ length (read_in h view extent)
 reads-read h view extent = by (serving h view extent)
   where
     by : (unit : Option ℕ)
-        → reads view extent (how_of (option_map (content_at h view.table extent) unit) (fetched_by h view extent unit)) ≡ length (fetched_by h view extent unit)
+        → reads view extent (how_of (option_map (content_at h view.table extent) unit) (shown_all view (fetched_by h view extent unit)))
+        ≡ length (fetched_by h view extent unit)
     by None = sym (length-map (range_with_len (extent * view.per) (rows_in view extent)) _ ∙ length-range_with_len (extent * view.per) (rows_in view extent))
-    by (Some unit_scn) = refl
+    by (Some unit_scn) = length-map (fetched_by h view extent (Some unit_scn)) _
 
 -- one mark more
 reads_of-push : (view : View) (marks : List Served) (mark : Served)

@@ -1,13 +1,15 @@
 -- How a line that is played over a side of a store goes by its plan, exit by exit.
-use Rattle.std.proofs.Common.{◌≡◌, ℕ, ◌+◌, ◌⊎◌, Bool, true, false, if◌then◌else◌, length, Option, Some, None, refl, sym, ap, ◌∙◌, subst, inl, inr}
+use Rattle.std.proofs.Common.{◌≡◌, ℕ, ◌+◌, ◌⊎◌, Bool, true, false, if◌then◌else◌, List, [], ◌∷◌, length, Option, Some, None, refl, sym, ap, ◌∙◌, subst, inl, inr}
+use Rattle.std.specs.List.{list_any}
 use Rattle.im_core.specs.Answers.{IsRefusal}
 use Rattle.im_history.specs.declared.entry.What.{What}
 use Rattle.im_history.specs.declared.entry.What.TheVariants as what
 use Rattle.im_history.specs.declared.refused.Refused.{Refused}
 use Rattle.im_history.specs.declared.refused.Why.{Why}
 use Rattle.im_history.specs.declared.refused.Why.TheVariants as why
-use Rattle.im_history.specs.Cursors.{is_cursor_open}
+use Rattle.im_history.specs.Cursors.{Opened, has_own_open, is_cursor, is_one_of, opened, own_cursors}
 use Rattle.im_history.specs.History.{History}
+use Rattle.im_statements.proofs.CursorLaws.{any-either}
 use Rattle.im_plan.specs.Plan.{Plan, End, Turn}
 use Rattle.im_reach.specs.Rests.{Logged}
 use Rattle.im_reach.specs.Sides.{Added, Found, Known, speaks}
@@ -17,10 +19,10 @@ use Rattle.im_replies.specs.declared.body.Body.TheVariants.{Error}
 use Rattle.im_replies.specs.declared.fault.Fault.{Fault}
 use Rattle.im_replies.specs.declared.reply.Reply.{Reply}
 use Rattle.im_statements.specs.Outcomes.{Outcome, said}
-use Rattle.im_statements.specs.Turns.{look, amends, memory_reply, unless_refused, or_refused, refused_reply, attempt, decide, decide_by, settled_reply}
+use Rattle.im_statements.specs.Turns.{look, amends, memory_reply, shut_each, shut_open, unless_refused, or_refused, refused_reply, attempt, decide, decide_by, settled_reply}
 use Rattle.im_session.specs.inner.Rests.{IsDecided, IsRest}
 use Rattle.im_session.specs.inner.Scans.{Went}
-use Rattle.im_session.proofs.OtherLemmas.{cursor-after}
+use Rattle.im_session.proofs.OtherLemmas.{own-after}
 
 -- ---- ends
 
@@ -41,24 +43,33 @@ went-log old new P found = subst P (sym (ap (λ (s : Known). s.log) found.now)) 
 
 -- ---- out of memory
 
--- a line runs out of memory while cursor 0 is shut, and adds nothing for it
-went-lacks : (who k : ℕ) (old new : Known) (plan : Plan Outcome) → speaks old.side who ≡ true → is_cursor_open old.log who 0 ≡ false
+-- none of these cursors is open, so none is closed
+shut-none : (who : ℕ) (cursors : List ℕ) (now : Known) (outcome : Outcome)
+    → list_any (λ (other : Opened). is_one_of cursors other.cursor) (opened now.log who) ≡ false
+    → IsDecided who now (shut_each who cursors (End outcome)) outcome now
+shut-none who [] now outcome none = decided-end who now (End outcome) outcome refl
+shut-none who (cursor ∷ cursors) now outcome none =
+    let each = any-either (is_cursor cursor) (λ (other : Opened). is_one_of cursors other.cursor) (opened now.log who) none in
+    laws.decided-nothing Logged keeps-logged who now now now false (shut_open who cursor) (λ at. shut_each who cursors (End outcome)) outcome
+    (laws.went-here Logged keeps-logged now) (ap (λ (b : Bool). if b then Some (what.Shut cursor) else None) each.0)
+    (shut-none who cursors now outcome each.1)
+
+-- a line runs out of memory while no cursor is open that it opened by itself, and adds nothing for it
+went-lacks : (who k : ℕ) (old new : Known) (plan : Plan Outcome) → speaks old.side who ≡ true → has_own_open old.log who ≡ false
     → Went old new → IsRest who k old plan (said (memory_reply k)) new
 went-lacks who k old new plan mine shut went =
-    laws.rest-lacks Logged keeps-logged who (amends who) k old new plan (said (memory_reply k))
-    (laws.decided-nothing Logged keeps-logged who old new new false (λ at. if is_cursor_open at who 0 then Some (what.Shut 0) else None)
-    (λ at. End (said (memory_reply k))) (said (memory_reply k)) went
-    (ap (λ (b : Bool). if b then Some (what.Shut 0) else None) (cursor-after old.side who 0 old.log new.log mine went.after ∙ shut))
-    (decided-end who new (End (said (memory_reply k))) (said (memory_reply k)) refl))
+    laws.rest-went Logged keeps-logged who (amends who) k old new new plan (said (memory_reply k)) went
+    (laws.rest-lacks Logged keeps-logged who (amends who) k new new plan (said (memory_reply k))
+    (shut-none who own_cursors new (said (memory_reply k)) (own-after old.side who old.log new.log mine went.after ∙ shut)))
 
 -- a call added nothing, and memory ran out before the next turn
 pub rest-lacks : (who k : ℕ) (old new : Known) (P : History → Type 0) (plan : Plan Outcome) → speaks old.side who ≡ true
-    → is_cursor_open old.log who 0 ≡ false → Found old new P → IsRest who k old plan (said (memory_reply k)) new
+    → has_own_open old.log who ≡ false → Found old new P → IsRest who k old plan (said (memory_reply k)) new
 rest-lacks who k old new P plan mine shut found = went-lacks who k old new plan mine shut (went-found old new P found)
 
 -- memory ran out with no call
 pub rest-lacks_here : (who k : ℕ) (old : Known) (plan : Plan Outcome) → speaks old.side who ≡ true
-    → is_cursor_open old.log who 0 ≡ false → IsRest who k old plan (said (memory_reply k)) old
+    → has_own_open old.log who ≡ false → IsRest who k old plan (said (memory_reply k)) old
 rest-lacks_here who k old plan mine shut = went-lacks who k old old plan mine shut (laws.went-here Logged keeps-logged old)
 
 -- ---- turns
@@ -149,7 +160,7 @@ refused_reply-either tells k place _ = inr refl
 -- a call for an entry was refused
 pub rest-refused : (who k : ℕ) (old new : Known) (decides : Bool) (tells : Why → Fault) (refused : History → Option Why)
     (entry : History → What) (on : History → Plan Outcome) (told : Refused) → speaks old.side who ≡ true
-    → is_cursor_open old.log who 0 ≡ false → Found old new (λ at. IsRefusal at (refused at) told)
+    → has_own_open old.log who ≡ false → Found old new (λ at. IsRefusal at (refused at) told)
     → IsRest who k old (Turn decides (λ at. unless_refused (refused at) (entry at)) (λ at. or_refused tells at (refused at) (on at)))
     (said (refused_reply tells k told.place told.why)) new
 rest-refused who k old new decides tells refused entry on told mine shut found = by (refused_reply-either tells k told.place told.why)

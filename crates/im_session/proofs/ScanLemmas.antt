@@ -2,10 +2,11 @@
 use Rattle.std.proofs.Common.{◌≡◌, ℕ, suc, ◌+◌, ◌-◌, ◌<◌, ◌≤◌, Bool, true, false, if◌then◌else◌, List, [], ◌∷◌, ◌++◌, Option, Some, None, refl, sym, ap, ◌∙◌, subst, arith}
 use Rattle.std.specs.List.{find}
 use Rattle.im_values.specs.declared.value.Value.{Value}
+use Rattle.im_history.specs.declared.cursors.TheConstants.{OWN_CURSOR}
 use Rattle.im_history.specs.declared.entry.What.TheVariants as what
 use Rattle.im_history.specs.declared.view.View.{View}
 use Rattle.im_history.specs.Commits.{scn}
-use Rattle.im_history.specs.Cursors.{is_cursor, is_cursor_open}
+use Rattle.im_history.specs.Cursors.{has_own_open, is_cursor, is_cursor_open}
 use Rattle.im_history.specs.History.{History}
 use Rattle.im_history.specs.Legal.{Exists}
 use Rattle.im_history.specs.Tables.{tables}
@@ -21,15 +22,15 @@ use Rattle.im_reach.proofs.RestLaws as laws
 use Rattle.im_replies.specs.declared.reply.Reply.{Reply}
 use Rattle.im_replies.specs.declared.served.Served.{Served}
 use Rattle.im_session.specs.inner.Rests.{IsDecided, IsRest}
-use Rattle.im_session.specs.Cursors.{IsView, MayAskIn}
+use Rattle.im_session.specs.Cursors.{IsView}
 use Rattle.im_session.specs.inner.Scans.{Comes, IsScan, IsShut, Longer, Stops, Went}
-use Rattle.im_session.proofs.OtherLemmas.{cursor-after, opened-after}
+use Rattle.im_session.proofs.OtherLemmas.{cursor-after, opened-after, own-after}
 use Rattle.im_session.proofs.RestLemmas.{decided-end, rest-look, rest-went}
 pub use Rattle.im_session.proofs.RestLemmas.{went-found, went-log}
 use Rattle.im_session.proofs.TableLemmas.{exists-longer, of_table-longer, per-longer, scn-longer}
 use Rattle.im_statements.specs.Outcomes.{Outcome, said}
 use Rattle.im_statements.specs.Scans.{end_scan, mark_at, serve}
-use Rattle.im_statements.specs.Turns.{amends, memory_reply}
+use Rattle.im_statements.specs.Turns.{amends, memory_reply, shut_open}
 use Rattle.im_syntax.specs.declared.bound.Bound.{Bound}
 use Rattle.im_syntax.specs.Condition.{CondOf}
 
@@ -48,6 +49,11 @@ speaks-went who old new went mine = ap (λ (side : StoreSide). speaks side who) 
 pub open-went : (who cursor : ℕ) (old new : Known) {b : Bool} → speaks old.side who ≡ true → Went old new → is_cursor_open old.log who cursor ≡ b
     → is_cursor_open new.log who cursor ≡ b
 open-went who cursor old new mine went is = cursor-after old.side who cursor old.log new.log mine went.after ∙ is
+
+-- and nothing is open that a statement opened by itself, where nothing was
+pub own-went : (who : ℕ) (old new : Known) → speaks old.side who ≡ true → Went old new → has_own_open old.log who ≡ false
+    → has_own_open new.log who ≡ false
+own-went who old new mine went shut = own-after old.side who old.log new.log mine went.after ∙ shut
 
 pub went-on : (old at new : Known) → Went old at → Went at new → Went old new
 went-on old at new first second = record {
@@ -82,16 +88,6 @@ scan-went who cursor view old new mine went scan = record {
   opened = ap (find (is_cursor cursor)) (opened-after old.side who old.log new.log mine went.after) ∙ scan.opened;
   sees = view-longer view old new (longer-went old new went) scan.sees;
 }
-
-pub asks-longer : (bound : Bound) (view : View) (old new : Known) → Longer old new → MayAskIn bound view old → MayAskIn bound view new
-asks-longer bound view old new longer asks = record {
-  table = found-longer old new (λ h. OfTable (tables h) view.table (QueryServes bound)) longer
-      (λ more. of_table-longer old.log more view.table (QueryServes bound) asks.table);
-  own = asks.own;
-}
-
-pub asks-went : (bound : Bound) (view : View) (old new : Known) → Went old new → MayAskIn bound view old → MayAskIn bound view new
-asks-went bound view old new went asks = asks-longer bound view old new (longer-went old new went) asks
 
 pub view-scan : (who cursor : ℕ) (view : View) (now : Known) → IsScan who cursor view now → cursor_view now.log who cursor ≡ view
 view-scan who cursor view now scan = ap view_of scan.opened
@@ -142,16 +138,16 @@ stops-went who k first old new plan later went comes = record { later = later; c
 
 -- ---- the end of a scan
 
-pub shut-added : (who : ℕ) (old new : Known) (P : History → Type 0) → Added old new who (λ at. what.Shut 0) P → IsShut who old new
+pub shut-added : (who : ℕ) (old new : Known) (P : History → Type 0) → Added old new who (λ at. what.Shut OWN_CURSOR) P → IsShut who old new
 shut-added who old new P added = record { at = added.at; after = added.after; now = added.now }
 
-onward-shut : (who : ℕ) (old new : Known) → (shut : IsShut who old new) → Onward who old new (what.Shut 0) shut.at
+onward-shut : (who : ℕ) (old new : Known) → (shut : IsShut who old new) → Onward who old new (what.Shut OWN_CURSOR) shut.at
 onward-shut who old new shut = record { after = shut.after; now = shut.now }
 
--- cursor 0 is shut, and the line ends: its deciding entry was made
+-- the scan is shut, and the line ends: its deciding entry was made
 pub decided-shut : (who : ℕ) (old new : Known) (reply : Reply) → IsShut who old new → IsDecided who old (end_scan reply) (said reply) new
 decided-shut who old new reply shut =
-    laws.decided-adds Logged keeps-logged who old new new false (λ here. Some (what.Shut 0)) (what.Shut 0) shut.at (λ here. End (said reply)) (said reply)
+    laws.decided-adds Logged keeps-logged who old new new false (λ here. Some (what.Shut OWN_CURSOR)) (what.Shut OWN_CURSOR) shut.at (λ here. End (said reply)) (said reply)
     (onward-shut who old new shut) refl (decided-end who new (End (said reply)) (said reply) refl)
 
 -- the same where none was
@@ -159,18 +155,18 @@ pub scan-ended : (who k : ℕ) (old new : Known) (reply : Reply) → IsShut who 
 scan-ended who k old new reply shut =
     laws.rest-decided Logged keeps-logged who (amends who) k old new (end_scan reply) (said reply) (decided-shut who old new reply shut)
 
--- memory runs out while cursor 0 is open
-pub scan-lacks : (who k : ℕ) (old new : Known) (plan : Plan Outcome) → speaks old.side who ≡ true → is_cursor_open old.log who 0 ≡ true
+-- memory runs out while the scan is open
+pub scan-lacks : (who k : ℕ) (old new : Known) (plan : Plan Outcome) → speaks old.side who ≡ true → is_cursor_open old.log who OWN_CURSOR ≡ true
     → IsShut who old new → IsRest who k old plan (said (memory_reply k)) new
 scan-lacks who k old new plan mine is_open shut =
     laws.rest-lacks Logged keeps-logged who (amends who) k old new plan (said (memory_reply k))
-    (laws.decided-adds Logged keeps-logged who old new new false (λ at. if is_cursor_open at who 0 then Some (what.Shut 0) else None) (what.Shut 0) shut.at
+    (laws.decided-adds Logged keeps-logged who old new new false (shut_open who OWN_CURSOR) (what.Shut OWN_CURSOR) shut.at
     (λ at. End (said (memory_reply k))) (said (memory_reply k)) (onward-shut who old new shut)
-    (ap (λ (b : Bool). if b then Some (what.Shut 0) else None) (cursor-after old.side who 0 old.log shut.at mine shut.after ∙ is_open))
+    (ap (λ (b : Bool). if b then Some (what.Shut OWN_CURSOR) else None) (cursor-after old.side who OWN_CURSOR old.log shut.at mine shut.after ∙ is_open))
     (decided-end who new (End (said (memory_reply k))) (said (memory_reply k)) refl))
 
 -- memory ran out where a line had stopped
-pub scan-stops : (who k : ℕ) (first old new : Known) (plan : Plan Outcome) → speaks old.side who ≡ true → is_cursor_open old.log who 0 ≡ true
+pub scan-stops : (who k : ℕ) (first old new : Known) (plan : Plan Outcome) → speaks old.side who ≡ true → is_cursor_open old.log who OWN_CURSOR ≡ true
     → IsShut who old new → Stops who k first plan old → IsRest who k first plan (said (memory_reply k)) new
 scan-stops who k first old new plan mine is_open shut stops =
     stops.comes.rest (said (memory_reply k)) new (scan-lacks who k old new stops.later mine is_open shut)

@@ -5,15 +5,17 @@ use Rattle.std.specs.Option.{ForSome, option_map}
 use Rattle.std.proofs.lemmas.List.{length-map}
 use Rattle.std.specs.Result.{IfErr}
 use Rattle.im_core.specs.Answers.{cursor_view}
+use Rattle.im_group.specs.Answers.{answer, finished}
 use Rattle.im_group.specs.Partials.{CanMerge, Numbered, Parts, merged, partial}
-use Rattle.im_group.proofs.ForCallers.{CanMerge-partial, merged-partial}
+use Rattle.im_group.proofs.ForCallers.{CanMerge-partial, merged-partial, answer-finished}
 use Rattle.im_history.specs.declared.view.View.{View}
 use Rattle.im_history.specs.Commits.{scn}
 use Rattle.im_history.specs.History.{History}
 use Rattle.im_history.specs.Legal.{IsLawful}
 use Rattle.im_history.specs.Rows.{Row}
-use Rattle.im_history.specs.Serving.{fetched_by, fetched_in, serving, serving_content}
+use Rattle.im_history.specs.Serving.{fetched_by, fetched_in, serving, serving_content, shown_all}
 use Rattle.im_history.specs.Units.{Content, content_at, stale}
+use Rattle.im_history.proofs.ViewLaws.{cursor-columns}
 use Rattle.im_plan.specs.Plan.{Plan}
 use Rattle.im_reach.specs.Sides.{Known, speaks}
 use Rattle.im_replies.specs.declared.served.How.{How}
@@ -31,8 +33,8 @@ use Rattle.im_session.specs.inner.Scans.{Comes, IsRead, IsScan, Stops, Went}
 use Rattle.im_session.specs.inner.Serving.{HasRead, wanted_of}
 use Rattle.im_session.specs.Cursors.{MayAskIn}
 use Rattle.im_session.specs.Reads.{AreRead}
-use Rattle.im_session.proofs.ReadsLemmas.{more-read, reads-read}
-use Rattle.im_session.proofs.ScanLemmas.{asks-went, longer-went, scan-went, stops-went, view-scan}
+use Rattle.im_session.proofs.ReadsLemmas.{fetched-length, more-read, reads-read}
+use Rattle.im_session.proofs.ScanLemmas.{longer-went, scan-went, stops-went, view-scan}
 use Rattle.im_session.proofs.TableLemmas.{asks-of}
 use Rattle.im_statements.specs.Outcomes.{Outcome}
 use Rattle.im_statements.specs.Scans.{mark_at, serve, serve_from}
@@ -65,7 +67,7 @@ pub record MayScanPart (bound : Bound) (h : History) (view : View) (extent : ℕ
   pub fetched_fits : AllByRecursion (λ row. MayAsk bound row.1) fetched
 
 pub may-part : (who cursor extent place : ℕ) (bound : Bound) (view : View) (unit : Option Content) (fetched : List (ℕ × Option Row))
-    (now : Known) → IsScan who cursor view now → MayAskIn bound view now → IsLawful now.limits now.log
+    (now : Known) → IsScan who cursor view now → MayAskIn bound view → IsLawful now.limits now.log
     → IsRead now.log view extent place unit fetched → MayScanPart bound now.log view extent unit fetched
 may-part who cursor extent place bound view unit fetched now scan asks lawful read = record {
   pinned = pinned;
@@ -77,24 +79,28 @@ may-part who cursor extent place bound view unit fetched now scan asks lawful re
     pinned = pinned-serving now.log view extent unit fetched scan.sees.per read.unit_is read.fetched_is
 
     may : MayAskOf bound now.log view.table
-    may = asks-of now.limits now.log view.table bound lawful.legal asks.table
+    may =
+        asks-of now.limits now.log view bound lawful.legal
+        (cursor-columns now.limits now.log who cursor (record { cursor = cursor; view = view }) lawful.legal scan.opened) asks.rows
 
 -- the same, where others went on before it was read
 pub may-read : (who cursor extent place : ℕ) (bound : Bound) (view : View) (unit : Option Content) (fetched : List (ℕ × Option Row))
-    (old new : Known) → speaks old.side who ≡ true → IsScan who cursor view old → MayAskIn bound view old → Went old new
+    (old new : Known) → speaks old.side who ≡ true → IsScan who cursor view old → MayAskIn bound view → Went old new
     → IsLawful new.limits new.log → IsRead new.log view extent place unit fetched → MayScanPart bound new.log view extent unit fetched
 may-read who cursor extent place bound view unit fetched old new mine scan asks went lawful read =
-    may-part who cursor extent place bound view unit fetched new (scan-went who cursor view old new mine went scan)
-    (asks-went bound view old new went asks) lawful read
+    may-part who cursor extent place bound view unit fetched new (scan-went who cursor view old new mine went scan) asks lawful read
 
 -- how it was served
 pub how-read : (h : History) (view : View) (extent : ℕ) (filter : Option (CondOf ℕ Value))
     → how_of (serving_content h view extent) (fetched_in h view extent) ≡ mix h view extent filter
 how-read h view extent filter = by (serving h view extent)
   where
-    by : (unit : Option ℕ) → how_of (option_map (content_at h view.table extent) unit) (fetched_by h view extent unit) ≡ mix_by h view extent unit
+    by : (unit : Option ℕ)
+        → how_of (option_map (content_at h view.table extent) unit) (shown_all view (fetched_by h view extent unit)) ≡ mix_by h view extent unit
     by None = refl
-    by (Some unit_scn) = ap (ByUnit unit_scn) (length-map (stale h view.table extent unit_scn view.scn) _)
+    by (Some unit_scn) =
+        ap (ByUnit unit_scn)
+        (length-map (fetched_by h view extent (Some unit_scn)) _ ∙ length-map (stale h view.table extent unit_scn view.scn) _)
 
 pub mark-read : (h : History) (view : View) (extent place : ℕ) (filter : Option (CondOf ℕ Value)) (unit : Option Content)
     (fetched : List (ℕ × Option Row)) (mark : Served) → IsRead h view extent place unit fetched
@@ -107,7 +113,8 @@ mark-read h view extent place filter unit fetched mark read is =
 -- and so many rows were read from the blocks for it
 pub rows-read : (h : History) (view : View) (extent place : ℕ) (unit : Option Content) (fetched : List (ℕ × Option Row))
     → IsRead h view extent place unit fetched → reads view extent (how_of unit fetched) ≡ length fetched
-rows-read h view extent place unit fetched read = rw (read.unit_is, read.fetched_is) (reads-read h view extent)
+rows-read h view extent place unit fetched read =
+    rw (read.unit_is, read.fetched_is) (reads-read h view extent ∙ sym (fetched-length h view extent))
 
 pub rows-mark : (h : History) (view : View) (extent place before after : ℕ) (unit : Option Content) (fetched : List (ℕ × Option Row)) (mark : Served)
     → IsRead h view extent place unit fetched → mark ≡ record { place = place; extent = extent; how = how_of unit fetched }
@@ -182,3 +189,7 @@ module _ (who : ℕ) (cursor : Cursor) (extent : ℕ) (first old new : Known) (s
 
     pub has-served : extent < cursor.view.extents → HasRead who cursor a c first.log new.log
     has-served within = record { upto = extent + 1; within = omega (arith, within); read = read-served }
+
+-- what is made of the part of all rows is the answer
+pub answer_is : (bound : Bound) (rows : List Numbered) → finished bound (partial bound rows) ≡ answer bound rows
+answer_is bound rows = sym (answer-finished bound rows)

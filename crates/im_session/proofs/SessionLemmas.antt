@@ -4,7 +4,7 @@ use Rattle.std.specs.List.{AllByRecursion, list_any}
 use Rattle.std.specs.Prelude.{slice_index_or, slice_set}
 use Rattle.im_history.specs.declared.limits.Limits.{Limits}
 use Rattle.im_history.specs.declared.look.Look.{Look}
-use Rattle.im_history.specs.Cursors.{Opened, cursor_at, is_cursor, is_cursor_open, opened as opened_in}
+use Rattle.im_history.specs.Cursors.{Opened, cursor_at, is_cursor_open, is_own, opened as opened_in}
 use Rattle.im_history.specs.History.{History}
 use Rattle.im_history.specs.Transactions.{is_open}
 use Rattle.im_history.specs.Views.{look_at}
@@ -20,14 +20,13 @@ use Rattle.im_replies.specs.declared.fault.Fault.TheVariants as fault
 use Rattle.im_replies.specs.declared.reply.Reply.{Reply}
 use Rattle.im_session.specs.declared.cursor.Cursor.{Cursor}
 use Rattle.im_session.specs.declared.playing.Use.{Use}
-use Rattle.im_session.specs.declared.playing.Use.TheVariants.{Step, Fetch, Close}
 use Rattle.im_session.specs.Cursors.{IsSound, query_of}
 use Rattle.im_session.specs.Reads.{IsCounted, Reading}
 use Rattle.im_session.specs.Sessions.{Agrees, AreApart, IsStatementPlayed, Kept, state_of}
 use Rattle.im_session.specs.inner.Cursors.{IsKept, fetch_outcome, opening_outcome, query_after, step_outcome}
 use Rattle.im_session.specs.inner.Names.{reading_in}
 use Rattle.im_session.specs.inner.Rests.{IsRest}
-use Rattle.im_session.specs.inner.Running.{AreKept, IsRun, is_number, plan_over}
+use Rattle.im_session.specs.inner.Running.{AreKept, IsRun, is_number, plan_of_use, plan_over}
 use Rattle.im_session.specs.inner.Scans.{Longer}
 use Rattle.im_session.specs.inner.Serving.{IsCountedFor}
 use Rattle.im_session.proofs.CursorLemmas.{sound-longer}
@@ -35,15 +34,14 @@ use Rattle.im_session.proofs.KeptLemmas.{IsFound, all-at, all-filter, all-last, 
 use Rattle.im_session.proofs.NameLemmas.{named-fault, named-found}
 use Rattle.im_session.proofs.OtherLemmas.{opened-after}
 use Rattle.im_session.proofs.RestLemmas.{rest-end, rest-lacks, rest-look}
-use Rattle.im_session.proofs.ScanLemmas.{longer-went, open-went, speaks-went, went-found, went-log}
+use Rattle.im_session.proofs.ScanLemmas.{longer-went, own-went, speaks-went, went-found, went-log}
 use Rattle.im_statements.specs.Agreement.{Agrees as AreOpen, AreQueriesOf}
-use Rattle.im_statements.specs.Cursors.{close, close_query, fetch, fetch_query, open_query, step, step_query, with_query}
+use Rattle.im_statements.specs.Cursors.{fetch, fetch_query, open_query, step, step_query, with_query}
 use Rattle.im_statements.specs.Outcomes.{Closes, Opens, Outcome, OpenQuery, Replied, State, Stays, Steps, query_at, said}
 use Rattle.im_statements.specs.Statements.{definition_plan, is_definition, name_reply, named_plan, resolved_plan, statement_plan}
 use Rattle.im_statements.specs.Transaction.{open_after}
 use Rattle.im_statements.specs.Turns.{memory_reply, settled_reply}
-use Rattle.im_statements.proofs.AgreementLaws.{keep-agreement}
-use Rattle.im_statements.proofs.TransactionLaws.{keep-transaction}
+use Rattle.im_statements.proofs.LineLaws.{keep-agreement, keep-transaction}
 use Rattle.im_syntax.specs.declared.bound.Bound.{Bound}
 use Rattle.im_syntax.specs.declared.statement.Stmt.{Stmt}
 use Rattle.im_syntax.specs.Rules.{IsStmt}
@@ -123,26 +121,18 @@ module _ (who : ℕ) (cursors : List Cursor) (old new : Known) (reply : Reply) (
     apart = apart-filter (λ kept. not (is_number number kept)) cursors apart;
   }
 
-  pub run-fetched : (number at : ℕ) → (found : IsFound number cursors at)
-      → IsRest who 0 old (fetch_query old.log (query_of found.kept)) (fetch_outcome found.kept.number reply true) new
-      → IsRun who (fetch (state_of cursors) old.log number) cursors old reply (filter (λ kept. not (is_number number kept)) cursors) new
-  run-fetched number at found rest =
+  pub run-closed : (usage : Use) (number at : ℕ) → (found : IsFound number cursors at)
+      → IsRest who 0 old (plan_of_use usage old.log (query_of found.kept)) (Replied reply (Closes found.kept.number)) new
+      → IsRun who (plan_over usage (state_of cursors) old.log number) cursors old reply (filter (λ kept. not (is_number number kept)) cursors) new
+  run-closed usage number at found rest =
       closed-run number at _ found
-      (subst (λ (n : ℕ). IsRest who 0 old (fetch (state_of cursors) old.log number) (Replied reply (Closes n)) new) found.same
-      (with-found number at (fetch_query old.log) _ found rest))
+      (subst (λ (n : ℕ). IsRest who 0 old (plan_over usage (state_of cursors) old.log number) (Replied reply (Closes n)) new) found.same
+      (with-found number at (plan_of_use usage old.log) _ found rest))
 
   pub run-lacked : (number at : ℕ) → (found : IsFound number cursors at)
       → IsRest who 0 old (fetch_query old.log (query_of found.kept)) (fetch_outcome found.kept.number reply false) new
       → IsRun who (fetch (state_of cursors) old.log number) cursors old reply cursors new
   run-lacked number at found rest = run-stays _ (with-found number at (fetch_query old.log) _ found rest)
-
-  pub run-closed : (number at : ℕ) → (found : IsFound number cursors at)
-      → IsRest who 0 old (close_query found.kept.number) (Replied reply (Closes found.kept.number)) new
-      → IsRun who (close (state_of cursors) old.log number) cursors old reply (filter (λ kept. not (is_number number kept)) cursors) new
-  run-closed number at found rest =
-      closed-run number at _ found
-      (subst (λ (n : ℕ). IsRest who 0 old (close (state_of cursors) old.log number) (Replied reply (Closes n)) new) found.same
-      (with-found number at (λ query. close_query query.cursor) _ found rest))
 
 -- no cursor of this number is kept
 pub run-unknown : (who number : ℕ) (cursors : List Cursor) (old : Known) (look : Look) (on : OpenQuery → Plan Outcome)
@@ -219,12 +209,12 @@ module _ (who : ℕ) (cursors : List Cursor) (old : Known) (here : AreKept who c
         (subst (λ (k : Cursor). IsRest who 0 old (step_query old.log (query_of k)) (step_outcome k.number reply served) new) e rest)
         (subst (λ (k : Cursor). query_of after ≡ query_after served (query_of k)) e same) is.sound
 
-    pub run-fetch : (number at : ℕ) (kept : Cursor) → IsFound number cursors at → kept ≡ slice_index_or cursors at kept
-        → IsRest who 0 old (fetch_query old.log (query_of kept)) (fetch_outcome kept.number reply true) new
-        → IsRun who (fetch (state_of cursors) old.log number) cursors old reply (filter (λ kept. not (is_number number kept)) cursors) new
-    run-fetch number at kept found value rest =
-        run-fetched who cursors old new reply here.sound here.apart number at found
-        (subst (λ (k : Cursor). IsRest who 0 old (fetch_query old.log (query_of k)) (fetch_outcome k.number reply true) new)
+    pub run-closing : (usage : Use) (number at : ℕ) (kept : Cursor) → IsFound number cursors at → kept ≡ slice_index_or cursors at kept
+        → IsRest who 0 old (plan_of_use usage old.log (query_of kept)) (Replied reply (Closes kept.number)) new
+        → IsRun who (plan_over usage (state_of cursors) old.log number) cursors old reply (filter (λ kept. not (is_number number kept)) cursors) new
+    run-closing usage number at kept found value rest =
+        run-closed who cursors old new reply here.sound here.apart usage number at found
+        (subst (λ (k : Cursor). IsRest who 0 old (plan_of_use usage old.log (query_of k)) (Replied reply (Closes k.number)) new)
         (kept-at cursors at found.kept kept found.is value) rest)
 
     pub run-no_fetch : (number at : ℕ) (kept : Cursor) → IsFound number cursors at → kept ≡ slice_index_or cursors at kept
@@ -235,24 +225,12 @@ module _ (who : ℕ) (cursors : List Cursor) (old : Known) (here : AreKept who c
         (subst (λ (k : Cursor). IsRest who 0 old (fetch_query old.log (query_of k)) (fetch_outcome k.number reply false) new)
         (kept-at cursors at found.kept kept found.is value) rest)
 
-    pub run-close : (number at : ℕ) (kept : Cursor) → IsFound number cursors at → kept ≡ slice_index_or cursors at kept
-        → IsRest who 0 old (close_query kept.number) (Replied reply (Closes kept.number)) new
-        → IsRun who (close (state_of cursors) old.log number) cursors old reply (filter (λ kept. not (is_number number kept)) cursors) new
-    run-close number at kept found value rest =
-        run-closed who cursors old new reply here.sound here.apart number at found
-        (subst (λ (k : Cursor). IsRest who 0 old (close_query k.number) (Replied reply (Closes k.number)) new)
-        (kept-at cursors at found.kept kept found.is value) rest)
-
     -- no cursor of this number is kept
     pub run-none : (usage : Use) (number : ℕ) (look : Look) → look ≡ look_at old.log who → query_at (state_of cursors) number ≡ None
         → reply ≡ settled_reply look.place (Error (fault.CursorUnknown number))
         → IsRun who (plan_over usage (state_of cursors) old.log number) cursors old reply cursors old
-    run-none Step number look look_is none reply_is =
-        rw reply_is (run-unknown who number cursors old look (step_query old.log) here.sound here.apart look_is none)
-    run-none Fetch number look look_is none reply_is =
-        rw reply_is (run-unknown who number cursors old look (fetch_query old.log) here.sound here.apart look_is none)
-    run-none Close number look look_is none reply_is =
-        rw reply_is (run-unknown who number cursors old look (λ query. close_query query.cursor) here.sound here.apart look_is none)
+    run-none usage number look look_is none reply_is =
+        rw reply_is (run-unknown who number cursors old look (plan_of_use usage old.log) here.sound here.apart look_is none)
 
     -- a cursor came to them
     pub run-open : (number : ℕ) (bound : Bound) (kept : Cursor)
@@ -298,14 +276,14 @@ module _ (who : ℕ) (cursors : List Cursor) (old : Known) (here : AreKept who c
       (subst (λ (l : Limits). IsRest who 0 middle (named_plan l who (state_of cursors) s middle.log) (said (name_reply 0 look.place fault)) middle)
       (ap (λ (k : Known). k.limits) found.now)
       (named-fault who 0 middle (state_of cursors) s look fault (speaks-went who old middle went mine)
-      (open-went who 0 old middle mine went here.cursors.closed) (went-log old middle (λ at. look ≡ look_at at who) found) cause))))
+      (own-went who old middle mine went here.cursors.closed) (went-log old middle (λ at. look ≡ look_at at who) found) cause))))
 
 -- the cursors are kept once others went on
 pub kept-found : (who : ℕ) (cursors : List Cursor) (old new : Known) (P : History → Type 0) → speaks old.side who ≡ true → AreKept who cursors old
     → Found old new P → AreKept who cursors new
 kept-found who cursors old new P mine here found = record {
   cursors = record {
-    closed = ap (list_any (is_cursor 0)) same ∙ here.cursors.closed;
+    closed = ap (list_any (λ (other : Opened). is_own other.cursor)) same ∙ here.cursors.closed;
     queries = subst (λ (os : List Opened). AreQueriesOf (state_of cursors).queries os) (sym same) here.cursors.queries;
   };
   sound =

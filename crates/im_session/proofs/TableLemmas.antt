@@ -8,18 +8,22 @@ use Rattle.im_values.specs.declared.schema.Column.{Column}
 use Rattle.im_values.specs.Fits.{fits}
 use Rattle.im_history.specs.declared.change.Change.{Change}
 use Rattle.im_history.specs.declared.limits.Limits.{Limits}
+use Rattle.im_history.specs.declared.look.Look.{Look}
 use Rattle.im_history.specs.declared.look.TableInfo.{TableInfo}
+use Rattle.im_history.specs.declared.view.View.{View}
 use Rattle.im_history.specs.Commits.{scn, moves_clock}
 use Rattle.im_history.specs.Grid.{per_extent}
 use Rattle.im_history.specs.History.{History}
 use Rattle.im_history.specs.Legal.{Exists, IsLegal, MayInsert, row_fits}
 use Rattle.im_history.specs.Rows.{Row, own_changes}
 use Rattle.im_history.specs.Tables.{table_among, table_at, tables}
-use Rattle.im_history.specs.Views.{per_at}
+use Rattle.im_history.specs.Units.{columns_of}
+use Rattle.im_history.specs.Views.{look_at, per_at, schema_of, view_at}
 use Rattle.im_history.proofs.FitLaws.{pending-fits, rows-fit}
 use Rattle.im_history.proofs.Laws.{scn-push}
 use Rattle.im_history.proofs.RowLaws.{each_longer}
 use Rattle.im_history.proofs.TableLaws.{table-longer}
+use Rattle.im_history.proofs.ViewLaws.{HasColumns}
 use Rattle.im_names.specs.Fitting.{OfTable, QueryServes, RowsServe, columns_at}
 use Rattle.im_scan.specs.Parts.{MayAsk}
 use Rattle.im_scan.proofs.ForCallers.{MayAskOf}
@@ -46,6 +50,16 @@ made_of h (suc before) columns e = by (slice_get (tables h) before) refl e
 
 pub exists-of : (h : History) (table : ℕ) (P : List Column → Type 0) → OfTable (tables h) table P → Exists h table
 exists-of h table P of = let m = made_of h table of.columns of.are_of in record { made = m.made; is = m.is }
+
+-- a view of it that is opened has these columns
+pub opened-columns : (h : History) (who table : ℕ) (columns : List Column) → columns_at (tables h) table ≡ Some columns
+    → columns ≡ (view_at h who table).columns
+opened-columns h who table columns e = let m = made_of h table columns e in sym (ap schema_of m.is ∙ m.schema)
+
+-- what a look shows of its columns is so
+pub seen-columns : (h : History) (who table n : ℕ) (look : Look) → look ≡ look_at h who → n ≡ columns_of (table_among look.tables table)
+    → n ≡ columns_of (table_at h table)
+seen-columns h who table n look is seen = seen ∙ ap (λ (l : Look). columns_of (table_among l.tables table)) is
 
 -- ---- later it is there, as it was
 
@@ -93,16 +107,13 @@ fits-asks bound columns serves (Some row) fit values is =
     is_true true holds = refl
     is_true false holds = absurd cc
 
--- a query may be asked of each row that was ever committed
-pub asks-of : (limits : Limits) (h : History) (table : ℕ) (bound : Bound) → IsLegal limits h → OfTable (tables h) table (QueryServes bound)
-    → MayAskOf bound h table
-asks-of limits h table bound legal of = record {
+-- a query that may be asked by the columns of a view may be asked of each row of its table that was ever committed
+pub asks-of : (limits : Limits) (h : History) (view : View) (bound : Bound) → IsLegal limits h → HasColumns h view → QueryServes bound view.columns
+    → MayAskOf bound h view.table
+asks-of limits h view bound legal has serves = record {
   each = λ n rid values found.
-      of.is.rows values (ap (fits values) (sym m.schema) ∙ rows-fit limits h table n rid m.made values legal m.is found);
+      serves.rows values (ap (fits values) has.columns ∙ rows-fit limits h view.table n rid has.made values legal has.is found);
 }
-  where
-    m : MadeOf h table of.columns
-    m = made_of h table of.columns of.are_of
 
 -- and of what a session has pending
 pub asks-own : (limits : Limits) (h : History) (who table : ℕ) (bound : Bound) → IsLegal limits h → OfTable (tables h) table (QueryServes bound)

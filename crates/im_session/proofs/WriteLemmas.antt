@@ -8,6 +8,7 @@ use Rattle.im_values.specs.declared.value.Value.{Value}
 use Rattle.im_values.specs.Fits.{fits}
 use Rattle.im_group.specs.Partials.{Parts, groups_of, keeps, kept, partial}
 use Rattle.std.specs.FinMap as map_of
+use Rattle.im_history.specs.declared.cursors.TheConstants.{OWN_CURSOR}
 use Rattle.im_history.specs.declared.change.Change.{Change}
 use Rattle.im_history.specs.declared.entry.What.TheVariants.{Open}
 use Rattle.im_history.specs.declared.view.View.{View}
@@ -29,7 +30,7 @@ use Rattle.im_session.specs.inner.Writes.{AreRows, AreSeen, MayRewriteIn, Rewrit
 use Rattle.im_session.proofs.OpeningLemmas.{HasOpened, snapshot-known}
 use Rattle.im_session.proofs.AssignLemmas.{fits-assigned}
 use Rattle.im_session.proofs.OtherLemmas.{pending-after}
-use Rattle.im_session.proofs.TableLemmas.{MadeOf, columns-longer, made_of}
+use Rattle.im_session.proofs.TableLemmas.{columns-longer, made_of, opened-columns}
 use Rattle.im_statements.specs.declared.rewriting.Rewriting.{Rewriting}
 use Rattle.im_statements.specs.declared.rewriting.Rewriting.TheVariants.{Updating, Deleting}
 use Rattle.im_statements.specs.Writes.{changes_to, kept_rows, rewritten}
@@ -179,9 +180,6 @@ seen-kept h view low test (row ∷ rows) are = by (test row) (seen-kept h view (
 pub rewrites-went : (who : ℕ) (rewriting : Rewriting) (view : View) (old new : Known) → speaks old.side who ≡ true → view.scn ≤ scn old.log
     → Went old new → MayRewriteIn who rewriting view old → MayRewriteIn who rewriting view new
 rewrites-went who rewriting view old new mine known went may = record {
-  columns = may.columns;
-  are_of = subst (λ (h : History). columns_at (tables h) view.table ≡ Some may.columns) (sym went.after.log)
-      (columns-longer old.log went.after.between view.table may.columns may.are_of);
   own = may.own ∙ ap (filter (λ change. change.table == view.table)) (sym (pending-after old.side who old.log new.log mine went.after));
   fit = λ rid row saw.
       may.fit rid row (sym (ap (λ (h : History). seen_by h view rid) went.after.log ∙ seen_by-later old.log went.after.between view rid known) ∙ saw);
@@ -219,14 +217,13 @@ rewritten-fits (Updating sets) columns row serves fit = true_is (fits-assigned c
         the_true = search rules
 rewritten-fits Deleting columns row serves fit = search rules
 
--- rows that the open cursor 0 of a session sees may be rewritten
-pub may-rewrite : (who : ℕ) (rewriting : Rewriting) (view : View) (rows : List (ℕ × Row)) (now : Known) → IsScan who 0 view now
+-- rows that the open scan of a session sees may be rewritten
+pub may-rewrite : (who : ℕ) (rewriting : Rewriting) (view : View) (rows : List (ℕ × Row)) (now : Known) → IsScan who OWN_CURSOR view now
     → MayRewriteIn who rewriting view now → AreRows now.log view rows → 1 ≤ length (changes_to view.table rewriting rows)
-    → MayWrite now.log who 0 (changes_to view.table rewriting rows)
+    → MayWrite now.log who OWN_CURSOR (changes_to view.table rewriting rows)
 may-rewrite who rewriting view rows now scan may are some = record {
-  opened = record { cursor = 0; view = view };
+  opened = record { cursor = OWN_CURSOR; view = view };
   is = scan.opened;
-  exists = record { made = m.made; is = m.is };
   some = some;
   same = all-seen now.log view 0 view.table put (λ (c : Change). c.table ≡ view.table) rows are.seen (λ row inside saw. refl);
   rising = rising-seen now.log view 0 view.table put rows are.seen;
@@ -234,20 +231,15 @@ may-rewrite who rewriting view rows now scan may are some = record {
   saw = all-seen now.log view 0 view.table put (λ (c : Change). IsTrue (is_some (seen_by now.log view c.rid))) rows are.seen
       (λ row inside saw. is_some-some (seen_by now.log view row.0) row.1 saw);
   stands = all-seen now.log view 0 view.table put
-      (λ (c : Change). IsTrue (is_some (still_seen now.log who (record { cursor = 0; view = view }) c.rid))) rows are.seen
+      (λ (c : Change). IsTrue (is_some (still_seen now.log who (record { cursor = OWN_CURSOR; view = view }) c.rid))) rows are.seen
       (λ row inside saw.
-      is_some-some (still_seen now.log who (record { cursor = 0; view = view }) row.0) row.1 (still now.log who 0 view row.0 may.own ∙ saw));
-  fit = all-seen now.log view 0 view.table put (λ (c : Change). IsTrue (row_fits m.made.schema c.row)) rows are.seen
-      (λ row inside saw.
-      subst (λ (columns : List Column). IsTrue (row_fits columns (rewritten rewriting row.1))) (sym m.schema)
-      (rewritten-fits rewriting may.columns row.1 may.values (may.fit row.0 row.1 saw)));
+      is_some-some (still_seen now.log who (record { cursor = OWN_CURSOR; view = view }) row.0) row.1 (still now.log who OWN_CURSOR view row.0 may.own ∙ saw));
+  fit = all-seen now.log view 0 view.table put (λ (c : Change). IsTrue (row_fits view.columns c.row)) rows are.seen
+      (λ row inside saw. rewritten-fits rewriting view.columns row.1 may.values (may.fit row.0 row.1 saw));
 }
   where
     put : ℕ × Row → Option Row
     put row = rewritten rewriting row.1
-
-    m : MadeOf now.log view.table may.columns
-    m = made_of now.log view.table may.columns may.are_of
 
 -- ---- the opening
 
@@ -271,13 +263,13 @@ kept-rows bound rows plain =
     else record { rows = kept bound rows; groups = map_of.empty } in parts).rows) plain
 
 module _ (who table : ℕ) (old middle : Known) (view : View) (filter_is : Option (CondOf ℕ Value)) (rewriting : Rewriting)
-    (added : Added old middle who (λ at. Open 0 table) (HasOpened who 0 table view)) (lawful : IsLawful middle.limits middle.log)
+    (added : Added old middle who (λ at. Open OWN_CURSOR table) (HasOpened who OWN_CURSOR table view)) (lawful : IsLawful middle.limits middle.log)
     (of : OfTable (tables old.log) table (RewriteServes filter_is rewriting)) where
   abbrev at : History
   at = added.at
 
   abbrev entry : History
-  entry = record { who = who; what = Open 0 table } ∷ []
+  entry = record { who = who; what = Open OWN_CURSOR table } ∷ []
 
   log-is : middle.log ≡ at ++ entry
   log-is = ap (λ (s : Known). s.log) added.now
@@ -288,12 +280,12 @@ module _ (who table : ℕ) (old middle : Known) (view : View) (filter_is : Optio
       (columns-longer old.log added.after.between table of.columns of.are_of)
 
   legal : IsLegal middle.limits at
-  legal = (IsLegal-pop middle.limits at (record { who = who; what = Open 0 table }) (subst (IsLegal middle.limits) log-is lawful.legal)).0
+  legal = (IsLegal-pop middle.limits at (record { who = who; what = Open OWN_CURSOR table }) (subst (IsLegal middle.limits) log-is lawful.legal)).0
 
   pending-is : pending middle.log who ≡ pending at who
   pending-is =
       ap (λ (h : History). pending h who) log-is
-      ∙ (pending-push at (record { who = who; what = Open 0 table }) who ∙ if-same (who == who) (pending at who))
+      ∙ (pending-push at (record { who = who; what = Open OWN_CURSOR table }) who ∙ if-same (who == who) (pending at who))
     where
       if-same : {A : Type 0} (b : Bool) (x : A) → (if b then x else x) ≡ x
       if-same true x = refl
@@ -301,6 +293,9 @@ module _ (who table : ℕ) (old middle : Known) (view : View) (filter_is : Optio
 
   table-is : view.table ≡ table
   table-is = ap (λ (v : View). v.table) added.fact.1
+
+  columns-are : of.columns ≡ view.columns
+  columns-are = opened-columns at who table of.columns are-at ∙ ap (λ (v : View). v.columns) (sym added.fact.1)
 
   -- what was seen when the cursor was opened fits the table
   fit-at : (rid : ℕ) (row : Row) → seen_by at (view_at at who table) rid ≡ Some row → fits row of.columns ≡ true
@@ -311,18 +306,15 @@ module _ (who table : ℕ) (old middle : Known) (view : View) (filter_is : Optio
   -- rows that the cursor sees may be rewritten
   pub added-rewrites : MayRewriteIn who rewriting view middle
   added-rewrites = record {
-    columns = of.columns;
-    are_of =
-        ap (columns_at (tables middle.log)) table-is
-        ∙ (ap (λ (h : History). columns_at (tables h) table) log-is ∙ columns-longer at entry table of.columns are-at);
     own =
         ap (λ (v : View). v.own) added.fact.1
         ∙ (ap (filter (λ change. change.table == table)) (sym pending-is)
         ∙ ap (λ (n : ℕ). own_changes middle.log who n) (sym table-is));
     fit = λ rid row saw.
-        fit-at rid row
+        ap (fits row) (sym columns-are)
+        ∙ fit-at rid row
         (sym (ap (λ (h : History). seen_by h view rid) log-is
         ∙ (ap (λ (v : View). seen_by (at ++ entry) v rid) added.fact.1
         ∙ seen_by-later at entry (view_at at who table) rid (snapshot-known at who))) ∙ saw);
-    values = of.is.values;
+    values = subst (SetsServe rewriting) columns-are of.is.values;
   }

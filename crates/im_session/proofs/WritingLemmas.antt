@@ -2,6 +2,7 @@
 use Rattle.std.proofs.Common.{◌⊎◌, ◌≡◌, ℕ, ◌≤◌, true, List, [], ◌∷◌, length, Option, Some, None, refl, sym, ap, ◌∙◌, subst, inl, inr, arith}
 use Rattle.std.specs.List.{list_any}
 use Rattle.im_core.specs.Answers.{IsRefusal, cursor_view}
+use Rattle.im_history.specs.declared.cursors.TheConstants.{OWN_CURSOR}
 use Rattle.im_history.specs.declared.change.Change.{Change}
 use Rattle.im_history.specs.declared.entry.What.TheVariants.{Write}
 use Rattle.im_history.specs.declared.limits.Limits.{Limits}
@@ -35,9 +36,9 @@ use Rattle.im_statements.specs.Writes.{or_fault, write_or_end, write_seen}
 -- ---- the cursor stays open
 
 pub open-wrote : (who : ℕ) (old new : Known) (changes : List Change) (P : History → Type 0) → speaks old.side who ≡ true
-    → is_cursor_open old.log who 0 ≡ true → Added old new who (λ at. Write changes) P → is_cursor_open new.log who 0 ≡ true
+    → is_cursor_open old.log who OWN_CURSOR ≡ true → Added old new who (λ at. Write changes) P → is_cursor_open new.log who OWN_CURSOR ≡ true
 open-wrote who old new changes P mine is_open added =
-    ap (list_any (is_cursor 0)) (opened-added who old new (Write changes) P mine added) ∙ is_open
+    ap (list_any (is_cursor OWN_CURSOR)) (opened-added who old new (Write changes) P mine added) ∙ is_open
 
 -- ---- the write
 
@@ -48,12 +49,12 @@ write_reply-either k place marks why.NoMemory = inl refl
 write_reply-either k place marks _ = inr refl
 
 module _ (who k : ℕ) (old new late : Known) (view : View) (marks : List Served) (changes : List Change) (body : Body)
-    (mine : speaks old.side who ≡ true) (scan : IsScan who 0 view old) (shut : IsShut who new late) where
+    (mine : speaks old.side who ≡ true) (scan : IsScan who OWN_CURSOR view old) (shut : IsShut who new late) where
   -- the view of the cursor, whatever others added
-  view-after : (at : History) → After (AreOthers old.side) old.log at → cursor_view at who 0 ≡ view
+  view-after : (at : History) → After (AreOthers old.side) old.log at → cursor_view at who OWN_CURSOR ≡ view
   view-after at after =
-      view-scan who 0 view (record old { log = at })
-      (scan-went who 0 view old (record old { log = at }) mine (record { after = after; now = refl }) scan)
+      view-scan who OWN_CURSOR view (record old { log = at })
+      (scan-went who OWN_CURSOR view old (record old { log = at }) mine (record { after = after; now = refl }) scan)
 
   -- it was written
   pub write-done : (place : ℕ) → Added old new who (λ at. Write changes)
@@ -85,7 +86,7 @@ module _ (who k : ℕ) (old new late : Known) (view : View) (marks : List Served
 
       lacking : IsRest who k old plan (said (memory_reply k)) late
       lacking = rest-went who k old new late plan (said (memory_reply k)) went
-          (scan-lacks who k new late plan (speaks-went who old new went mine) (open-went who 0 old new mine went scan.is_open) shut)
+          (scan-lacks who k new late plan (speaks-went who old new went mine) (open-went who OWN_CURSOR old new mine went scan.is_open) shut)
 
       is : IsRefusal new.log (write_refusal old.limits new.log who (cursor_view new.log who 0).scn changes) told
       is = went-log old new _ found

@@ -7,11 +7,10 @@ use Rattle.im_history.specs.declared.view.View.{View}
 use Rattle.im_history.specs.Commits.{scn}
 use Rattle.im_history.specs.Grid.{extents_for}
 use Rattle.im_history.specs.Legal.{Exists}
-use Rattle.im_history.specs.Tables.{tables}
 use Rattle.im_history.specs.Views.{per_at}
-use Rattle.im_names.specs.Fitting.{OfTable, QueryServes}
+use Rattle.im_names.specs.Fitting.{QueryServes}
 use Rattle.im_reach.specs.Sides.{Known}
-use Rattle.im_scan.specs.Parts.{MayAsk}
+use Rattle.im_scan.specs.Parts.{MayAskShown}
 use Rattle.im_scan.specs.Pinned.{seen_to}
 use Rattle.im_session.specs.declared.cursor.Cursor.{Cursor}
 use Rattle.im_statements.specs.Outcomes.{OpenQuery}
@@ -32,14 +31,14 @@ pub record IsView (view : View) (now : Known) : Type 0 where
   pub few : view.rows ≤ MOST_ROWS
 
 -- a query may be asked of what a view sees
-pub record MayAskIn (bound : Bound) (view : View) (now : Known) : Type 0 where
-  pub table : OfTable (tables now.log) view.table (QueryServes bound)
-  pub own : AllByRecursion (λ change. MayAsk bound change.row) view.own
+pub record MayAskIn (bound : Bound) (view : View) : Type 0 where
+  pub rows : QueryServes bound view.columns
+  pub own : AllByRecursion (λ change. MayAskShown bound view change.row) view.own
 
 -- what is kept of a cursor: the partial answer of its query over the rows that its view sees in the extents before the next one
 pub record IsSound (kept : Cursor) (now : Known) : Type 0 where
   pub sees : IsView kept.view now
-  pub asks : MayAskIn kept.bound kept.view now
+  pub asks : MayAskIn kept.bound kept.view
   pub query : IsQuery kept.bound
   pub next : kept.next ≤ kept.view.extents
   pub part : kept.part ≡ partial kept.bound (seen_to now.log kept.view kept.next)

@@ -2,10 +2,11 @@
 use Rattle.std.specs.Prelude.{◌≡◌, ℕ, ◌+◌, ◌≤◌, min, List, [], ◌∷◌, ◌++◌, length, map, sum, Some}
 use Rattle.std.specs.List.{AllByRecursion}
 use Rattle.std.specs.Option.{option_map}
+use Rattle.im_history.specs.declared.cursors.TheConstants.{OWN_CURSOR}
 use Rattle.im_history.specs.declared.view.View.{View}
 use Rattle.im_history.specs.Cursors.{cursor_at}
 use Rattle.im_history.specs.History.{History}
-use Rattle.im_history.specs.Serving.{fetched_in}
+use Rattle.im_history.specs.Serving.{read_in}
 use Rattle.im_replies.specs.declared.reply.Reply.{Reply}
 use Rattle.im_replies.specs.declared.served.Served.{Served}
 use Rattle.im_replies.specs.Mixes.{reads}
@@ -48,7 +49,7 @@ span_next query = record (span_left query) { upto = min (query.next + 1) query.v
 
 -- all those of a view, by a statement's own scan
 abbrev pub span_own : View → Span
-span_own view = record { cursor = 0; view = view; from = 0; upto = view.extents }
+span_own view = record { cursor = OWN_CURSOR; view = view; from = 0; upto = view.extents }
 
 -- a moment of a scan: the old history went on to this one, and this one to the new one, and a cursor of the session was open here with
 -- this view
@@ -62,7 +63,7 @@ pub record IsMoment (who cursor : ℕ) (view : View) (old new at : History) : Ty
 -- a session that keeps this may read these extents for that, while the history goes from one to another
 abbrev pub IsSpan : Reading → State → ℕ → History → History → Span → Type 0
 IsSpan Nothing state who old new span = ⊥
-IsSpan Own state who old new span = (at : History) × IsMoment who 0 span.view old new at × (span ≡ span_own span.view)
+IsSpan Own state who old new span = (at : History) × IsMoment who OWN_CURSOR span.view old new at × (span ≡ span_own span.view)
 IsSpan (Next cursor) state who old new span = option_map span_next (query_at state cursor) ≡ Some span
 IsSpan (Left cursor) state who old new span = option_map span_left (query_at state cursor) ≡ Some span
 
@@ -76,7 +77,7 @@ reads_of view marks = sum (map (λ (mark : Served). reads view mark.extent mark.
 -- unit that serves there, or all rows of the extent that the view has
 abbrev pub rows_read : View → ℕ → List History → ℕ
 rows_read view extent [] = 0
-rows_read view extent (at ∷ later) = length (fetched_in at view extent) + rows_read view (extent + 1) later
+rows_read view extent (at ∷ later) = length (read_in at view extent) + rows_read view (extent + 1) later
 
 -- the extents of a view from one on and below another were read, each once and at a moment of its own. The steps grew by at most the rows
 -- that are read so

@@ -1,9 +1,10 @@
 ghost use Rattle.std.specs.Prelude.{◌≡◌, ◌<◌, ◌+◌, [], ◌∷◌, Some, true, false, not, filter, IfOk, IfErr};
 ghost use Rattle.std.specs.Option.{ForSome};
 ghost use Rattle.im_group.specs.Partials.{CanMerge};
-ghost use Rattle.im_history.specs.Cursors.{is_cursor_open};
+ghost use Rattle.im_history.specs.Cursors.{has_own_open, is_cursor_open};
 ghost use Rattle.im_history.specs.Legal.{IsLawful};
-ghost use Rattle.im_history.specs.Tables.{tables};
+ghost use Rattle.im_history.specs.Tables.{table_at, tables};
+ghost use Rattle.im_history.specs.Units.{columns_of};
 ghost use Rattle.im_history.specs.Views.{look_at};
 ghost use Rattle.im_names.specs.Fitting.{OfTable, QueryServes};
 ghost use Rattle.im_reach.specs.Sides.{speaks};
@@ -21,7 +22,7 @@ use crate::refusals::{out_of_memory, refused_reply};
 use crate::serving::{ServedPart, Wanted, answer_scan, served_part};
 use im_edge::Gate;
 use im_group::Partial;
-use im_history::{Look, Refused, View, Why};
+use im_history::{Look, Opening, Refused, View, Why};
 use im_reach::Reach;
 use im_replies::{Aim, Body, Reply, Served};
 use im_syntax::Bound;
@@ -55,15 +56,17 @@ pub struct OpenOutcome {
     pub cursor: Option<Cursor>,
 }
 
-/// Opens a cursor for a query. It was served nothing yet. Where memory is out before the call of the store, the refusal is at no place.
+/// Opens a cursor for a query, on a table that was seen to have so many columns. It was served nothing yet. Where memory is out before the call of the store, the refusal is at no place.
 pub fn open_cursor<R: Wait, H: Reach<ColumnUnit>, G: Gate>(
     context: &Context<R, G>,
     reach: &mut H,
     number: u32,
+    columns: u32,
     bound: Bound,
 ) -> Result<Cursor, Refused>
     requires session { context.now.who < NUMBERS }
     requires speaks { speaks (H.known reach.old).side context.now.who ≡ true }
+    requires seen { columns ≡ columns_of (table_at (H.known reach.old).log bound.table) }
     requires serves { OfTable (tables (H.known reach.old).log) bound.table (QueryServes bound) }
     ensures opened { IfOk result (λ cursor. inner.IsJustOpened context.now.who number bound cursor (H.known reach.old) (H.known reach.new)) }
     ensures kept { IfOk result (λ cursor. inner.IsKept context.now.who cursor (H.known reach.new)) }
@@ -77,7 +80,11 @@ pub fn open_cursor<R: Wait, H: Reach<ColumnUnit>, G: Gate>(
             why: Why::NoMemory,
         });
     };
-    match reach.open_cursor(context.outside.rt, context.who, number, bound.table) {
+    let opening = Opening {
+        table: bound.table,
+        columns,
+    };
+    match reach.open_cursor(context.outside.rt, context.who, number, opening) {
         Ok(view) => Ok(Cursor {
             number,
             bound,
@@ -98,18 +105,20 @@ pub fn open_query<R: Wait, H: Reach<ColumnUnit>, G: Gate>(
     context: &Context<R, G>,
     reach: &mut H,
     number: u32,
+    columns: u32,
     bound: Bound,
 ) -> OpenOutcome
     requires session { context.now.who < NUMBERS }
     requires speaks { speaks (H.known reach.old).side context.now.who ≡ true }
-    requires shut { is_cursor_open (H.known reach.old).log context.now.who 0 ≡ false }
+    requires shut { has_own_open (H.known reach.old).log context.now.who ≡ false }
+    requires seen { columns ≡ columns_of (table_at (H.known reach.old).log bound.table) }
     requires serves { OfTable (tables (H.known reach.old).log) bound.table (QueryServes bound) }
     ensures rest { IsRest context.now.who 0 (H.known reach.old) (plan.open_query context.now.who number bound)
         (inner.opening_outcome result.reply result.cursor) (H.known reach.new) }
     ensures agrees { ForSome result.cursor (λ kept. inner.IsKept context.now.who kept (H.known reach.new)) }
     ensures fresh { ForSome result.cursor (λ kept. is_cursor_open (H.known reach.old).log context.now.who kept.number ≡ false) }
 {
-    match open_cursor(context, reach, number, bound) {
+    match open_cursor(context, reach, number, columns, bound) {
         Ok(cursor) => OpenOutcome {
             reply: Reply::settled(
                 context.outside.alloc,
@@ -174,7 +183,7 @@ pub fn fetch<R: Wait, H: Reach<ColumnUnit>, G: Gate, L: Ledger>(
 ) -> FetchOutcome
     requires session { context.now.who < NUMBERS }
     requires speaks { speaks (H.known reach.old).side context.now.who ≡ true }
-    requires shut { is_cursor_open (H.known reach.old).log context.now.who 0 ≡ false }
+    requires shut { has_own_open (H.known reach.old).log context.now.who ≡ false }
     requires look { look.now ≡ look_at (H.known reach.old).log context.now.who }
     requires agrees { inner.IsKept context.now.who kept.now (H.known reach.old) }
     ensures rest { IsRest context.now.who 0 (H.known reach.old) (plan.fetch_query (H.known reach.old).log (query_of kept.now))
@@ -215,7 +224,7 @@ pub fn step<R: Wait, H: Reach<ColumnUnit>, G: Gate, L: Ledger>(
 ) -> StepOutcome
     requires session { context.now.who < NUMBERS }
     requires speaks { speaks (H.known reach.old).side context.now.who ≡ true }
-    requires shut { is_cursor_open (H.known reach.old).log context.now.who 0 ≡ false }
+    requires shut { has_own_open (H.known reach.old).log context.now.who ≡ false }
     requires look { look.now ≡ look_at (H.known reach.old).log context.now.who }
     requires agrees { inner.IsKept context.now.who kept.old (H.known reach.old) }
     ensures rest { IsRest context.now.who 0 (H.known reach.old) (plan.step_query (H.known reach.old).log (query_of kept.old))

@@ -1,6 +1,6 @@
 ghost use Rattle.std.specs.Prelude.{◌≡◌, ◌<◌, ◌≤◌, Some, true, false};
 ghost use Rattle.im_history.specs.declared.entry.What.TheVariants as what;
-ghost use Rattle.im_history.specs.Cursors.{is_cursor_open};
+ghost use Rattle.im_history.specs.Cursors.{has_own_open};
 ghost use Rattle.im_history.specs.Legal.{MaySetMemory};
 ghost use Rattle.im_history.specs.Transactions.{is_open};
 ghost use Rattle.im_plan.specs.Plan.{End};
@@ -58,7 +58,7 @@ fn join_memory<R: Wait, H: Reach<ColumnUnit>, G: Gate>(
 ) -> Reply
     requires session { context.now.who < NUMBERS }
     requires speaks { speaks (H.known reach.old).side context.now.who ≡ true }
-    requires shut { is_cursor_open (H.known reach.old).log context.now.who 0 ≡ false }
+    requires shut { has_own_open (H.known reach.old).log context.now.who ≡ false }
     requires may { MaySetMemory (H.known reach.old).log context.now.who made.table }
     ensures { IsRest context.now.who entries (H.known reach.old)
         (decide_by (λ here. what.Memory made.table (Some priority)) (λ here. End (said (inner.created_reply made)))) (said result)
@@ -82,7 +82,7 @@ pub fn create<R: Wait, H: Reach<ColumnUnit>, G: Gate>(
 ) -> Reply
     requires session { context.now.who < NUMBERS }
     requires speaks { speaks (H.known reach.old).side context.now.who ≡ true }
-    requires shut { is_cursor_open (H.known reach.old).log context.now.who 0 ≡ false }
+    requires shut { has_own_open (H.known reach.old).log context.now.who ≡ false }
     requires idle { is_open (H.known reach.old).log context.now.who ≡ false }
     requires few { entries ≤ 1 }
     ensures { IsRest context.now.who entries (H.known reach.old) (plan.create_table table.name table.schema table.shape table.memory)
@@ -127,7 +127,7 @@ pub fn alter<R: Wait, H: Reach<ColumnUnit>, G: Gate>(
 ) -> Reply
     requires session { context.now.who < NUMBERS }
     requires speaks { speaks (H.known reach.old).side context.now.who ≡ true }
-    requires shut { is_cursor_open (H.known reach.old).log context.now.who 0 ≡ false }
+    requires shut { has_own_open (H.known reach.old).log context.now.who ≡ false }
     requires may { MaySetMemory (H.known reach.old).log context.now.who table }
     ensures { IsRest context.now.who entries (H.known reach.old) (plan.alter_table table priority) (said result) (H.known reach.new) }
 {

@@ -1,6 +1,7 @@
 ghost use Rattle.std.specs.Prelude.{◌≡◌, ◌<◌, true, false};
-ghost use Rattle.im_history.specs.Cursors.{is_cursor_open};
+ghost use Rattle.im_history.specs.Cursors.{has_own_open};
 ghost use Rattle.im_history.specs.Legal.{MayInsert};
+ghost use Rattle.im_history.specs.Units.{opening_at};
 ghost use Rattle.im_reach.specs.Sides.{speaks};
 ghost use Rattle.im_session.specs.inner.Rests.{IsRest};
 ghost use Rattle.im_statements.specs.Outcomes.{said};
@@ -9,10 +10,11 @@ ghost use Rattle.im_statements.specs.Writes as plan;
 use crate::context::Context;
 use crate::refusals::refused_reply;
 use im_edge::Gate;
+use im_history::Opening;
 use im_reach::Reach;
 use im_replies::{Aim, Body, Reply};
 use im_unit::ColumnUnit;
-use im_values::Row;
+use im_values::Rows;
 use im_values::limits::NUMBERS;
 use std::sync::Wait;
 
@@ -20,18 +22,19 @@ use std::sync::Wait;
 pub fn insert<R: Wait, H: Reach<ColumnUnit>, G: Gate>(
     context: &Context<R, G>,
     reach: &mut H,
-    table: u32,
-    rows: Vec<Row>,
+    opening: Opening,
+    rows: Rows,
 ) -> Reply
     requires session { context.now.who < NUMBERS }
     requires speaks { speaks (H.known reach.old).side context.now.who ≡ true }
-    requires shut { is_cursor_open (H.known reach.old).log context.now.who 0 ≡ false }
-    requires may { MayInsert (H.known reach.old).log table rows.items }
-    ensures { IsRest context.now.who 0 (H.known reach.old) (plan.insert (H.known reach.old).limits context.now.who table rows.items) (said result)
+    requires shut { has_own_open (H.known reach.old).log context.now.who ≡ false }
+    requires seen { opening ≡ opening_at (H.known reach.old).log opening.table }
+    requires may { MayInsert (H.known reach.old).log opening.table rows }
+    ensures { IsRest context.now.who 0 (H.known reach.old) (plan.insert (H.known reach.old).limits context.now.who opening.table rows) (said result)
         (H.known reach.new) }
 {
     let count = rows.len() as u64;
-    match reach.insert(context.outside.rt, context.who, table, rows) {
+    match reach.insert(context.outside.rt, context.who, opening, rows) {
         Ok(wrote) => Reply::settled(
             context.outside.alloc,
             wrote.place,

@@ -8,7 +8,7 @@
 //! session keeps of its cursors agrees with the history before and after (`specs/Sessions.antt`, `specs/Cursors.antt`).
 //!
 //! The contract of each inner function says what is left of its line (`specs/inner/Rests.antt`). A statement that scans opens
-//! cursor 0 and serves its extents each at a turn of its own (`specs/inner/Scans.antt`).
+//! a cursor of its own and serves its extents each at a turn of its own (`specs/inner/Scans.antt`).
 //!
 //! Start with `session.rt` and `playing.rt`, then `transaction.rt`, whose statements make one call each, then `cursor.rt`,
 //! `serving.rt` and `scan.rt`.

@@ -1,7 +1,8 @@
 ghost use Rattle.std.specs.Prelude.{◌≡◌, ◌<◌, true, false};
 ghost use Rattle.std.specs.List.{position};
-ghost use Rattle.im_history.specs.Cursors.{is_cursor_open};
-ghost use Rattle.im_history.specs.Tables.{tables};
+ghost use Rattle.im_history.specs.Cursors.{has_own_open};
+ghost use Rattle.im_history.specs.Tables.{table_at, tables};
+ghost use Rattle.im_history.specs.Units.{columns_of};
 ghost use Rattle.im_history.specs.Views.{look_at};
 ghost use Rattle.im_names.specs.Fitting.{OfTable, QueryServes, Serves};
 ghost use Rattle.im_reach.specs.Sides.{speaks};
@@ -25,7 +26,7 @@ use crate::scan::{Purpose, scan};
 use crate::statement::{define, is_definition};
 use crate::transaction::{commit, roll_back, set_mode};
 use im_edge::Gate;
-use im_history::Look;
+use im_history::{Look, Opening};
 use im_names::{Resolved, resolve};
 use im_reach::Reach;
 use im_replies::{Body, Fault, Reply};
@@ -90,7 +91,7 @@ fn play<R: Wait, H: Reach<ColumnUnit>, G: Gate, L: Ledger>(
     requires look { look.now ≡ look_at (H.known reach.old).log context.now.who }
     requires serves { Serves (tables (H.known reach.old).log) resolved }
     requires agrees { AreKept context.now.who kept.old.items (H.known reach.old) }
-    requires shut { is_cursor_open (H.known reach.old).log context.now.who 0 ≡ false }
+    requires shut { has_own_open (H.known reach.old).log context.now.who ≡ false }
     requires other { defines resolved ≡ false }
     ensures run { IsRun context.now.who
         (plan.resolved_plan (H.known reach.old).limits context.now.who (state_of kept.old.items) (H.known reach.old).log resolved)
@@ -99,9 +100,18 @@ fn play<R: Wait, H: Reach<ColumnUnit>, G: Gate, L: Ledger>(
         (H.known reach.new).log }
 {
     match resolved {
-        Resolved::Select(bound) => scan(context, reach, bound, Purpose::Answer, steps),
-        Resolved::Explain(bound) => scan(context, reach, bound, Purpose::Explain, steps),
-        Resolved::Insert { table, rows } => insert(context, reach, table, rows.into_items()),
+        Resolved::Select(bound) => {
+            let columns = look.tables.columns_of(bound.table);
+            scan(context, reach, columns, bound, Purpose::Answer, steps)
+        }
+        Resolved::Explain(bound) => {
+            let columns = look.tables.columns_of(bound.table);
+            scan(context, reach, columns, bound, Purpose::Explain, steps)
+        }
+        Resolved::Insert { table, rows } => {
+            let columns = look.tables.columns_of(table);
+            insert(context, reach, Opening { table, columns }, rows)
+        }
         Resolved::Update {
             table,
             filter,
@@ -117,7 +127,10 @@ fn play<R: Wait, H: Reach<ColumnUnit>, G: Gate, L: Ledger>(
         Resolved::SetMode(mode) => set_mode(context, reach, mode),
         Resolved::Commit => commit(context, reach),
         Resolved::Rollback => roll_back(context, reach, look),
-        Resolved::OpenFor { cursor, bound } => open(context, reach, kept, cursor, bound),
+        Resolved::OpenFor { cursor, bound } => {
+            let columns = look.tables.columns_of(bound.table);
+            open(context, reach, kept, cursor, columns, bound)
+        }
         Resolved::Step(cursor) => on_cursor(context, reach, kept, look, cursor, Use::Step, steps),
         Resolved::Fetch(cursor) => on_cursor(context, reach, kept, look, cursor, Use::Fetch, steps),
         Resolved::Close(cursor) => on_cursor(context, reach, kept, look, cursor, Use::Close, steps),
@@ -141,10 +154,12 @@ fn open<R: Wait, H: Reach<ColumnUnit>, G: Gate>(
     reach: &mut H,
     kept: &mut Vec<Cursor>,
     number: u32,
+    columns: u32,
     bound: Bound,
 ) -> Reply
     requires session { context.now.who < NUMBERS }
     requires speaks { speaks (H.known reach.old).side context.now.who ≡ true }
+    requires seen { columns ≡ columns_of (table_at (H.known reach.old).log bound.table) }
     requires serves { OfTable (tables (H.known reach.old).log) bound.table (QueryServes bound) }
     requires agrees { AreKept context.now.who kept.old.items (H.known reach.old) }
     ensures { IsRun context.now.who (cursors.open_query context.now.who number bound) kept.old.items (H.known reach.old) result
@@ -154,7 +169,7 @@ fn open<R: Wait, H: Reach<ColumnUnit>, G: Gate>(
         drop(bound);
         return out_of_memory(context.outside.alloc, 0);
     }
-    let OpenOutcome { reply, cursor } = open_query(context, reach, number, bound);
+    let OpenOutcome { reply, cursor } = open_query(context, reach, number, columns, bound);
     match cursor {
         Some(opened) => {
             kept.push(opened).unwrap();

@@ -1,7 +1,8 @@
 ghost use Rattle.std.specs.Prelude.{◌≡◌, ◌<◌, ◌≤◌, ◌⊎◌, length, true, false};
-ghost use Rattle.im_history.specs.Cursors.{is_cursor_open};
+ghost use Rattle.im_history.specs.Cursors.{has_own_open, is_cursor_open};
 ghost use Rattle.im_history.specs.Legal.{MayWrite};
-ghost use Rattle.im_history.specs.Tables.{tables};
+ghost use Rattle.im_history.specs.Tables.{table_at, tables};
+ghost use Rattle.im_history.specs.Units.{columns_of};
 ghost use Rattle.im_history.specs.Views.{look_at};
 ghost use Rattle.im_names.specs.Fitting.{OfTable};
 ghost use Rattle.im_reach.specs.Sides.{Known, speaks};
@@ -21,7 +22,7 @@ use crate::refusals::{out_of_memory, write_refused};
 use crate::scan::{Purpose, scan};
 use crate::serving::{Wanted, gather};
 use im_edge::Gate;
-use im_history::{Change, Look, Mode, View};
+use im_history::{Change, Look, Mode, OWN_CURSOR, View};
 use im_reach::Reach;
 use im_replies::{Body, Fault, Reply, Served};
 use im_statements::Rewriting;
@@ -46,7 +47,7 @@ pub fn rewrite<R: Wait, H: Reach<ColumnUnit>, G: Gate, L: Ledger>(
 ) -> Reply
     requires session { context.now.who < NUMBERS }
     requires speaks { speaks (H.known reach.old).side context.now.who ≡ true }
-    requires shut { is_cursor_open (H.known reach.old).log context.now.who 0 ≡ false }
+    requires shut { has_own_open (H.known reach.old).log context.now.who ≡ false }
     requires look { look.now ≡ look_at (H.known reach.old).log context.now.who }
     requires serves { OfTable (tables (H.known reach.old).log) table (inner.RewriteServes filter rewriting) }
     ensures rest { IsRest context.now.who 0 (H.known reach.old)
@@ -65,7 +66,8 @@ pub fn rewrite<R: Wait, H: Reach<ColumnUnit>, G: Gate, L: Ledger>(
             )
         }
         Mode::Committed | Mode::Serializable => {
-            rewrite_rows(context, reach, table, filter, rewriting, steps)
+            let columns = look.tables.columns_of(table);
+            rewrite_rows(context, reach, table, columns, filter, rewriting, steps)
         }
     }
 }
@@ -75,20 +77,29 @@ fn rewrite_rows<R: Wait, H: Reach<ColumnUnit>, G: Gate, L: Ledger>(
     context: &Context<R, G>,
     reach: &mut H,
     table: u32,
+    columns: u32,
     filter: Option<Filter>,
     rewriting: Rewriting,
     steps: &mut Steps<L>,
 ) -> Reply
     requires session { context.now.who < NUMBERS }
     requires speaks { speaks (H.known reach.old).side context.now.who ≡ true }
-    requires shut { is_cursor_open (H.known reach.old).log context.now.who 0 ≡ false }
+    requires shut { has_own_open (H.known reach.old).log context.now.who ≡ false }
+    requires seen { columns ≡ columns_of (table_at (H.known reach.old).log table) }
     requires serves { OfTable (tables (H.known reach.old).log) table (inner.RewriteServes filter rewriting) }
     ensures rest { IsRest context.now.who 0 (H.known reach.old)
         (plan.rewrite (H.known reach.old).limits context.now.who table filter rewriting) (said result) (H.known reach.new) }
     ensures ticks { (state : State) → IsCounted Own state context.now.who result steps.old steps.new (H.known reach.old).log (H.known reach.new).log }
 {
     let bound = condition_query(context.outside.alloc, table, filter);
-    scan(context, reach, bound, Purpose::Rewrite(rewriting), steps)
+    scan(
+        context,
+        reach,
+        columns,
+        bound,
+        Purpose::Rewrite(rewriting),
+        steps,
+    )
 }
 
 /// The query of a condition alone. It takes no memory.
@@ -129,7 +140,7 @@ pub fn rewrite_seen<R: Wait, H: Reach<ColumnUnit>, G: Gate, L: Ledger>(
     }
 }
 
-/// Rewrites rows that the open cursor 0 of a session saw. The cursor is still open then.
+/// Rewrites rows that the open scan of a session saw. The scan is still open then.
 fn rewrite_kept<R: Wait, H: Reach<ColumnUnit>, G: Gate>(
     context: &Context<R, G>,
     reach: &mut H,
@@ -140,11 +151,11 @@ fn rewrite_kept<R: Wait, H: Reach<ColumnUnit>, G: Gate>(
 ) -> Reply
     requires session { context.now.who < NUMBERS }
     requires speaks { speaks (H.known reach.old).side context.now.who ≡ true }
-    requires scan { IsScan context.now.who 0 view.now (H.known reach.old) }
+    requires scan { IsScan context.now.who OWN_CURSOR view.now (H.known reach.old) }
     requires may { inner.MayRewriteIn context.now.who rewriting.now view.now (H.known reach.old) }
     requires rows { inner.AreRows (H.known reach.old).log view.now rows.items }
     ensures side { (H.known reach.new).side ≡ (H.known reach.old).side }
-    ensures cursor { is_cursor_open (H.known reach.new).log context.now.who 0 ≡ true }
+    ensures cursor { is_cursor_open (H.known reach.new).log context.now.who OWN_CURSOR ≡ true }
     ensures rest { (late : Known) → IsShut context.now.who (H.known reach.new) late →
         IsRest context.now.who 1 (H.known reach.old) (plan.write_or_end (H.known reach.old).limits context.now.who view.now.place view.now.scn marks
         (plan.changes_to view.now.table rewriting.now rows.items) (plan.written rewriting.now)) (said result) late }
@@ -157,7 +168,7 @@ fn rewrite_kept<R: Wait, H: Reach<ColumnUnit>, G: Gate>(
     }
 }
 
-/// Writes changes to rows that the open cursor 0 of a session saw, and answers how many. The cursor is still open then.
+/// Writes changes to rows that the open scan of a session saw, and answers how many. The scan is still open then.
 fn write_changes<R: Wait, H: Reach<ColumnUnit>, G: Gate>(
     context: &Context<R, G>,
     reach: &mut H,
@@ -168,10 +179,10 @@ fn write_changes<R: Wait, H: Reach<ColumnUnit>, G: Gate>(
 ) -> Reply
     requires session { context.now.who < NUMBERS }
     requires speaks { speaks (H.known reach.old).side context.now.who ≡ true }
-    requires scan { IsScan context.now.who 0 view.now (H.known reach.old) }
-    requires may { 1 ≤ length changes.items → MayWrite (H.known reach.old).log context.now.who 0 changes.items }
+    requires scan { IsScan context.now.who OWN_CURSOR view.now (H.known reach.old) }
+    requires may { 1 ≤ length changes.items → MayWrite (H.known reach.old).log context.now.who OWN_CURSOR changes.items }
     ensures side { (H.known reach.new).side ≡ (H.known reach.old).side }
-    ensures cursor { is_cursor_open (H.known reach.new).log context.now.who 0 ≡ true }
+    ensures cursor { is_cursor_open (H.known reach.new).log context.now.who OWN_CURSOR ≡ true }
     ensures rest { (late : Known) → IsShut context.now.who (H.known reach.new) late →
         IsRest context.now.who 1 (H.known reach.old) (plan.write_or_end (H.known reach.old).limits context.now.who view.now.place view.now.scn marks
         changes.items (plan.written rewriting.now)) (said result) late }
@@ -187,7 +198,7 @@ fn write_changes<R: Wait, H: Reach<ColumnUnit>, G: Gate>(
         };
     }
     let rows = changes.len() as u64;
-    match reach.write(context.outside.rt, context.who, 0, changes) {
+    match reach.write(context.outside.rt, context.who, OWN_CURSOR, changes) {
         Ok(place) => Reply {
             place: Some(place),
             marks,

@@ -1,6 +1,7 @@
 ghost use Rattle.std.specs.Prelude.{◌≡◌, ◌<◌, map, true, false, IfOk};
-ghost use Rattle.im_history.specs.Cursors.{is_cursor_open};
-ghost use Rattle.im_history.specs.Tables.{tables};
+ghost use Rattle.im_history.specs.Cursors.{has_own_open};
+ghost use Rattle.im_history.specs.Tables.{table_at, tables};
+ghost use Rattle.im_history.specs.Units.{columns_of};
 ghost use Rattle.im_names.specs.Fitting.{OfTable, QueryServes};
 ghost use Rattle.im_reach.specs.Sides.{speaks};
 ghost use Rattle.im_session.specs.declared.scan.Purpose.TheVariants as purpose;
@@ -16,6 +17,7 @@ use crate::refusals::{out_of_memory, refused_reply};
 use crate::rewriting::rewrite_seen;
 use crate::serving::{Gathered, Wanted, answer_scan, gather};
 use im_edge::Gate;
+use im_history::OWN_CURSOR;
 use im_reach::Reach;
 use im_replies::{Aim, Body, How, Reply, Served};
 use im_statements::Rewriting;
@@ -38,39 +40,42 @@ pub enum Purpose {
     Rewrite(Rewriting),
 }
 
-/// Plays a statement that scans a table by itself: cursor 0 is opened, serves its purpose, and is closed.
+/// Plays a statement that scans a table by itself, which was seen to have so many columns: a cursor of its own is opened, serves its
+/// purpose, and is closed.
 ///
 /// Each extent is served by itself: others may change the table meanwhile, and what is seen is what there was at the opening. Each row
 /// that is read from the blocks is one step at most.
 pub fn scan<R: Wait, H: Reach<ColumnUnit>, G: Gate, L: Ledger>(
     context: &Context<R, G>,
     reach: &mut H,
+    columns: u32,
     bound: Bound,
     purpose: Purpose,
     steps: &mut Steps<L>,
 ) -> Reply
     requires session { context.now.who < NUMBERS }
     requires speaks { speaks (H.known reach.old).side context.now.who ≡ true }
-    requires shut { is_cursor_open (H.known reach.old).log context.now.who 0 ≡ false }
+    requires shut { has_own_open (H.known reach.old).log context.now.who ≡ false }
+    requires seen { columns ≡ columns_of (table_at (H.known reach.old).log bound.table) }
     requires serves { OfTable (tables (H.known reach.old).log) bound.table (QueryServes bound) }
     requires may { MayScanFor purpose bound (tables (H.known reach.old).log) }
     ensures rest { IsRest context.now.who 0 (H.known reach.old) (plan_of (H.known reach.old).limits context.now.who bound purpose) (said result)
         (H.known reach.new) }
     ensures ticks { (state : State) → IsCounted Own state context.now.who result steps.old steps.new (H.known reach.old).log (H.known reach.new).log }
 {
-    match open_cursor(context, reach, 0, bound) {
+    match open_cursor(context, reach, OWN_CURSOR, columns, bound) {
         Ok(cursor) => {
             let reply = use_scan(context, reach, &cursor, &purpose, steps);
             drop(cursor);
             drop(purpose);
-            reach.shut(context.outside.rt, context.who, 0);
+            reach.shut(context.outside.rt, context.who, OWN_CURSOR);
             reply
         }
         Err(refused) => {
             drop(purpose);
             refused_reply(
                 context.outside.alloc,
-                Aim::Opening { cursor: 0 },
+                Aim::Opening { cursor: OWN_CURSOR },
                 0,
                 refused,
             )
@@ -78,7 +83,7 @@ pub fn scan<R: Wait, H: Reach<ColumnUnit>, G: Gate, L: Ledger>(
     }
 }
 
-/// Lets a scan whose cursor 0 is open serve its purpose. The cursor is still open then.
+/// Lets an open scan serve its purpose. It is still open then.
 fn use_scan<R: Wait, H: Reach<ColumnUnit>, G: Gate, L: Ledger>(
     context: &Context<R, G>,
     reach: &mut H,

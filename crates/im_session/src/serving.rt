@@ -224,6 +224,7 @@ impl Answered {
 }
 
 /// Serves a scan with an open cursor all extents from its next one on, and answers its query over all rows that the cursor sees.
+#[tactic(auto, using(crate::proofs::ServingLemmas::answer_is))]
 pub fn answer_scan<R: Wait, H: Reach<ColumnUnit>, G: Gate, L: Ledger>(
     context: &Context<R, G>,
     reach: &mut H,

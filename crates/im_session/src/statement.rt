@@ -1,5 +1,5 @@
 ghost use Rattle.std.specs.Prelude.{◌≡◌, ◌<◌, ◌≤◌, true, false};
-ghost use Rattle.im_history.specs.Cursors.{is_cursor_open};
+ghost use Rattle.im_history.specs.Cursors.{has_own_open};
 ghost use Rattle.im_history.specs.Tables.{tables};
 ghost use Rattle.im_history.specs.Transactions.{is_open};
 ghost use Rattle.im_history.specs.Views.{look_at};
@@ -33,7 +33,7 @@ pub fn define<R: Wait, H: Reach<ColumnUnit>, G: Gate>(
 ) -> Reply
     requires session { context.now.who < NUMBERS }
     requires speaks { speaks (H.known reach.old).side context.now.who ≡ true }
-    requires shut { is_cursor_open (H.known reach.old).log context.now.who 0 ≡ false }
+    requires shut { has_own_open (H.known reach.old).log context.now.who ≡ false }
     requires statement { IsStmt statement.now }
     requires definition { plan.is_definition statement.now ≡ true }
     ensures { (state : State) → IsRest context.now.who 0 (H.known reach.old) (plan.definition_plan (H.known reach.old).limits context.now.who state statement.now)
@@ -62,7 +62,7 @@ fn define_later<R: Wait, H: Reach<ColumnUnit>, G: Gate>(
 ) -> Reply
     requires session { context.now.who < NUMBERS }
     requires speaks { speaks (H.known reach.old).side context.now.who ≡ true }
-    requires shut { is_cursor_open (H.known reach.old).log context.now.who 0 ≡ false }
+    requires shut { has_own_open (H.known reach.old).log context.now.who ≡ false }
     requires idle { is_open (H.known reach.old).log context.now.who ≡ false }
     requires statement { IsStmt statement.now }
     requires definition { plan.is_definition statement.now ≡ true }
@@ -89,7 +89,7 @@ fn define_named<R: Wait, H: Reach<ColumnUnit>, G: Gate>(
 ) -> Reply
     requires session { context.now.who < NUMBERS }
     requires speaks { speaks (H.known reach.old).side context.now.who ≡ true }
-    requires shut { is_cursor_open (H.known reach.old).log context.now.who 0 ≡ false }
+    requires shut { has_own_open (H.known reach.old).log context.now.who ≡ false }
     requires idle { is_open (H.known reach.old).log context.now.who ≡ false }
     requires statement { IsStmt statement.now }
     requires definition { plan.is_definition statement.now ≡ true }
@@ -113,7 +113,7 @@ fn define_resolved<R: Wait, H: Reach<ColumnUnit>, G: Gate>(
 ) -> Reply
     requires session { context.now.who < NUMBERS }
     requires speaks { speaks (H.known reach.old).side context.now.who ≡ true }
-    requires shut { is_cursor_open (H.known reach.old).log context.now.who 0 ≡ false }
+    requires shut { has_own_open (H.known reach.old).log context.now.who ≡ false }
     requires idle { is_open (H.known reach.old).log context.now.who ≡ false }
     requires definition { defines resolved ≡ true }
     requires serves { Serves (tables (H.known reach.old).log) resolved }

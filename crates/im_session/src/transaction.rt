@@ -1,5 +1,5 @@
 ghost use Rattle.std.specs.Prelude.{◌≡◌, ◌<◌, true, false};
-ghost use Rattle.im_history.specs.Cursors.{is_cursor_open};
+ghost use Rattle.im_history.specs.Cursors.{has_own_open};
 ghost use Rattle.im_history.specs.Views.{look_at};
 ghost use Rattle.im_reach.specs.Sides.{speaks};
 ghost use Rattle.im_session.specs.inner.Rests.{IsRest};
@@ -27,7 +27,7 @@ pub fn set_mode<R: Wait, H: Reach<ColumnUnit>, G: Gate>(
 ) -> Reply
     requires session { context.now.who < NUMBERS }
     requires speaks { speaks (H.known reach.old).side context.now.who ≡ true }
-    requires shut { is_cursor_open (H.known reach.old).log context.now.who 0 ≡ false }
+    requires shut { has_own_open (H.known reach.old).log context.now.who ≡ false }
     ensures { IsRest context.now.who 0 (H.known reach.old) (plan.set_mode context.now.who mode) (said result) (H.known reach.new) }
 {
     match reach.begin(context.outside.rt, context.who, mode) {
@@ -47,7 +47,7 @@ pub fn commit<R: Wait, H: Reach<ColumnUnit>, G: Gate>(
 ) -> Reply
     requires session { context.now.who < NUMBERS }
     requires speaks { speaks (H.known reach.old).side context.now.who ≡ true }
-    requires shut { is_cursor_open (H.known reach.old).log context.now.who 0 ≡ false }
+    requires shut { has_own_open (H.known reach.old).log context.now.who ≡ false }
     ensures { IsRest context.now.who 0 (H.known reach.old) plan.commit (said result) (H.known reach.new) }
 {
     match reach.commit(context.outside.rt, context.who) {

@@ -1,6 +1,8 @@
-pub mod AgreementLaws
+mod StatementLaws
 pub mod AnswerLaws
-mod KeptLaws
+pub mod CursorLaws
+pub mod LeavingLaws
+pub mod LineLaws
 pub mod OtherLaws
+pub mod PlanLaws
 pub mod RoundLaws
-pub mod TransactionLaws

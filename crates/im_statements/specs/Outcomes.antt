@@ -46,10 +46,9 @@ kept_after (Opens query) state = record { queries = state.queries ++ query ∷ [
 kept_after (Steps cursor) state = record { queries = map (stepped cursor) state.queries }
 kept_after (Closes cursor) state = record { queries = filter (λ query. not (is_query cursor query)) state.queries }
 
--- what comes of a line: its reply and what it does to what is kept; or it has not come to its end in so many rounds
+-- what comes of a line: its reply, and what it does to what is kept
 pub data Outcome : Type 0 where
   Replied : Reply → Effect → Outcome
-  Unfinished : Outcome
 
 -- a reply, where nothing changes of what is kept
 abbrev pub said : Reply → Outcome

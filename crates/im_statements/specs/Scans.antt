@@ -2,6 +2,7 @@
 use Rattle.std.specs.Prelude.{ℕ, zero, suc, ◌+◌, ◌-◌, false, List, [], ◌∷◌, ◌++◌, length, map, Option, Some}
 use Rattle.im_values.specs.declared.value.Value.{Value}
 use Rattle.im_group.specs.Answers.{answer}
+use Rattle.im_history.specs.declared.cursors.TheConstants.{OWN_CURSOR}
 use Rattle.im_history.specs.declared.entry.What.TheVariants.{Open, Shut}
 use Rattle.im_history.specs.declared.view.View.{View}
 use Rattle.im_history.specs.History.{History}
@@ -43,16 +44,16 @@ serve_from view filter extent on = serve view filter (view.extents - extent) ext
 
 -- ---- a statement's own scan
 
--- cursor 0 is opened on a table, unless that is refused, and all extents are served. What the line does then knows the history
+-- a cursor of the statement's own is opened on a table, unless that is refused, and all extents are served. What the line does then knows the history
 -- at the opening, the view, and the marks
 abbrev pub scan : ℕ → ℕ → Option (CondOf ℕ Value) → (History → View → List Served → Plan Outcome) → Plan Outcome
 scan who table filter on =
-    attempt (fault_of (aim.Opening 0)) (λ at. open_refusal at who 0) (λ at. Open 0 table) (λ at.
+    attempt (fault_of (aim.Opening OWN_CURSOR)) (λ at. open_refusal at who OWN_CURSOR) (λ at. Open OWN_CURSOR table) (λ at.
     serve_from (view_at at who table) filter 0 (on at (view_at at who table)))
 
 -- the scan ends, and the line with this reply
 abbrev pub end_scan : Reply → Plan Outcome
-end_scan reply = Turn false (λ here. Some (Shut 0)) (λ here. End (said reply))
+end_scan reply = Turn false (λ here. Some (Shut OWN_CURSOR)) (λ here. End (said reply))
 
 -- ---- statements that read
 

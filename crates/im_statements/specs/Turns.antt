@@ -1,10 +1,10 @@
 -- What plans of statements are made of: looks, entries that may be refused, and replies.
-use Rattle.std.specs.Prelude.{ℕ, true, false, List, [], length, Option, Some, None, if◌then◌else◌}
+use Rattle.std.specs.Prelude.{ℕ, true, false, List, [], ◌∷◌, length, Option, Some, None, if◌then◌else◌}
 use Rattle.im_history.specs.declared.entry.What.{What}
 use Rattle.im_history.specs.declared.entry.What.TheVariants as what
 use Rattle.im_history.specs.declared.refused.Why.{Why}
 use Rattle.im_history.specs.declared.refused.Why.TheVariants as why
-use Rattle.im_history.specs.Cursors.{is_cursor_open}
+use Rattle.im_history.specs.Cursors.{is_cursor_open, own_cursors}
 use Rattle.im_history.specs.History.{History}
 use Rattle.im_plan.specs.Plan.{Plan, End, Turn}
 use Rattle.im_replies.specs.declared.body.Body.{Body}
@@ -78,6 +78,15 @@ decide tells refused entry on =
 abbrev pub decide_by : (History → What) → (History → Plan Outcome) → Plan Outcome
 decide_by entry on = Turn true (λ at. Some (entry at)) on
 
--- a line that ran out of memory after k entries: cursor 0 is closed if it is open
+-- the cursor is closed where it is open
+abbrev pub shut_open : ℕ → ℕ → History → Option What
+shut_open who cursor at = if is_cursor_open at who cursor then Some (what.Shut cursor) else None
+
+-- each of these cursors is closed where it is open, one after the other
+abbrev pub shut_each : ℕ → List ℕ → Plan Outcome → Plan Outcome
+shut_each who [] on = on
+shut_each who (cursor ∷ cursors) on = Turn false (shut_open who cursor) (λ at. shut_each who cursors on)
+
+-- a line that ran out of memory after k entries: the cursors that statements open by themselves are closed
 abbrev pub amends : ℕ → ℕ → Plan Outcome
-amends who k = Turn false (λ at. if is_cursor_open at who 0 then Some (what.Shut 0) else None) (λ at. End (said (memory_reply k)))
+amends who k = shut_each who own_cursors (End (said (memory_reply k)))

@@ -11,10 +11,8 @@
 //! and the sessions share. Start with `specs/Turns.antt`, then `specs/Statements.antt`.
 #![tactic(auto)]
 
-mod agreement;
+mod laws;
 mod rewriting;
-mod rounds;
 
-pub use agreement::lines_keep_agreement;
+pub use laws::{lines_keep_agreement, own_cursors_are, rounds_do_not_matter};
 pub use rewriting::Rewriting;
-pub use rounds::rounds_do_not_matter;

@@ -6,6 +6,8 @@ use Rattle.im_values.specs.declared.schema.Column.{Column}
 use Rattle.im_values.specs.Fits.{fits}
 use Rattle.im_history.specs.declared.entry.Entry.{Entry}
 use Rattle.im_history.specs.declared.limits.Limits.{Limits}
+use Rattle.im_history.specs.declared.view.Opening.{Opening}
+use Rattle.im_history.specs.Units.{opening_at}
 use Rattle.im_history.specs.Commits.{moves_clock, scn}
 use Rattle.im_history.specs.Cursors.{is_cursor, is_cursor_open, opened, opened_after}
 use Rattle.im_history.specs.History.{History}
@@ -17,7 +19,7 @@ use Rattle.im_history.specs.Transactions.{begun, begun_after, is_open, pending, 
 use Rattle.im_history.proofs.LeaveLaws.{has_left-push}
 use Rattle.im_history.proofs.Laws.{IsLegal-push, begun-push, opened-push, pending-push, scn-push}
 use Rattle.im_history.proofs.RowLaws.{each_longer}
-use Rattle.im_history.proofs.TableLaws.{StaysAs, table-longer}
+use Rattle.im_history.proofs.TableLaws.{opening-longer, StaysAs, table-longer}
 
 -- others went on: none of them has this number, and the whole history is legal
 pub record WentOn (limits : Limits) (who : ℕ) (old at : History) : Type 0 where
@@ -126,6 +128,13 @@ module _ {limits : Limits} {who : ℕ} {old at : History} (went : WentOn limits 
 
   pub MaySetMemory-on : MaySetMemory old who table → MaySetMemory at who table
   MaySetMemory-on may = record { exists = Exists-on may.exists; idle = is_open-on went may.idle }
+
+-- what a caller saw of a table's columns is so now
+module _ {limits : Limits} {who : ℕ} {old at : History} (went : WentOn limits who old at) where
+  pub seen-on : (opening : Opening) → Exists old opening.table → opening ≡ opening_at old opening.table → opening ≡ opening_at at opening.table
+  seen-on opening exists seen =
+      seen ∙ subst (λ (h : History). opening_at old opening.table ≡ opening_at h opening.table) (sym went.is)
+      (sym (opening-longer old went.between opening.table exists))
 
 -- ---- the SCN
 

@@ -3,7 +3,6 @@ use Rattle.std.proofs.Common.{◌≡◌, ℕ, ◌-◌, ◌*◌, ◌≤◌, ◌==
 use Rattle.std.specs.Option.{option_map, option_or}
 use Rattle.std.proofs.lemmas.Bool.Decides.{nat_tests}
 use Rattle.std.proofs.lemmas.List.Elements.{All-append, All-cons, All-filter, All-head, All-nil, All-tail, All-weaker}
-use Rattle.im_values.specs.declared.schema.Column.{Column}
 use Rattle.im_core.specs.Answers.{cursor_view, given_of, task_rows, view_of}
 use Rattle.im_history.specs.declared.change.Change.{Change}
 use Rattle.im_history.specs.declared.entry.Entry.{Entry}
@@ -17,7 +16,7 @@ use Rattle.im_history.specs.declared.task.Task.{Task}
 use Rattle.im_history.specs.Commits.{scn}
 use Rattle.im_history.specs.Cursors.{Opened, cursor_at, is_cursor, opened, opened_after}
 use Rattle.im_history.specs.History.{History, replay}
-use Rattle.im_history.specs.Legal.{IsAllowed, IsLegal, MayEnd, MayWrite, row_fits, still_seen}
+use Rattle.im_history.specs.Legal.{IsAllowed, IsLegal, MayEnd, MayWrite, still_seen}
 use Rattle.im_history.specs.Rows.{Row, row_after, rows, seen, snapshot_under}
 use Rattle.im_history.specs.Transactions.{begun}
 use Rattle.im_history.specs.Transactions as transactions
@@ -28,7 +27,7 @@ use Rattle.im_history.proofs.HeldLaws.{held-within}
 use Rattle.im_history.proofs.Laws.{opened-push}
 use Rattle.im_history.proofs.RowLaws.{each_history, rows-append}
 use Rattle.im_history.proofs.UnitLaws.{is_plain}
-use Rattle.im_store.proofs.OtherLaws.{WentOn, legal-old, on-others, opened-on, pending-on, scn-longer, table-on}
+use Rattle.im_store.proofs.OtherLaws.{WentOn, legal-old, on-others, opened-on, pending-on, scn-longer}
 
 -- ---- builds
 
@@ -243,23 +242,20 @@ module _ {limits : Limits} {who : ℕ} {old at : History} (went : WentOn limits 
         ∙ ap (λ (row : Option Row). fold (row_after opening.view.table rid) row (transactions.pending old who)) (seen-on rid)
 
     pub MayWrite-on : MayWrite at who cursor changes
-    MayWrite-on =
-        let now = table-on went opening.view.table may.exists in
-        record {
-          opened = opening;
-          is = cursor_at-on ∙ may.is;
-          exists = record { made = now.info; is = now.is };
-          some = may.some;
-          same = may.same;
-          rising = may.rising;
-          inside = may.inside;
-          saw =
-              All-weaker (λ (c : Change). IsTrue (is_some (seen_by old opening.view c.rid)))
-              (λ (c : Change). IsTrue (is_some (seen_by at opening.view c.rid)))
-              (λ c saw. subst (λ (row : Option Row). IsTrue (is_some row)) (sym (seen-on c.rid)) saw) changes may.saw;
-          stands =
-              All-weaker (λ (c : Change). IsTrue (is_some (still_seen old who opening c.rid)))
-              (λ (c : Change). IsTrue (is_some (still_seen at who opening c.rid)))
-              (λ c stands. subst (λ (row : Option Row). IsTrue (is_some row)) (sym (still-on c.rid)) stands) changes may.stands;
-          fit = subst (λ (columns : List Column). All (λ change. IsTrue (row_fits columns change.row)) changes) (sym now.schema) may.fit;
-        }
+    MayWrite-on = record {
+      opened = opening;
+      is = cursor_at-on ∙ may.is;
+      some = may.some;
+      same = may.same;
+      rising = may.rising;
+      inside = may.inside;
+      saw =
+          All-weaker (λ (c : Change). IsTrue (is_some (seen_by old opening.view c.rid)))
+          (λ (c : Change). IsTrue (is_some (seen_by at opening.view c.rid)))
+          (λ c saw. subst (λ (row : Option Row). IsTrue (is_some row)) (sym (seen-on c.rid)) saw) changes may.saw;
+      stands =
+          All-weaker (λ (c : Change). IsTrue (is_some (still_seen old who opening c.rid)))
+          (λ (c : Change). IsTrue (is_some (still_seen at who opening c.rid)))
+          (λ c stands. subst (λ (row : Option Row). IsTrue (is_some row)) (sym (still-on c.rid)) stands) changes may.stands;
+      fit = may.fit;
+    }

@@ -7,10 +7,10 @@ ghost use Rattle.im_store.specs.Sides.{known_by, limits_of};
 
 use crate::shared::{Shared, give, take};
 use im_core::{Begun, Committed, Evicted, Made, Offer, Pin, Switched, Wrote};
-use im_history::{Change, Look, Mode, Priority, Refused, Shape, Task, UnitLike, View};
+use im_history::{Change, Look, Mode, Opening, Priority, Refused, Shape, Task, UnitLike, View};
 use im_reach::Reach;
 use im_values::limits::NUMBERS;
-use im_values::{Name, Row, Schema, Steps};
+use im_values::{Name, Rows, Schema, Steps};
 use std::sync::ledger::Ledger;
 use std::sync::{Arc, Wait};
 
@@ -67,10 +67,10 @@ impl<'a, U: UnitLike> Reach<U> for Shared<'a, U> {
         rt: &R,
         who: u32,
         cursor: u32,
-        table: u32,
+        opening: Opening,
     ) -> Result<View, Refused> {
         let mut core = take(rt, self.store, &mut self.pass);
-        let answer = core.open_cursor(who, cursor, table);
+        let answer = core.open_cursor(who, cursor, opening);
         give(self.store, &mut self.pass, core);
         answer
     }
@@ -100,11 +100,11 @@ impl<'a, U: UnitLike> Reach<U> for Shared<'a, U> {
         &mut self,
         rt: &R,
         who: u32,
-        table: u32,
-        rows: Vec<Row>,
+        opening: Opening,
+        rows: Rows,
     ) -> Result<Wrote, Refused> {
         let mut core = take(rt, self.store, &mut self.pass);
-        let answer = core.insert(who, table, rows);
+        let answer = core.insert(who, opening, rows);
         give(self.store, &mut self.pass, core);
         answer
     }

@@ -15,19 +15,21 @@ use Rattle.im_values.specs.contracts.list.List as list
 use Rattle.im_values.specs.contracts.list.List.TheInside as inside
 use Rattle.im_values.specs.contracts.name.Name as name
 use Rattle.im_values.specs.contracts.value.Value as value
+use Rattle.im_values.specs.contracts.rows.Rows as rows
 use Rattle.im_syntax.specs.contracts.bound.Bound as bound
-use Rattle.im_syntax.specs.contracts.bound.Item as item
 use Rattle.im_syntax.specs.contracts.bound.Key as key
 use Rattle.im_syntax.specs.contracts.choices.Choices as choices
 use Rattle.im_syntax.specs.contracts.condition.CondOf as condition
+use Rattle.im_syntax.specs.contracts.even.EvenTuples as even
+use Rattle.im_syntax.specs.contracts.item.ItemOf as item
 use Rattle.im_syntax.specs.contracts.literal.Lit as literal
-use Rattle.im_syntax.specs.contracts.query.ItemPart as item_part
 use Rattle.im_syntax.specs.contracts.query.KeyPart as key_part
 use Rattle.im_syntax.specs.contracts.query.ListPart as list_part
 use Rattle.im_syntax.specs.contracts.query.Query as query
 use Rattle.im_syntax.specs.contracts.statement.Stmt as statement
 use Rattle.im_syntax.specs.contracts.table.ColumnPart as column_part
 use Rattle.im_syntax.specs.contracts.table.MemoryPart as memory_part
+use Rattle.im_syntax.specs.contracts.tuples.Tuples as tuples
 use Rattle.im_syntax.proofs.CrossingConditions.{condition_send, condition_sync}
 
 -- ---- values
@@ -49,7 +51,7 @@ list_sync T s = view_sync _ _ _ _ _ (declared_sync (inside.the_type T) (search (
 
 -- ---- a bound query
 
-pub item_send : IsSend item.the_row
+pub item_send : IsSend (item.the_row (UInt w32))
 item_send = search (sendable, crosses) depth 60 fits 10000
 
 key_send : IsSend key.the_row
@@ -72,7 +74,7 @@ literal_sync = search (sendable, crosses, name_sync) depth 60 fits 10000
 written_sync : IsSync (condition.the_row name.the_row literal.the_row (list.the_row literal.the_row))
 written_sync = condition_sync name.the_row literal.the_row (list.the_row literal.the_row) name_sync literal_sync (list_sync literal.the_row literal_sync)
 
-item_part_sync : IsSync item_part.the_row
+item_part_sync : IsSync (item.the_row name.the_row)
 item_part_sync = search (sendable, crosses, name_sync) depth 60 fits 10000
 
 key_part_sync : IsSync key_part.the_row
@@ -115,8 +117,20 @@ columns_sync = as_row_sync (list.the_field column_part.the_row) (list_sync colum
 names_sync : IsSync (as_row (list.the_field name.the_row))
 names_sync = as_row_sync (list.the_field name.the_row) (list_sync name.the_row name_sync)
 
-tuples_sync : IsSync (as_row (list.the_field (list.the_row literal.the_row)))
-tuples_sync = as_row_sync (list.the_field (list.the_row literal.the_row)) (list_sync (list.the_row literal.the_row) (list_sync literal.the_row literal_sync))
+value_sync : IsSync value.the_row
+value_sync = search (sendable, crosses, name_sync) depth 60 fits 10000
+
+rows_sync : IsSync rows.the_row
+rows_sync = search (sendable, crosses, value_send, value_sync) depth 60 fits 10000
+
+even_sync : IsSync even.the_row
+even_sync = search (sendable, crosses, rows_sync) depth 60 fits 10000
+
+written_tuples_sync : IsSync (list.the_row (list.the_row literal.the_row))
+written_tuples_sync = list_sync (list.the_row literal.the_row) (list_sync literal.the_row literal_sync)
+
+tuples_sync : IsSync (as_row tuples.the_field)
+tuples_sync = as_row_sync tuples.the_field (search (sendable, crosses, even_sync, written_tuples_sync) depth 60 fits 10000)
 
 named_sync : IsSync (as_row name.the_field)
 named_sync = as_row_sync name.the_field name_sync

@@ -1,7 +1,9 @@
 pub mod ConditionParts
+pub mod FunctionLaws
 pub mod Slots
 pub mod SpellLists
 pub mod Crossing
 mod CrossingConditions
 mod ChoicesLemmas
 mod KeywordLaws
+pub mod EvenLemmas

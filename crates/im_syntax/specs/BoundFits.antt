@@ -4,8 +4,9 @@ use Rattle.std.specs.List.{AllByRecursion}
 use Rattle.std.specs.Option.{ForSome}
 use Rattle.im_values.specs.declared.value.Value.{Value}
 use Rattle.im_values.specs.declared.value.Value.TheVariants.{Int, Text, Null}
-use Rattle.im_syntax.specs.declared.bound.Item.{Item}
-use Rattle.im_syntax.specs.declared.bound.Item.TheVariants as item
+use Rattle.im_syntax.specs.declared.item.ItemOf.{ItemOf}
+use Rattle.im_syntax.specs.declared.item.ItemOf.TheVariants as item
+use Rattle.im_syntax.specs.Functions.{adds}
 use Rattle.im_syntax.specs.declared.bound.Key.{Key}
 use Rattle.im_syntax.specs.declared.bound.Bound.{Bound}
 use Rattle.im_syntax.specs.Condition.{TermOf, negation, nested, comparison, null_test, between, within, ConjOf, no_term, and_term, CondOf, no_conj, or_conj}
@@ -60,13 +61,11 @@ abbrev mutual
 -- ---- queries
 
 -- a column that is added up holds no text
-abbrev pub ItemFits : List Value → Item → Type 0
+abbrev pub ItemFits : List Value → ItemOf ℕ → Type 0
 ItemFits row (item.Column column) = HasColumn row column
 ItemFits row item.CountAll = Unit {0}
-ItemFits row (item.Count column) = HasColumn row column
-ItemFits row (item.Sum column) = HasColumn row column × (is_text (value_at row column) ≡ false)
-ItemFits row (item.Min column) = HasColumn row column
-ItemFits row (item.Max column) = HasColumn row column
+ItemFits row (item.Aggregate function column) =
+    HasColumn row column × (adds function ≡ true → is_text (value_at row column) ≡ false)
 
 abbrev pub KeyFits : List Value → Key → Type 0
 KeyFits row key = ItemFits row key.item

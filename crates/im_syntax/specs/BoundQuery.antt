@@ -1,8 +1,9 @@
 -- Which bound forms are those of queries: grouped exactly where SQL groups, and then by what stands in them.
 use Rattle.std.specs.Prelude.{◌≡◌, ℕ, Bool, true, false, ◌||◌, ◌==◌, List, [], ◌∷◌, map}
 use Rattle.std.specs.List.{AllByRecursion, list_any}
-use Rattle.im_syntax.specs.declared.bound.Item.{Item}
-use Rattle.im_syntax.specs.declared.bound.Item.TheVariants as item
+use Rattle.im_syntax.specs.declared.item.ItemOf.{ItemOf}
+use Rattle.im_syntax.specs.declared.item.ItemOf.TheVariants as item
+use Rattle.im_syntax.specs.Functions.{is_aggregate}
 use Rattle.im_syntax.specs.declared.bound.Bound.{Bound}
 
 abbrev pub is_filled : {A : Type 0} → List A → Bool
@@ -13,27 +14,15 @@ is_filled (x ∷ xs) = true
 abbrev pub is_listed : List ℕ → ℕ → Bool
 is_listed numbers number = list_any (λ other. other == number) numbers
 
--- the item is an aggregate
-abbrev pub is_aggregate : Item → Bool
-is_aggregate (item.Column column) = false
-is_aggregate item.CountAll = true
-is_aggregate (item.Count column) = true
-is_aggregate (item.Sum column) = true
-is_aggregate (item.Min column) = true
-is_aggregate (item.Max column) = true
-
 -- one row has such an item: it is a plain column
-abbrev pub IsOfRow : Item → Type 0
+abbrev pub IsOfRow : ItemOf ℕ → Type 0
 IsOfRow i = is_aggregate i ≡ false
 
 -- a group has one such item: it is an aggregate, or one of the columns of GROUP BY
-abbrev pub IsOfGroup : List ℕ → Item → Type 0
+abbrev pub IsOfGroup : List ℕ → ItemOf ℕ → Type 0
 IsOfGroup groups (item.Column column) = is_listed groups column ≡ true
 IsOfGroup groups item.CountAll = Unit {0}
-IsOfGroup groups (item.Count column) = Unit {0}
-IsOfGroup groups (item.Sum column) = Unit {0}
-IsOfGroup groups (item.Min column) = Unit {0}
-IsOfGroup groups (item.Max column) = Unit {0}
+IsOfGroup groups (item.Aggregate function column) = Unit {0}
 
 -- A query is grouped exactly where it has GROUP BY, or an aggregate in its list or keys. Then each plain column in them
 -- is one of GROUP BY.

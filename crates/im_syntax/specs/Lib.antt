@@ -1,4 +1,5 @@
 pub mod Keywords
+pub mod Functions
 pub mod Choices
 pub mod Condition
 pub mod Forms
@@ -6,5 +7,7 @@ pub mod inner
 pub mod BoundFits
 pub mod BoundQuery
 pub mod Words
+pub mod Tuples
+pub mod TuplesForms
 pub mod Spelling
 pub mod Rules

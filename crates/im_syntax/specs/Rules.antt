@@ -8,8 +8,8 @@ use Rattle.im_syntax.specs.declared.literal.Lit.{Lit}
 use Rattle.im_syntax.specs.declared.table.KindWord.{KindWord}
 use Rattle.im_syntax.specs.declared.table.KindWord.TheVariants as kind
 use Rattle.im_syntax.specs.declared.table.ColumnPart.{ColumnPart}
-use Rattle.im_syntax.specs.declared.query.ItemPart.{ItemPart}
-use Rattle.im_syntax.specs.declared.query.ItemPart.TheVariants as item
+use Rattle.im_syntax.specs.declared.item.ItemOf.{ItemOf}
+use Rattle.im_syntax.specs.declared.item.ItemOf.TheVariants as item
 use Rattle.im_syntax.specs.declared.query.KeyPart.{KeyPart}
 use Rattle.im_syntax.specs.declared.query.ListPart.{ListPart}
 use Rattle.im_syntax.specs.declared.query.ListPart.TheVariants as list
@@ -67,13 +67,10 @@ IsWhere = GoodOptional (IsCond MOST_LEVELS)
 
 -- ---- queries
 
-abbrev pub IsItem : ItemPart → Type 0
+abbrev pub IsItem : ItemOf (List ℕ) → Type 0
 IsItem (item.Column n) = IsName n
 IsItem item.CountAll = Unit {0}
-IsItem (item.Count n) = IsName n
-IsItem (item.Sum n) = IsName n
-IsItem (item.Min n) = IsName n
-IsItem (item.Max n) = IsName n
+IsItem (item.Aggregate function n) = IsName n
 
 abbrev pub IsKey : KeyPart → Type 0
 IsKey k = IsItem k.item

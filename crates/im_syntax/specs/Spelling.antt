@@ -17,8 +17,8 @@ use Rattle.im_syntax.specs.declared.table.ColumnPart.{ColumnPart}
 use Rattle.im_values.specs.declared.priority.Priority.{Priority}
 use Rattle.im_values.specs.declared.priority.Priority.TheVariants as level
 use Rattle.im_syntax.specs.declared.table.MemoryPart.{MemoryPart}
-use Rattle.im_syntax.specs.declared.query.ItemPart.{ItemPart}
-use Rattle.im_syntax.specs.declared.query.ItemPart.TheVariants as item
+use Rattle.im_syntax.specs.declared.item.ItemOf.{ItemOf}
+use Rattle.im_syntax.specs.declared.item.ItemOf.TheVariants as item
 use Rattle.im_syntax.specs.declared.query.Way.{Way}
 use Rattle.im_syntax.specs.declared.query.Way.TheVariants as way
 use Rattle.im_syntax.specs.declared.query.KeyPart.{KeyPart}
@@ -27,6 +27,7 @@ use Rattle.im_syntax.specs.declared.query.ListPart.TheVariants as list
 use Rattle.im_syntax.specs.declared.query.Query.{Query}
 use Rattle.im_syntax.specs.declared.statement.Stmt.{Stmt}
 use Rattle.im_syntax.specs.declared.statement.Stmt.TheVariants as stmt
+use Rattle.im_syntax.specs.Functions.{keyword_of}
 use Rattle.im_syntax.specs.Condition.{TermOf, negation, nested, comparison, null_test, between, within, ConjOf, no_term, and_term, CondOf, no_conj, or_conj}
 
 -- the token of a keyword, of a sign and of a number
@@ -106,14 +107,11 @@ spell_where = spell_optional (λ c. word key.Where ∷ spell_cond c)
 
 -- ---- queries
 
--- a column or * in parentheses behind the name of an aggregate
-abbrev pub spell_item : ItemPart → List Token
+-- a column or * in parentheses behind the keyword of a function
+abbrev pub spell_item : ItemOf (List ℕ) → List Token
 spell_item (item.Column n) = token.Word n ∷ []
 spell_item item.CountAll = word key.Count ∷ in_parens (token.Sign sign.Star ∷ [])
-spell_item (item.Count n) = word key.Count ∷ in_parens (token.Word n ∷ [])
-spell_item (item.Sum n) = word key.Sum ∷ in_parens (token.Word n ∷ [])
-spell_item (item.Min n) = word key.Min ∷ in_parens (token.Word n ∷ [])
-spell_item (item.Max n) = word key.Max ∷ in_parens (token.Word n ∷ [])
+spell_item (item.Aggregate function n) = word (keyword_of function) ∷ in_parens (token.Word n ∷ [])
 
 abbrev pub spell_way : Way → List Token
 spell_way way.Unsaid = []

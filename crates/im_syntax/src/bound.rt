@@ -1,16 +1,6 @@
 use crate::condition::Filter;
+use crate::item::Item;
 use im_values::List;
-
-/// One column of an answer, on columns of the table by their numbers.
-#[derive(Clone, Copy)]
-pub enum Item {
-    Column(u32),
-    CountAll,
-    Count(u32),
-    Sum(u32),
-    Min(u32),
-    Max(u32),
-}
 
 /// A key of ORDER BY.
 #[derive(Clone, Copy)]

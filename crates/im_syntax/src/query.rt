@@ -1,17 +1,6 @@
 use crate::condition::Cond;
+use crate::item::ItemPart;
 use im_values::{List, Name};
-
-/// One column of an answer.
-#[derive(Drop)]
-pub enum ItemPart {
-    Column(Name),
-    /// `COUNT(*)`, which counts rows. The other aggregates pass over NULL.
-    CountAll,
-    Count(Name),
-    Sum(Name),
-    Min(Name),
-    Max(Name),
-}
 
 /// The direction of a key of ORDER BY as it is written. Unsaid means ascending.
 #[derive(Clone, Copy)]

@@ -1,30 +1,15 @@
 ghost use Rattle.std.specs.Prelude.{◌≡◌, ◌++◌, ◌∷◌, [], OnOk};
 ghost use Rattle.im_syntax.specs.Spelling as spelled;
-ghost use Rattle.im_syntax.specs.declared.token.Token.TheVariants as token;
 
 use crate::condition::Cond;
+use crate::item::ItemPart;
 use crate::keyword::Keyword;
-use crate::query::{ItemPart, KeyPart, ListPart, Query, Way};
+use crate::query::{KeyPart, ListPart, Query, Way};
 use crate::spell_condition::put_cond;
 use crate::spelled::{Spelled, put_list, put_name, put_sign, put_word};
 use crate::token::{Sign, Token};
 use im_values::{Name, NoMemory};
 use std::alloc::Global;
-
-fn put_column_of(
-    alloc: Global,
-    out: &mut Vec<Token>,
-    aggregate: Keyword,
-    column: &Name,
-) -> Result<(), NoMemory>
-    ensures { OnOk result (out.new.items
-        ≡ out.old.items ++ spelled.word aggregate ∷ spelled.in_parens (token.Word column.now ∷ [])) }
-{
-    put_word(out, aggregate)?;
-    put_sign(out, Sign::LeftParen)?;
-    put_name(alloc, out, column)?;
-    put_sign(out, Sign::RightParen)
-}
 
 impl Spelled for ItemPart {
     ghost tokens = { spelled.spell_item };
@@ -38,10 +23,12 @@ impl Spelled for ItemPart {
                 put_sign(out, Sign::Star)?;
                 put_sign(out, Sign::RightParen)
             }
-            ItemPart::Count(column) => put_column_of(alloc, out, Keyword::Count, column),
-            ItemPart::Sum(column) => put_column_of(alloc, out, Keyword::Sum, column),
-            ItemPart::Min(column) => put_column_of(alloc, out, Keyword::Min, column),
-            ItemPart::Max(column) => put_column_of(alloc, out, Keyword::Max, column),
+            ItemPart::Aggregate(function, column) => {
+                put_word(out, function.keyword())?;
+                put_sign(out, Sign::LeftParen)?;
+                put_name(alloc, out, column)?;
+                put_sign(out, Sign::RightParen)
+            }
         }
     }
 }

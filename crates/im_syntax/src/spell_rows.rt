@@ -1,4 +1,5 @@
 ghost use Rattle.std.specs.Prelude.{◌≡◌, ◌++◌, OnOk};
+ghost use Rattle.im_readers.specs.Grammar.{spell_joined};
 ghost use Rattle.im_syntax.specs.Spelling as spelled;
 ghost use Rattle.im_syntax.specs.declared.statement.Stmt.TheVariants as stmt;
 
@@ -8,7 +9,8 @@ use crate::literal::Lit;
 use crate::spell_query::put_where;
 use crate::spelled::{Spelled, put_in_parens, put_list, put_lit, put_name, put_sign, put_word};
 use crate::token::{Sign, Token};
-use im_values::{List, Name, NoMemory};
+use crate::tuples::{Tuples, TuplesForm};
+use im_values::{Name, NoMemory};
 use std::alloc::Global;
 
 impl Spelled for (Name, Lit) {
@@ -30,13 +32,25 @@ fn put_columns(alloc: Global, out: &mut Vec<Token>, columns: &[Name]) -> Result<
     }
 }
 
+fn put_tuples(alloc: Global, out: &mut Vec<Token>, tuples: &Tuples) -> Result<(), NoMemory>
+    ensures { OnOk result (out.new.items ≡ out.old.items ++ spell_joined spelled.comma spelled.spell_tuple tuples.now) }
+{
+    match tuples.form() {
+        TuplesForm::Even(tuples) => {
+            let tuples = tuples.to_list(alloc)?;
+            put_list(alloc, out, tuples.as_slice())
+        }
+        TuplesForm::Listed(tuples) => put_list(alloc, out, tuples.items()),
+    }
+}
+
 /// INSERT.
 pub fn put_insert(
     alloc: Global,
     out: &mut Vec<Token>,
     name: &Name,
     columns: &[Name],
-    tuples: &[List<Lit>],
+    tuples: &Tuples,
 ) -> Result<(), NoMemory>
     ensures { OnOk result (out.new.items
         ≡ out.old.items ++ spelled.spelling (stmt.Insert name.now columns.now tuples.now)) }
@@ -46,7 +60,7 @@ pub fn put_insert(
     put_name(alloc, out, name)?;
     put_columns(alloc, out, columns)?;
     put_word(out, Keyword::Values)?;
-    put_list(alloc, out, tuples)
+    put_tuples(alloc, out, tuples)
 }
 
 /// UPDATE.

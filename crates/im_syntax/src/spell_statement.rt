@@ -99,7 +99,7 @@ fn put_stmt(alloc: Global, out: &mut Vec<Token>, stmt: &Stmt) -> Result<(), NoMe
             name,
             columns,
             tuples,
-        } => put_insert(alloc, out, name, columns.items(), tuples.items()),
+        } => put_insert(alloc, out, name, columns.items(), tuples),
         Stmt::Update { name, sets, cond } => put_update(alloc, out, name, sets.items(), cond),
         Stmt::Delete { name, cond } => put_delete(alloc, out, name, cond),
         Stmt::SetReadOnly => put_read_only(out),

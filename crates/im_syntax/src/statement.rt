@@ -2,6 +2,7 @@ use crate::condition::Cond;
 use crate::literal::Lit;
 use crate::query::Query;
 use crate::table::{ColumnPart, MemoryPart};
+use crate::tuples::Tuples;
 use im_values::{List, Name};
 
 /// A statement, each optional part of it as written or absent.
@@ -33,7 +34,7 @@ pub enum Stmt {
     Insert {
         name: Name,
         columns: List<Name>,
-        tuples: List<List<Lit>>,
+        tuples: Tuples,
     },
     Update {
         name: Name,

@@ -9,7 +9,7 @@ ghost use Rattle.im_text.specs.inner.Pages.{IsBetween, IsInside, Adds, Ends};
 use crate::field::Field;
 use crate::page::Page;
 use im_history::{Changes, Entry, LentChange, Mode, Shape, What};
-use im_values::{Column, Kind, Name, NoMemory, Priority, Row, Schema, Value};
+use im_values::{Column, Kind, Name, NoMemory, Priority, Schema, Value};
 use itoa::Buffer;
 
 /// The word for a table's priority in the column store, or for its leaving it.
@@ -150,15 +150,15 @@ fn put_values(page: &mut Page, values: &[Value]) -> Result<(), NoMemory>
     Ok(())
 }
 
-/// Puts what a change does with its row, as further fields.
-fn put_row_change(page: &mut Page, row: Option<&Row>) -> Result<(), NoMemory>
+/// Puts what a change does with its row, of which it leaves these values, as further fields.
+fn put_row_change(page: &mut Page, row: Option<&[Value]>) -> Result<(), NoMemory>
     requires { IsInside page.old }
     ensures { OnOk result (Adds page.old page.new (further (spec.row_fields (option_copied row.entry)))) }
 {
     match row {
-        Some(row) => {
+        Some(values) => {
             page.put(b"put")?;
-            put_values(page, row.values())
+            put_values(page, values)
         }
         None => page.put(b"out"),
     }

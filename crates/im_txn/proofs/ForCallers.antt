@@ -11,9 +11,9 @@ use Rattle.im_history.specs.declared.change.Change.{Change}
 use Rattle.im_history.specs.declared.entry.Mode.{Mode}
 use Rattle.im_history.specs.declared.entry.What.{What}
 use Rattle.im_history.specs.declared.entry.What.TheVariants.{Begin, Open, Shut, Write, Commit, Rollback}
-use Rattle.im_history.specs.Cursors.{Opened, opened, is_cursor, cursor_at, is_cursor_open, cursors_open}
+use Rattle.im_history.specs.Cursors.{Opened, opened, is_cursor, cursor_at, is_cursor_open, is_own, cursors_open}
 use Rattle.im_history.specs.History.{History, replay}
-use Rattle.im_history.specs.Kinds.{marks_of}
+use Rattle.im_history.specs.Kinds.{scope_of}
 use Rattle.im_history.specs.declared.refused.Why.{Why}
 use Rattle.im_history.specs.declared.refused.Why.TheVariants.{RowLocked}
 use Rattle.im_history.specs.Refusals.{row_locked}
@@ -185,7 +185,7 @@ Agrees-rollback h who old new agrees number ends =
 
 apart-kinds : (what : What) → is_apart what ≡ true → Apart what
 apart-kinds what is =
-    let none = neither (marks_of what).transaction (marks_of what).cursors is
+    let none = neither (scope_of what).transaction (scope_of what).cursors is
     in record {
       changes = λ so_far. pending-kept so_far what none.0;
       began = λ place so_far. begun-kept place so_far what none.0;
@@ -251,8 +251,8 @@ is_cursor_open-by h standing who cursor agrees =
 
 pub cursors_open-by : (h : History) (standing : Standing) (who : ℕ) → Agrees h standing → cursors_in (activity_at standing who) ≡ cursors_open h who
 cursors_open-by h standing who agrees =
-    ap (λ (l : List Cursor). count_by (λ c. not (is_number 0 c)) l) (agrees.cursors who)
-    ∙ count_by-map kept (λ c. not (is_number 0 c)) (λ o. not (is_cursor 0 o)) (opened h who) (λ x. refl)
+    ap (λ (l : List Cursor). count_by (λ c. not (is_own c.cursor)) l) (agrees.cursors who)
+    ∙ count_by-map kept (λ c. not (is_own c.cursor)) (λ o. not (is_own o.cursor)) (opened h who) (λ x. refl)
 
 -- another number that holds a row is the first that has a change to it pending
 pub holder-by : (h : History) (standing : Standing) (who table rid : ℕ) → Agrees h standing → holder_in standing who table rid ≡ holder h who table rid

@@ -4,6 +4,7 @@ use Rattle.std.specs.List.{find}
 use Rattle.im_history.specs.declared.change.Change.{Change}
 use Rattle.im_history.specs.declared.entry.Mode.{Mode}
 use Rattle.im_history.specs.declared.entry.Mode.TheVariants.{Committed}
+use Rattle.im_history.specs.Cursors.{is_own}
 use Rattle.im_history.specs.Transactions.{or_here}
 use Rattle.im_txn.specs.declared.cursor.Cursor.{Cursor}
 
@@ -37,9 +38,9 @@ is_number number cursor = cursor.cursor == number
 abbrev pub cursor_in : Activity → ℕ → Option Cursor
 cursor_in activity number = find (is_number number) activity.cursors
 
--- how many cursors are open beside cursor 0
+-- how many cursors are open that no statement opened by itself
 abbrev pub cursors_in : Activity → ℕ
-cursors_in activity = count_by (λ cursor. not (is_number 0 cursor)) activity.cursors
+cursors_in activity = count_by (λ cursor. not (is_own cursor.cursor)) activity.cursors
 
 -- the pending changes to a table
 abbrev pub own_in : Activity → ℕ → List Change

@@ -5,10 +5,11 @@ use Rattle.im_values.specs.declared.limits.TheConstants.{NUMBERS}
 use Rattle.im_history.specs.declared.entry.What.{What}
 use Rattle.im_history.specs.Cursors.{Opened, opened}
 use Rattle.im_history.specs.History.{History}
-use Rattle.im_history.specs.Kinds.{marks_of}
+use Rattle.im_history.specs.Kinds.{scope_of}
 use Rattle.im_history.specs.Rows.{snapshot}
-use Rattle.im_history.specs.Tables.{given}
+use Rattle.im_history.specs.Tables.{given, table_at}
 use Rattle.im_history.specs.Touched.{touches}
+use Rattle.im_history.specs.Units.{columns_of}
 use Rattle.im_history.specs.Views.{per_at}
 use Rattle.im_history.specs.Transactions.{pending, begun, mode, is_open}
 use Rattle.im_txn.specs.declared.cursor.Cursor.{Cursor}
@@ -17,12 +18,25 @@ use Rattle.im_txn.specs.Standing.{Standing, activity_at, lock_at}
 
 -- what is kept of an opened cursor
 abbrev pub kept : Opened → Cursor
-kept opened = record { cursor = opened.cursor; table = opened.view.table; scn = opened.view.scn; rows = opened.view.rows; per = opened.view.per }
+kept opened = record {
+  cursor = opened.cursor;
+  table = opened.view.table;
+  scn = opened.view.scn;
+  rows = opened.view.rows;
+  per = opened.view.per;
+  columns = length opened.view.columns;
+}
 
 -- the cursor that a session's opening of this number on this table keeps
 abbrev pub cursor_of : History → ℕ → ℕ → ℕ → Cursor
-cursor_of history who cursor table =
-    record { cursor = cursor; table = table; scn = snapshot history who; rows = given history table; per = per_at history table }
+cursor_of history who cursor table = record {
+  cursor = cursor;
+  table = table;
+  scn = snapshot history who;
+  rows = given history table;
+  per = per_at history table;
+  columns = columns_of (table_at history table);
+}
 
 -- a Rollback where a session has an open transaction, and a Shut for each cursor that it has open
 abbrev pub owes : History → ℕ → ℕ
@@ -45,4 +59,4 @@ pub record Agrees (history : History) (standing : Standing) : Type 0 where
 
 -- an entry of this kind changes nothing of what sessions have going on
 abbrev pub is_apart : What → Bool
-is_apart what = not ((marks_of what).transaction || (marks_of what).cursors)
+is_apart what = not ((scope_of what).transaction || (scope_of what).cursors)

@@ -1,11 +1,14 @@
 ghost use Rattle.std.specs.Prelude.{◌≡◌, not, count_by, ◌≤◌, filter, vec_capacity, vec_len};
 ghost use Rattle.std.specs.List.{find};
+ghost use Rattle.im_history.specs.Cursors as own;
 ghost use Rattle.im_txn.specs.Activity.{is_number};
+
+use im_history::is_own;
 
 /// An open cursor: what a scan or a write needs to know of its view.
 #[derive(Clone, Copy)]
 pub struct Cursor {
-    /// Its number in its session. A statement's own scan uses 0.
+    /// Its number in its session.
     pub cursor: u32,
     /// The table's number.
     pub table: u32,
@@ -15,6 +18,8 @@ pub struct Cursor {
     pub rows: u64,
     /// How many row numbers are in an extent of the table.
     pub per: u64,
+    /// How many columns its rows have.
+    pub columns: u32,
 }
 
 /// The first cursor of this number.
@@ -27,11 +32,14 @@ pub fn with_number(cursors: &[Cursor], number: u32) -> Option<Cursor>
         .copied()
 }
 
-/// How many cursors have another number than 0.
-pub fn count_beside_0(cursors: &[Cursor]) -> u64
-    ensures { result ≡ count_by (λ cursor. not (is_number 0 cursor)) cursors.now }
+/// How many cursors no statement opened by itself.
+pub fn count_beside_own(cursors: &[Cursor]) -> u64
+    ensures { result ≡ count_by (λ cursor. not (own.is_own cursor.cursor)) cursors.now }
 {
-    cursors.iter().filter(|cursor| cursor.cursor != 0).count() as u64
+    cursors
+        .iter()
+        .filter(|cursor| !is_own(cursor.cursor))
+        .count() as u64
 }
 
 /// Removes the cursors of this number; the others stay in order.

@@ -4,7 +4,7 @@ ghost use Rattle.im_txn.specs.Activity.{idle, cursor_in, cursors_in, ended, own_
 ghost use Rattle.im_txn.specs.Effects.{IsRoomier};
 ghost use Rattle.im_txn.specs.Standing.{IsFew};
 
-use crate::cursor::{Cursor, count_beside_0, remove_number, with_number};
+use crate::cursor::{Cursor, count_beside_own, remove_number, with_number};
 use crate::lasts::Lasts;
 use im_history::{Change, Mode, OwnChanges};
 use im_values::NoMemory;
@@ -93,11 +93,11 @@ impl Session {
         with_number(self.cursors.as_slice(), number)
     }
 
-    /// How many cursors are open beside cursor 0.
+    /// How many cursors are open beside its statements' own.
     pub fn cursors_open(&self) -> u64
         ensures { result ≡ cursors_in self.now }
     {
-        count_beside_0(self.cursors.as_slice())
+        count_beside_own(self.cursors.as_slice())
     }
 
     /// The pending changes to a table. Each pending change is looked at once, however often this is asked.

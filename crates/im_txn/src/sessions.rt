@@ -75,7 +75,7 @@ impl Sessions {
         self.sessions[who.index()].cursor(cursor)
     }
 
-    /// How many cursors a session has open beside cursor 0.
+    /// How many cursors a session has open beside its statements' own.
     pub fn cursors_open(&self, who: Who) -> u64
         ensures { result ≡ cursors_in (activity_at self.now who) }
     {

@@ -1,2 +1,3 @@
 mod Cutting
+mod RunLemmas
 pub mod ForCallers

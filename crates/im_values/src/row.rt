@@ -1,4 +1,6 @@
-ghost use Rattle.std.specs.Prelude.{◌≡◌, ◌*◌, IfOk, length};
+ghost use Rattle.std.specs.Prelude.{◌≡◌, ◌+◌, ◌*◌, ◌≤◌, IfOk, length};
+ghost use Rattle.std.specs.List.{slice_range};
+ghost use Rattle.std.specs.Arc.{arc_value};
 ghost use Rattle.im_values.specs.Stretches.{cut};
 
 use crate::no_memory::NoMemory;
@@ -45,6 +47,16 @@ impl Row {
     {
         Row {
             form: Form::Owned(values),
+        }
+    }
+
+    /// A stretch of a block, of so many values from a place on.
+    pub(crate) fn stretch(block: Arc<Vec<Value>>, first: usize, width: usize) -> Row
+        requires { first + width ≤ length (arc_value block).items }
+        ensures { result ≡ slice_range (arc_value block).items first (first + width) }
+    {
+        Row {
+            form: Form::Stretch(block, first, width),
         }
     }
 

@@ -8,6 +8,7 @@ use crate::row::Row;
 use crate::value::Value;
 use std::alloc::Global;
 use std::marker::Model;
+use std::sync::Arc;
 
 /// What a column holds: whole numbers, or texts of at most so many bytes. NULL stands in either.
 #[derive(Clone, Copy)]
@@ -36,22 +37,12 @@ pub struct Column {
     pub kind: Kind,
 }
 
-impl Column {
-    /// The same column once more.
-    pub fn copy(&self, alloc: Global) -> Result<Column, NoMemory>
-        ensures { IfOk result (λ column. column ≡ self.now) }
-    {
-        Ok(Column {
-            name: self.name.copy(alloc)?,
-            kind: self.kind,
-        })
-    }
-}
-
 /// The columns of a table, in order: at least one, and at most [`MOST_COLUMNS`].
+///
+/// A schema never changes, so all who know it share one list.
 #[derive(Drop)]
 pub struct Schema {
-    columns: Vec<Column>,
+    columns: Arc<Vec<Column>>,
 }
 
 impl Model for Schema {
@@ -63,19 +54,21 @@ impl Model for Schema {
     ghost use Rattle.std.specs.Prelude.{◌≤◌, length};
     ghost use Rattle.im_values.specs.declared.limits.TheConstants.{MOST_COLUMNS};
 
-    ghost view = { λ s. s.columns.items };
+    ghost view = { λ s. s.columns.value.items };
 
-    ghost invariant = { λ s. (1 ≤ length s.columns.items) × (length s.columns.items ≤ MOST_COLUMNS) };
+    ghost invariant = { λ s. (1 ≤ length s.columns.value.items) × (length s.columns.value.items ≤ MOST_COLUMNS) };
 }
 
 impl Schema {
-    /// A schema of these columns. It takes no memory.
-    pub fn of(columns: Vec<Column>) -> Schema
+    /// A schema of these columns.
+    pub fn of(alloc: Global, columns: Vec<Column>) -> Result<Schema, NoMemory>
         requires some { 1 ≤ length columns.items }
         requires few { length columns.items ≤ MOST_COLUMNS }
-        ensures { result ≡ columns.items }
+        ensures { IfOk result (λ schema. schema ≡ columns.items) }
     {
-        Schema { columns }
+        Ok(Schema {
+            columns: Arc::new(alloc, columns)?,
+        })
     }
 
     /// The columns, in order.
@@ -87,15 +80,13 @@ impl Schema {
         self.columns.as_slice()
     }
 
-    /// The same schema once more.
-    pub fn copy(&self, alloc: Global) -> Result<Schema, NoMemory>
+    /// The same schema, shared. It is refused where as many share it as can.
+    pub fn share(&self) -> Result<Schema, NoMemory>
         ensures { IfOk result (λ schema. schema ≡ self.now) }
     {
-        let mut columns = Vec::with_capacity(alloc, self.columns().len())?;
-        for column in self.columns() {
-            columns.push(column.copy(alloc)?)?;
-        }
-        Ok(Schema::of(columns))
+        Ok(Schema {
+            columns: Arc::try_clone(&self.columns)?,
+        })
     }
 }
 

@@ -7,7 +7,7 @@ use Rattle.im_history.specs.declared.limits.Limits.{Limits}
 use Rattle.im_history.specs.declared.task.Choice.{Choice}
 use Rattle.im_history.specs.declared.task.Task.{Task}
 use Rattle.im_history.specs.History.{History, behind}
-use Rattle.im_history.specs.Kinds.{marks_of}
+use Rattle.im_history.specs.Kinds.{scope_of}
 use Rattle.im_history.specs.Leaves.{leaves}
 use Rattle.im_history.specs.Queue.{build_of, next, task_of}
 use Rattle.im_history.specs.Units.{held_at, killed_of}
@@ -148,7 +148,7 @@ IfSpent (ended.Over place) says = ⊤
 
 -- the entry begins a build or ends one
 abbrev pub is_building : What → Bool
-is_building what = (marks_of what).builds
+is_building what = (scope_of what).builds
 
 -- the history went on, by entries of others and by beginnings and ends of builds of this number
 pub record AddsBuilds (mine : ℕ → Bool) (who : ℕ) (old new : History) : Type 0 where

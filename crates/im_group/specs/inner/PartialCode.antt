@@ -4,7 +4,7 @@ use Rattle.std.specs.Coded.{Coded, coded_ℕ, coded_list, coded×, code_by}
 use Rattle.std.specs.FinMap as map_of
 use Rattle.std.proofs.Common.{refl}
 use Rattle.im_values.specs.contracts.value.Value as value
-use Rattle.im_group.specs.contracts.tally.Tally as tally
+use Rattle.im_group.specs.contracts.tallies.Tallies as tallies
 use Rattle.im_group.specs.Partials.{Numbered, Groups, Parts}
 
 abbrev pub coded_parts : Coded Parts
@@ -12,5 +12,5 @@ coded_parts =
     code_by (List Numbered × Groups)
     (coded×
     (coded_list (coded× coded_ℕ (coded_list value.the_row.coded)))
-    (map_of.code (coded_list value.the_row.coded) (coded_list tally.the_row.coded)))
+    (map_of.code (coded_list value.the_row.coded) tallies.the_row.coded))
     (λ p. (p.rows, p.groups)) (λ p. record { rows = p.0; groups = p.1 }) (λ _. refl)

@@ -5,8 +5,11 @@ use Rattle.im_syntax.specs.declared.keyword.Keyword.{Keyword}
 use Rattle.im_syntax.specs.declared.keyword.Keyword.TheVariants as key
 use Rattle.im_syntax.specs.declared.token.Token.{Token}
 use Rattle.im_syntax.specs.declared.literal.Lit.{Lit}
-use Rattle.im_syntax.specs.declared.query.ItemPart.{ItemPart}
-use Rattle.im_syntax.specs.declared.query.ItemPart.TheVariants as item
+use Rattle.im_syntax.specs.declared.item.Function.{Function}
+use Rattle.im_syntax.specs.declared.item.Function.TheVariants as function
+use Rattle.im_syntax.specs.declared.item.ItemOf.{ItemOf}
+use Rattle.im_syntax.specs.declared.item.ItemOf.TheVariants as item
+use Rattle.im_syntax.specs.Functions.{keyword_of, function_of}
 use Rattle.im_syntax.specs.declared.query.Way.{Way}
 use Rattle.im_syntax.specs.declared.query.Way.TheVariants as way
 use Rattle.im_syntax.specs.declared.query.KeyPart.{KeyPart}
@@ -25,30 +28,29 @@ listed (Some xs) = xs
 
 -- ---- items
 
--- a column in parentheses behind an aggregate
-unfoldable pub aggregate_at : Keyword → List Token → Read Token (List ℕ)
-aggregate_at k = after_word k (after is_left (before name_at is_right))
+-- what a function goes over: a column, and COUNT over all rows where a star stands
+abbrev pub operand_by : Function → (star : Bool) → List Token → Read Token (ItemOf (List ℕ))
+operand_by function.Count true = made (λ u. item.CountAll) (mark is_star)
+operand_by f true = nothing
+operand_by f false = made (item.Aggregate f) name_at
 
--- what COUNT counts: a star is all rows
-abbrev pub counted_by : (star : Bool) → List Token → Read Token ItemPart
-counted_by true = made (λ u. item.CountAll) (mark is_star)
-counted_by false = made item.Count name_at
+unfoldable pub operand_at : Function → List Token → Read Token (ItemOf (List ℕ))
+operand_at f = picked is_star (operand_by f)
 
-unfoldable pub counted_at : List Token → Read Token ItemPart
-counted_at = picked is_star counted_by
+-- a function of what stands in parentheses behind its keyword
+unfoldable pub call_at : Function → List Token → Read Token (ItemOf (List ℕ))
+call_at f = after_word (keyword_of f) (after is_left (before (operand_at f) is_right))
 
-unfoldable pub count_at : List Token → Read Token ItemPart
-count_at = after_word key.Count (after is_left (before counted_at is_right))
+abbrev pub called_by : Option Function → List Token → Read Token (ItemOf (List ℕ))
+called_by (Some f) = call_at f
+called_by None = nothing
 
-abbrev pub item_by : Lead → List Token → Read Token ItemPart
-item_by (keyword key.Count) = count_at
-item_by (keyword key.Sum) = made item.Sum (aggregate_at key.Sum)
-item_by (keyword key.Min) = made item.Min (aggregate_at key.Min)
-item_by (keyword key.Max) = made item.Max (aggregate_at key.Max)
+abbrev pub item_by : Lead → List Token → Read Token (ItemOf (List ℕ))
+item_by (keyword k) = called_by (function_of k)
 item_by name = made item.Column name_at
 item_by l = nothing
 
-unfoldable pub item_at : List Token → Read Token ItemPart
+unfoldable pub item_at : List Token → Read Token (ItemOf (List ℕ))
 item_at = picked lead item_by
 
 -- ---- keys
@@ -68,7 +70,7 @@ way_of (Some true) = way.Desc
 unfoldable pub way_at : List Token → Read Token Way
 way_at = made way_of (optional is_direction (one direction_of))
 
-abbrev pub key_of : ItemPart × Way → KeyPart
+abbrev pub key_of : ItemOf (List ℕ) × Way → KeyPart
 key_of x = record { item = x.0; way = x.1 }
 
 unfoldable pub key_at : List Token → Read Token KeyPart

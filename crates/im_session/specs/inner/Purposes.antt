@@ -1,6 +1,7 @@
 -- What a statement scans a table for, and what is left of its line while its scan is open.
 use Rattle.std.specs.Prelude.{◌≡◌, ℕ, true, false, List, length, map, ⊤}
 use Rattle.im_group.specs.Answers.{answer}
+use Rattle.im_history.specs.declared.cursors.TheConstants.{OWN_CURSOR}
 use Rattle.im_history.specs.declared.limits.Limits.{Limits}
 use Rattle.im_history.specs.declared.look.TableInfo.{TableInfo}
 use Rattle.im_history.specs.declared.view.View.{View}
@@ -53,7 +54,7 @@ MayServe who (Rewrite rewriting) cursor now = (cursor.bound.grouped ≡ false) �
 
 -- a scan of a statement's own is open, was served nothing yet, and may serve this purpose
 pub record MayUse (who : ℕ) (purpose : Purpose) (cursor : Cursor) (now : Known) : Type 0 where
-  pub own : cursor.number ≡ 0
+  pub own : cursor.number ≡ OWN_CURSOR
   pub first : cursor.next ≡ 0
   pub kept : IsKept who cursor now
   pub serves : MayServe who purpose cursor now
@@ -61,7 +62,7 @@ pub record MayUse (who : ℕ) (purpose : Purpose) (cursor : Cursor) (now : Known
 -- it served its purpose, and is still open: what is left of the line ends with this reply, once the scan is closed
 pub record IsUsed (who : ℕ) (purpose : Purpose) (cursor : Cursor) (old : Known) (reply : Reply) (new : Known) : Type 0 where
   pub side : new.side ≡ old.side
-  pub open_now : is_cursor_open new.log who 0 ≡ true
+  pub open_now : is_cursor_open new.log who OWN_CURSOR ≡ true
   pub longer : Longer old new
   pub rest :
       (late : Known) → IsShut who new late

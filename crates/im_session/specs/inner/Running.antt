@@ -13,8 +13,8 @@ use Rattle.im_session.specs.Reads.{Reading, Nothing, Next, Left}
 use Rattle.im_session.specs.Sessions.{AreApart, state_of}
 use Rattle.im_session.specs.inner.Rests.{IsRest}
 use Rattle.im_statements.specs.Agreement.{Agrees as AreOpen}
-use Rattle.im_statements.specs.Cursors.{close, fetch, step}
-use Rattle.im_statements.specs.Outcomes.{Effect, Outcome, Replied, State, kept_after}
+use Rattle.im_statements.specs.Cursors.{close_query, fetch_query, step_query, with_cursor}
+use Rattle.im_statements.specs.Outcomes.{Effect, OpenQuery, Outcome, Replied, State, kept_after}
 
 -- the cursor has this number
 abbrev pub is_number : ℕ → Cursor → Bool
@@ -27,11 +27,15 @@ pub record AreKept (who : ℕ) (kept : List Cursor) (now : Known) : Type 0 where
   pub sound : AllByRecursion (λ cursor. IsSound cursor now) kept
   pub apart : AreApart kept
 
--- what a line does that uses a cursor so, which was looked for at this history
+-- what a line does with the query of a cursor that it uses so, which was looked for at this history
+abbrev pub plan_of_use : Use → History → OpenQuery → Plan Outcome
+plan_of_use Step at query = step_query at query
+plan_of_use Fetch at query = fetch_query at query
+plan_of_use Close at query = close_query query.cursor
+
+-- and with the cursor of a number, where it is open
 abbrev pub plan_over : Use → State → History → ℕ → Plan Outcome
-plan_over Step state at number = step state at number
-plan_over Fetch state at number = fetch state at number
-plan_over Close state at number = close state at number
+plan_over usage state at number = with_cursor state at number (plan_of_use usage at)
 
 -- what it reads the blocks for
 abbrev pub reading_by : Use → ℕ → Reading

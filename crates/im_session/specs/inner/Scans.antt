@@ -1,5 +1,6 @@
 -- A scan over a side of a store, between the opening of its cursor and its end.
 use Rattle.std.specs.Prelude.{◌≡◌, ℕ, true, [], ◌∷◌, ◌++◌, List, length, Option, Some}
+use Rattle.im_history.specs.declared.cursors.TheConstants.{OWN_CURSOR}
 use Rattle.im_history.specs.declared.entry.What.TheVariants.{Shut}
 use Rattle.im_history.specs.declared.view.View.{View}
 use Rattle.im_history.specs.Cursors.{cursor_at, is_cursor_open}
@@ -25,11 +26,11 @@ pub record Longer (old new : Known) : Type 0 where
 abbrev pub Went : Known → Known → Type 0
 Went old new = sides.Went Logged old new
 
--- others went on, and then cursor 0 was shut
+-- others went on, and then the cursor of a statement's own scan was shut
 pub record IsShut (who : ℕ) (old new : Known) : Type 0 where
   pub at : History
   pub after : After (AreOthers old.side) old.log at
-  pub now : new ≡ record old { log = at ++ record { who = who; what = Shut 0 } ∷ [] }
+  pub now : new ≡ record old { log = at ++ record { who = who; what = Shut OWN_CURSOR } ∷ [] }
 
 -- an open cursor of a session has this view
 pub record IsScan (who cursor : ℕ) (view : View) (now : Known) : Type 0 where

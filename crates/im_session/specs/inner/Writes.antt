@@ -9,9 +9,8 @@ use Rattle.im_history.specs.declared.refused.Why.TheVariants as why
 use Rattle.im_history.specs.declared.view.View.{View}
 use Rattle.im_history.specs.History.{History}
 use Rattle.im_history.specs.Rows.{Row, own_changes}
-use Rattle.im_history.specs.Tables.{tables}
 use Rattle.im_history.specs.Views.{seen_by}
-use Rattle.im_names.specs.Fitting.{FilterServes, SetServes, columns_at}
+use Rattle.im_names.specs.Fitting.{FilterServes, SetServes}
 use Rattle.im_reach.specs.Sides.{Known}
 use Rattle.im_replies.specs.declared.body.Body.TheVariants.{Error}
 use Rattle.im_replies.specs.declared.reply.Reply.{Reply}
@@ -38,13 +37,12 @@ pub record RewriteServes (filter : Option (CondOf ℕ Value)) (rewriting : Rewri
   pub condition : FilterServes filter columns
   pub values : SetsServe rewriting columns
 
--- rows that the open cursor 0 of a session sees may be rewritten: the session has changed nothing since, and each fits its table
+-- rows that the open scan of a session sees may be rewritten: the session has changed nothing since, and each fits the columns
+-- of its view
 pub record MayRewriteIn (who : ℕ) (rewriting : Rewriting) (view : View) (now : Known) : Type 0 where
-  pub columns : List Column
-  pub are_of : columns_at (tables now.log) view.table ≡ Some columns
   pub own : view.own ≡ own_changes now.log who view.table
-  pub fit : (rid : ℕ) (row : Row) → seen_by now.log view rid ≡ Some row → fits row columns ≡ true
-  pub values : SetsServe rewriting columns
+  pub fit : (rid : ℕ) (row : Row) → seen_by now.log view rid ≡ Some row → fits row view.columns ≡ true
+  pub values : SetsServe rewriting view.columns
 
 -- rows of rising numbers, from a number on, which a view sees
 abbrev pub AreSeen : History → View → ℕ → List (ℕ × Row) → Type 0

@@ -1,13 +1,11 @@
-use Rattle.std.proofs.Common.{◌∙◌, arith}
+use Rattle.std.proofs.Common.{◌≡◌, ◌+◌, ◌++◌, ◌∷◌, [], List, Option, Some, sym, ap, ◌∙◌}
+use Rattle.im_history.specs.declared.change.Change.{Change}
 use Rattle.im_core.proofs.WriteLemmas.{put_from-next}
 use Rattle.im_core.proofs.writes.put_from.Goals as goal
 
-pub loop-row-preserved : goal.loop-row-preserved
-loop-row-preserved c = record {
-  made =
-      put_from-next c.args.table c.args.first c.loop-row.rid c.args.rows.now
-      c.loop-row.row-index c.in_ok-clone_row.field-0 c.row-item.result c.loop-row.changes.items
-      c.push.new.self.items c.loop-row-test.true (c.in_ok-clone_row.ensures ∙ c.row-item.is) c.loop-row.invariant.made c.loop-row.invariant.at
-      c.in_ok-push.ensures.items;
-  at = let at = c.loop-row.invariant.at in omega (arith, at);
-}
+pub loop-at-preserved : goal.loop-at-preserved
+loop-at-preserved c =
+    let put : Change = record { table = c.args.table; rid = c.args.first + c.loop-at.at; row = Some c.in_ok-row.field-0 } in
+    c.in_ok-push.ensures.items
+    ∙ (ap (λ (cs : List Change). cs ++ put ∷ []) c.loop-at.invariant
+    ∙ sym (put_from-next c.args.table c.args.first c.args.rows.now c.loop-at.at c.in_ok-row.field-0 c.in_ok-row.ensures))

@@ -1,6 +1,5 @@
-use Rattle.std.proofs.Common.{◌+◌, ◌<◌, ◌^◌, [], ◌∷◌, ◌++◌, map, take, get_or, cond, sym, subst, ap, ◌∙◌, arith}
-use Rattle.std.specs.List.{AllByRecursion}
-use Rattle.im_group.specs.Tallies.{counted}
+use Rattle.std.proofs.Common.{[], ◌∷◌, ◌++◌, map, take, get_or, cond, sym, subst, ap, ◌∙◌, arith}
+use Rattle.im_group.specs.Tallies.{HasRoom}
 use Rattle.im_group.specs.Partials.{keyed, kept, keeps, key_of, lent_rows}
 use Rattle.im_group.specs.inner.Steps.{GroupsAre, with_row, so_far, tallies_at}
 use Rattle.im_group.proofs.GroupSteps.{with_row-push, none-are, fits-at, few_so_far, few_kept, kept-push}
@@ -20,7 +19,7 @@ take_kept-requires-clause-few c =
     let groups = keyed (λ k. map (λ v. v.now) k.items) c.loop-row.groups.entries in
     let row = c.loop-row-item.result.1.now in
     let rows = map (λ r. r.1) (kept c.args.bound.now (lent_rows (take c.loop-row.row-index c.args.rows.now))) in
-    subst (λ is. AllByRecursion (λ t. counted t + 1 < 2 ^ 64) (so_far is (tallies_at groups (key_of c.args.bound.now.groups row)))) (sym c.requires.wanted)
+    subst (λ is. HasRoom (so_far is (tallies_at groups (key_of c.args.bound.now.groups row)))) (sym c.requires.asked)
     (few_so_far c.args.bound.now rows groups row c.loop-row.invariant
     (omega (arith, few_kept c.args.bound.now c.args.rows.now c.loop-row.row-index, c.loop-row-test.true)))
 

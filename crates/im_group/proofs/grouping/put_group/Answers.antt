@@ -1,5 +1,5 @@
 use Rattle.std.proofs.Common.{[], map, arith, ap, ◌∙◌}
-use Rattle.im_group.specs.Tallies.{all_taken}
+use Rattle.im_group.specs.Tallies.{row_taken}
 use Rattle.im_group.specs.Partials.{keyed}
 use Rattle.im_group.specs.inner.Steps.{placed}
 use Rattle.im_group.proofs.Few.{all_few}
@@ -8,11 +8,11 @@ use Rattle.im_group.proofs.Held.{keyed-insert_entry}
 use Rattle.im_group.proofs.grouping.put_group.Goals as goal
 
 pub take-requires-clause-few : goal.take-requires-clause-few
-take-requires-clause-few c = rw c.in_ok-tallies.ensures (all_few c.args.wanted.now [] (omega arith))
+take-requires-clause-few c = rw c.in_ok-tallies.ensures (all_few c.args.asked.now [] (omega arith))
 
 pub returns : goal.returns
 returns c =
-    let taken = c.in_ok-take.ensures ∙ ap (λ ts. all_taken c.args.wanted.now ts c.args.row.now) c.in_ok-tallies.ensures in
+    let taken = c.in_ok-take.ensures ∙ ap (λ ts. row_taken c.args.asked.now ts c.args.row.now) c.in_ok-tallies.ensures in
     ap (keyed (λ k. map (λ v. v.now) k.items)) c.in_ok-insert.ensures.entries
     ∙ (keyed-insert_entry _ (λ k. map (λ v. v.now) k.items)
     (λ x y. lent_keys_tie x.items y.items) c.args.groups.now.entries c.in_ok-from_slice.field-0 c.take.new.self

@@ -1,7 +1,6 @@
-use Rattle.std.proofs.Common.{None, ◌+◌, ◌<◌, ◌^◌, map, is_some, sym, ap, subst, ◌∙◌}
-use Rattle.std.specs.List.{AllByRecursion}
+use Rattle.std.proofs.Common.{None, map, is_some, sym, ap, subst, ◌∙◌}
 use Rattle.std.proofs.lemmas.Result.{on_ok_weaker}
-use Rattle.im_group.specs.Tallies.{all_taken, counted}
+use Rattle.im_group.specs.Tallies.{row_taken, HasRoom}
 use Rattle.im_group.specs.Partials.{keyed}
 use Rattle.im_group.specs.inner.Steps.{placed, tallies_at, so_far}
 use Rattle.im_group.proofs.Agreement.{lent_keys_tie}
@@ -20,7 +19,7 @@ take-requires-clause-few c =
     let here = c.in-Some.ensures.value
     ∙ lookup-tested _ (map (λ v. v.now) c.args.key.now) (λ k. map (λ v. v.now) k.items)
     (λ y. lent_keys_tie c.args.key.now y.items) c.args.groups.now.entries in
-    subst (λ old. AllByRecursion (λ t. counted t + 1 < 2 ^ 64) (so_far c.args.wanted.now old)) (sym here) c.requires.few
+    subst (λ old. HasRoom (so_far c.args.asked.now old)) (sym here) c.requires.few
 
 pub returns-in-Some : goal.returns-in-Some
 returns-in-Some c =
@@ -33,7 +32,7 @@ returns-in-Some c =
     (λ y. lent_keys_tie c.args.key.now y.items) c.args.groups.now.entries c.take.new.self there in
     on_ok_weaker c.take.result (λ taken. ap (keyed (λ k. map (λ v. v.now) k.items)) entries.0
     ∙ (write ∙ ap (placed (keyed (λ k. map (λ v. v.now) k.items) c.args.groups.now.entries) (map (λ v. v.now) c.args.key.now)) (taken
-    ∙ ap (λ old. all_taken c.args.wanted.now (so_far c.args.wanted.now old) c.args.row.now) here))) c.take.ensures
+    ∙ ap (λ old. row_taken c.args.asked.now (so_far c.args.asked.now old) c.args.row.now) here))) c.take.ensures
 
 pub returns-in-None : goal.returns-in-None
 returns-in-None c =
@@ -43,7 +42,7 @@ returns-in-None c =
     on_ok_weaker c.put_group.result
     (λ new. new
     ∙ (ap (λ m. placed (keyed (λ k. map (λ v. v.now) k.items) m.entries) (map (λ v. v.now) c.args.key.now)
-    (all_taken c.args.wanted.now (so_far c.args.wanted.now None) c.args.row.now)) c.get_mut.follows.holds-at-none
+    (row_taken c.args.asked.now (so_far c.args.asked.now None) c.args.row.now)) c.get_mut.follows.holds-at-none
     ∙ ap (λ old. placed (keyed (λ k. map (λ v. v.now) k.items) c.args.groups.now.entries) (map (λ v. v.now) c.args.key.now)
-    (all_taken c.args.wanted.now (so_far c.args.wanted.now old) c.args.row.now)) absent))
+    (row_taken c.args.asked.now (so_far c.args.asked.now old) c.args.row.now)) absent))
     c.put_group.ensures

@@ -1,11 +1,10 @@
-use Rattle.std.proofs.Common.{sym, subst}
+use Rattle.std.proofs.Common.{◌<◌, length, sym, subst}
 use Rattle.std.specs.List.{AllByRecursion}
-use Rattle.im_syntax.specs.BoundFits.{ItemFits}
-use Rattle.im_group.proofs.GroupSteps.{wanted_fit}
+use Rattle.im_group.proofs.AskedLemmas.{asked_fit}
 use Rattle.im_group.proofs.grouping.tally_kept.Goals as goal
 
 pub take-requires-clause-fits : goal.take-requires-clause-fits
 take-requires-clause-fits c =
-    subst (λ row. AllByRecursion (ItemFits row) c.args.wanted.now) (sym c.values.ensures)
-    (subst (AllByRecursion (ItemFits c.args.row.now)) (sym c.requires.wanted)
-    (wanted_fit c.args.row.now c.args.bound.now.items c.args.bound.now.keys c.requires.fits.items c.requires.fits.keys))
+    subst (λ row. AllByRecursion (λ a. a.column < length row) c.args.asked.now) (sym c.values.ensures)
+    (subst (AllByRecursion (λ a. a.column < length c.args.row.now)) (sym c.requires.asked)
+    (asked_fit c.args.row.now c.args.bound.now c.requires.fits))

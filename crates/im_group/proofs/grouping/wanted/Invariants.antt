@@ -1,5 +1,5 @@
 use Rattle.std.proofs.Common.{◌≡◌, ◌++◌, map, drop}
-use Rattle.im_group.specs.Partials.{wanted}
+use Rattle.im_group.specs.Tallies.{wanted}
 use Rattle.im_group.proofs.grouping.wanted.Given as goal
 
 abbrev pub invariant-loop-key : goal.invariant-loop-key

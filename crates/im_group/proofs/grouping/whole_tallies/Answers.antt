@@ -1,5 +1,5 @@
 use Rattle.std.proofs.Common.{[], ◌∷◌, ◌++◌, map, take, get_or, cond, sym, subst, ap, ◌∙◌, arith}
-use Rattle.im_group.specs.Tallies.{tally_of}
+use Rattle.im_group.specs.Tallies.{tallied}
 use Rattle.im_group.specs.Partials.{kept, keeps, lent_rows}
 use Rattle.im_group.specs.inner.Steps.{GroupsAre, one_group, with_kept}
 use Rattle.im_group.proofs.GroupSteps.{one-is, one-push, one-few, few_kept, fits-at, kept-push}
@@ -7,7 +7,7 @@ use Rattle.im_group.proofs.grouping.whole_tallies.Goals as goal
 
 pub loop-row-init : goal.loop-row-init
 loop-row-init c =
-    subst (λ ts. GroupsAre c.args.bound.now [] (one_group ts)) (sym (c.in_ok-tallies.ensures ∙ ap (map (λ i. tally_of i [])) c.requires.wanted))
+    subst (λ ts. GroupsAre c.args.bound.now [] (one_group ts)) (sym (c.in_ok-tallies.ensures ∙ ap (λ qs. tallied qs []) c.requires.asked))
     (one-is c.args.bound.now c.requires.whole)
 
 pub tally_kept-requires-clause-fits : goal.tally_kept-requires-clause-fits

@@ -1,9 +1,11 @@
 use Rattle.std.proofs.Common.{◌≡◌, ℕ, refl, [], ◌∷◌, List, Vec, Global, length, map, ap, sym, ◌++◌, ◌∙◌, subst}
 use Rattle.std.specs.Cmp.Lexicographic.{pointwise}
 use Rattle.im_values.specs.declared.value.Value.{Value}
-use Rattle.im_syntax.specs.declared.bound.Item.{Item}
-use Rattle.im_group.specs.declared.tally.Tally.{Tally}
-use Rattle.im_group.specs.Answers.{group_cells}
+use Rattle.im_syntax.specs.declared.item.ItemOf.{ItemOf}
+use Rattle.im_group.specs.declared.asked.Asked.{Asked}
+use Rattle.im_group.specs.Tallies.{Tallied, asked_in}
+use Rattle.im_group.specs.declared.cell.Cell.{Cell}
+use Rattle.im_group.specs.Answers.{group_cell}
 use Rattle.im_group.specs.inner.Holding.{AreKeyed, entry_order}
 use Rattle.im_group.specs.Partials.{keyed}
 use Rattle.im_group.proofs.Agreement.{same_value, keys_tie}
@@ -12,12 +14,12 @@ use Rattle.im_group.proofs.Sorting.{all_in_order}
 use Rattle.im_group.proofs.partial.group_records.Goals as goal
 
 abbrev Entry : Type 0
-Entry = Vec Value Global × List Tally
+Entry = Vec Value Global × Tallied
 
-keyed-map-cells : (columns : List ℕ) (wanted : List Item) (es : List Entry)
-    → map (λ g. group_cells columns g.0 wanted g.1) (keyed (λ k. k.items) es) ≡ map (λ g. group_cells columns g.0.items wanted g.1) es
-keyed-map-cells columns wanted [] = refl
-keyed-map-cells columns wanted (e ∷ es) = ap (λ l. group_cells columns e.0.items wanted e.1 ∷ l) (keyed-map-cells columns wanted es)
+keyed-map-cells : (columns : List ℕ) (asked : List Asked) (wanted : List (ItemOf ℕ)) (es : List Entry)
+    → map (λ g. map (group_cell columns asked g.0 g.1) wanted) (keyed (λ k. k.items) es) ≡ map (λ g. map (group_cell columns asked g.0.items g.1) wanted) es
+keyed-map-cells columns asked wanted [] = refl
+keyed-map-cells columns asked wanted (e ∷ es) = ap (λ l. map (group_cell columns asked e.0.items e.1) wanted ∷ l) (keyed-map-cells columns asked wanted es)
 
 pub put_records-requires : goal.put_records-requires
 put_records-requires c = record {
@@ -38,7 +40,9 @@ returns c =
     ap (keyed f) c.in_ok-sort_groups.ensures
     ∙ in_order-held (λ x y. pointwise same_value x.items y.items) f (λ x y. keys_tie x.items y.items)
     c.args.groups.entries c.len.ensures.unique in
+    let cells : List Asked → List Entry → List (List Cell) =
+    λ asked es. map (λ (g : Entry). map (group_cell columns asked g.0.items g.1) c.args.wanted.now) es in
     c.in_ok-put_records.ensures
-    ∙ (ap (λ l. l ++ map (λ (g : Entry). group_cells columns g.0.items c.args.wanted.now g.1) sorted) c.in_ok-records.ensures.items
-    ∙ (sym (keyed-map-cells columns c.args.wanted.now sorted)
-    ∙ ap (map (λ (g : List Value × List Tally). group_cells columns g.0 c.args.wanted.now g.1)) entries))
+    ∙ ((λ i. c.in_ok-records.ensures.items i ++ cells ((c.as_slice.ensures.value ∙ c.in_ok-asked.ensures) i) sorted)
+    ∙ (sym (keyed-map-cells columns (asked_in c.args.wanted.now) c.args.wanted.now sorted)
+    ∙ ap (map (λ (g : List Value × Tallied). map (group_cell columns (asked_in c.args.wanted.now) g.0 g.1) c.args.wanted.now)) entries))

@@ -2,14 +2,14 @@ use Rattle.std.proofs.Common.{Bool, List, Vec, Global, is_lt, rules, of_calls}
 use Rattle.std.proofs.lemmas.Fn.{always_returns_same}
 use Rattle.std.proofs.lemmas.List.Sorted.{ranks_by}
 use Rattle.im_values.specs.declared.value.Value.{Value}
-use Rattle.im_group.specs.declared.tally.Tally.{Tally}
+use Rattle.im_group.specs.Tallies.{Tallied}
 use Rattle.im_group.specs.inner.Holding.{entry_order}
 use Rattle.im_group.proofs.KeySort.{by_key_total}
 use Rattle.im_group.proofs.Sorting.{sorted_is-in_order}
 use Rattle.im_group.proofs.partial.sort_groups.Goals as goal
 
 abbrev Entry : Type 0
-Entry = Vec Value Global × List Tally
+Entry = Vec Value Global × Tallied
 
 pub returns : goal.returns
 returns c =

@@ -1,10 +1,15 @@
-use Rattle.std.proofs.Common.{arith}
+use Rattle.std.proofs.Common.{◌-◌, ap, ◌∙◌, slice_set, arith}
+use Rattle.im_history.specs.declared.look.TableInfo.{TableInfo}
 use Rattle.im_history.proofs.MemoryLemmas.{set-remembered, past-remembered}
 use Rattle.im_history.proofs.look.remember.Goals as goal
 use Rattle.im_history.proofs.look.remember.Goals.{else-table-gt0-via-then-table-gt0+else-table-tables, else-table-gt0-via-else-table-gt0}
 
-pub returns-then-table-tables : goal.returns-then-table-tables
-returns-then-table-tables c = set-remembered c.args.table c.args.priority c.args.tables.now _ c.if-table-gt0.true c.if-table-tables.true
+pub returns-in_ok-tables : goal.returns-in_ok-tables
+returns-in_ok-tables c =
+    ap (λ (t : TableInfo). slice_set c.args.tables.now (c.args.table - 1) t)
+    (c.in_ok-tables.ensures
+    ∙ (c.in_ok-info.ensures ∙ ap (λ (t : TableInfo). record t { memory = c.args.priority }) c.info.ensures))
+    ∙ set-remembered c.args.table c.args.priority c.args.tables.now _ c.if-table-gt0.true c.if-table-tables.true
 
 pub returns-else-table-gt0 : goal.returns-else-table-gt0
 returns-else-table-gt0 c = elim c.else-table-gt0.branch [

@@ -1,5 +1,5 @@
 use Rattle.std.proofs.Common.{refl}
-use Rattle.im_syntax.specs.declared.bound.Item.TheVariants as item
+use Rattle.im_syntax.specs.declared.item.ItemOf.TheVariants as item
 use Rattle.im_names.proofs.MapLemmas.{range_goes}
 use Rattle.im_names.proofs.queries.all_columns.Goals as goal
 

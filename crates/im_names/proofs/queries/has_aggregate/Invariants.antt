@@ -1,6 +1,6 @@
 use Rattle.std.proofs.Common.{map}
 use Rattle.std.specs.List.{list_any}
-use Rattle.im_names.specs.Queries.{is_aggregate}
+use Rattle.im_syntax.specs.Functions.{is_aggregate}
 use Rattle.im_names.proofs.FaultLemmas.{From}
 use Rattle.im_names.proofs.queries.has_aggregate.Given as goal
 

@@ -1,4 +1,5 @@
-use Rattle.im_play.proofs.StayingLaws.{nobody-leaves, nobody-leaves-behind, nobody-leaves-dropped}
+use Rattle.im_play.proofs.StayingLaws.{nobody-leaves-behind, nobody-leaves-dropped}
+use Rattle.im_statements.proofs.LineLaws.{nobody-leaves}
 use Rattle.im_play.proofs.laws.nobody_leaves.Goals as goal
 
 pub returns-clause-sessions : goal.returns-clause-sessions

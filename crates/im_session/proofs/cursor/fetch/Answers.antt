@@ -9,7 +9,7 @@ use Rattle.im_session.proofs.CountLemmas.{left-lacked, left-marked}
 use Rattle.im_session.proofs.ReadsLemmas.{counted-within, longer-added, longer-same}
 use Rattle.im_session.proofs.CursorLemmas.{agrees-went}
 use Rattle.im_session.proofs.RestLemmas.{decide_by-done, rest-lacks_here}
-use Rattle.im_session.proofs.ScanLemmas.{open-went, speaks-went}
+use Rattle.im_session.proofs.ScanLemmas.{open-went, own-went, speaks-went}
 use Rattle.im_session.proofs.cursor.fetch.Goals as goal
 use Rattle.im_statements.specs.Cursors.{close_with, fetch_reply}
 use Rattle.im_statements.specs.Outcomes.{Closes, Replied, said}
@@ -45,7 +45,7 @@ returns-in-Err-clause-rest g c =
     (stops.comes.rest (said (memory_reply 0)) (g.H.Reach.known c.answer_scan.new.reach)
     (rest-lacks_here c.args.context.now.who 0 (g.H.Reach.known c.answer_scan.new.reach) stops.later
     (speaks-went c.args.context.now.who (g.H.Reach.known c.args.reach.now) (g.H.Reach.known c.answer_scan.new.reach) c.in-Err.ensures.went c.requires.speaks)
-    (open-went c.args.context.now.who 0 (g.H.Reach.known c.args.reach.now) (g.H.Reach.known c.answer_scan.new.reach) c.requires.speaks c.in-Err.ensures.went
+    (own-went c.args.context.now.who (g.H.Reach.known c.args.reach.now) (g.H.Reach.known c.answer_scan.new.reach) c.requires.speaks c.in-Err.ensures.went
     c.requires.shut)))
 
 pub returns-in-Err-clause-agrees : goal.returns-in-Err-clause-agrees

@@ -1,4 +1,4 @@
-use Rattle.std.proofs.Common.{inl, inr, refl}
+use Rattle.std.proofs.Common.{ℕ, ap, inl, inr, refl}
 use Rattle.im_names.specs.Fitting.{QueryServes}
 use Rattle.im_session.specs.declared.cursor.Cursor.{Cursor}
 use Rattle.im_session.proofs.CursorLemmas.{agrees-opened}
@@ -11,6 +11,9 @@ returns-in_default-clause-err g c = record { cause = inl (refl, refl) }
 pub open_cursor-requires-clause-exists : goal.open_cursor-requires-clause-exists
 open_cursor-requires-clause-exists g c =
     exists-of (g.H.Reach.known c.args.reach.now).log c.args.bound.table (QueryServes c.args.bound) c.requires.serves
+
+pub open_cursor-requires-clause-seen : goal.open_cursor-requires-clause-seen
+open_cursor-requires-clause-seen g c = ap (λ (n : ℕ). record { table = c.args.bound.table; columns = n }) c.requires.seen
 
 pub returns-in-Ok-open_cursor-clause-opened : goal.returns-in-Ok-open_cursor-clause-opened
 returns-in-Ok-open_cursor-clause-opened g c = record {

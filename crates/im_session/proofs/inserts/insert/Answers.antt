@@ -13,16 +13,16 @@ use Rattle.im_statements.specs.Writes.{inserts}
 pub returns-in-Ok : goal.returns-in-Ok
 returns-in-Ok g c =
     decide-done c.args.context.now.who 0 (g.H.Reach.known c.args.reach.now) _ (fault_of aim.Plain)
-    (λ at. insert_refusal (g.H.Reach.known c.args.reach.now).limits at c.args.context.now.who (inserts c.args.table c.args.rows.items at))
-    (λ at. what.Write (inserts c.args.table c.args.rows.items at)) _
-    (λ at. answer_at at (Inserted (length c.args.rows.items) (given at c.args.table))) _ c.in-Ok.ensures.ok (λ at fact. fact.0)
-    (λ at fact. rw (c.settled.ensures, fact.1, c.len-count.ensures ∙ c.args.rows.ok.0) refl)
+    (λ at. insert_refusal (g.H.Reach.known c.args.reach.now).limits at c.args.context.now.who (inserts c.args.opening.table c.args.rows at))
+    (λ at. what.Write (inserts c.args.opening.table c.args.rows at)) _
+    (λ at. answer_at at (Inserted (length c.args.rows) (given at c.args.opening.table))) _ c.in-Ok.ensures.ok (λ at fact. fact.0)
+    (λ at fact. rw (c.settled.ensures, fact.1, c.len-count.ensures) refl)
 
 pub returns-in-Err : goal.returns-in-Err
 returns-in-Err g c =
     rw c.refused_reply.ensures
     (rest-refused c.args.context.now.who 0 (g.H.Reach.known c.args.reach.now) _ true (fault_of aim.Plain)
-    (λ at. insert_refusal (g.H.Reach.known c.args.reach.now).limits at c.args.context.now.who (inserts c.args.table c.args.rows.items at))
-    (λ at. what.Write (inserts c.args.table c.args.rows.items at))
-    (λ at. answer_at at (Inserted (length c.args.rows.items) (given at c.args.table))) c.in-Err.refused c.requires.speaks c.requires.shut
+    (λ at. insert_refusal (g.H.Reach.known c.args.reach.now).limits at c.args.context.now.who (inserts c.args.opening.table c.args.rows at))
+    (λ at. what.Write (inserts c.args.opening.table c.args.rows at))
+    (λ at. answer_at at (Inserted (length c.args.rows) (given at c.args.opening.table))) c.in-Err.refused c.requires.speaks c.requires.shut
     c.in-Err.ensures.err)

@@ -1,6 +1,7 @@
 use Rattle.std.proofs.Common.{Bool, arith, filter, not, sym, subst}
 use Rattle.std.specs.Prelude.{slice_set}
 use Rattle.im_session.specs.declared.playing.Use.{Use}
+use Rattle.im_session.specs.declared.playing.Use.TheVariants.{Fetch, Close}
 use Rattle.im_session.specs.Reads.{IsCounted, Left, Next, Unread}
 use Rattle.im_session.specs.Cursors.{query_of}
 use Rattle.im_session.specs.Sessions.{state_of}
@@ -8,7 +9,7 @@ use Rattle.im_session.specs.inner.Running.{IsRun, is_number, plan_over, reading_
 use Rattle.im_session.specs.inner.Cursors.{fetch_outcome}
 use Rattle.im_session.specs.inner.Rests.{IsRest}
 use Rattle.im_session.proofs.KeptLemmas.{at-place, no-place}
-use Rattle.im_session.proofs.SessionLemmas.{counted-kept, is-closed, is-kept, is-open, run-close, run-fetch, run-no_fetch, run-none, run-step}
+use Rattle.im_session.proofs.SessionLemmas.{counted-kept, is-closed, is-kept, is-open, run-closing, run-no_fetch, run-none, run-step}
 use Rattle.im_session.proofs.playing.on_cursor.Goals as goal
 use Rattle.im_statements.specs.Cursors.{fetch_query}
 
@@ -70,8 +71,8 @@ returns-else-not-fetched-clause-run g c =
     (g.H.Reach.known c.args.reach.now) c.fetch-fetched.result.reply
     (filter (λ kept. not (is_number c.args.number kept)) c.args.kept.now.items)
     (g.H.Reach.known c.fetch-fetched.new.reach)) (sym c.in-Fetch.is)
-    (run-fetch c.args.context.now.who c.args.kept.now.items (g.H.Reach.known c.args.reach.now) c.requires.agrees
-    (g.H.Reach.known c.fetch-fetched.new.reach) c.fetch-fetched.result.reply c.args.number c.in-Some.at c.index.result.now
+    (run-closing c.args.context.now.who c.args.kept.now.items (g.H.Reach.known c.args.reach.now) c.requires.agrees
+    (g.H.Reach.known c.fetch-fetched.new.reach) c.fetch-fetched.result.reply Fetch c.args.number c.in-Some.at c.index.result.now
     (at-place c.args.number _ c.args.kept.now.items _ c.in-Some.at c.as_slice.ensures.value c.place_of.ensures c.in-Some.is) c.index.ensures
     (subst (λ (closed : Bool). IsRest c.args.context.now.who 0 (g.H.Reach.known c.args.reach.now) (fetch_query (g.H.Reach.known c.args.reach.now).log
     (query_of c.index.result.now)) (fetch_outcome c.index.result.now.number c.fetch-fetched.result.reply closed)
@@ -85,8 +86,8 @@ returns-in-Close-clause-run g c =
     (g.H.Reach.known c.args.reach.now) c.close-reply.result
     (filter (λ kept. not (is_number c.args.number kept)) c.args.kept.now.items)
     (g.H.Reach.known c.close-reply.new.reach)) (sym c.in-Close.is)
-    (run-close c.args.context.now.who c.args.kept.now.items (g.H.Reach.known c.args.reach.now) c.requires.agrees
-    (g.H.Reach.known c.close-reply.new.reach) c.close-reply.result c.args.number c.in-Some.at c.index-in-Close.result.now
+    (run-closing c.args.context.now.who c.args.kept.now.items (g.H.Reach.known c.args.reach.now) c.requires.agrees
+    (g.H.Reach.known c.close-reply.new.reach) c.close-reply.result Close c.args.number c.in-Some.at c.index-in-Close.result.now
     (at-place c.args.number _ c.args.kept.now.items _ c.in-Some.at c.as_slice.ensures.value c.place_of.ensures c.in-Some.is) c.index-in-Close.ensures
     c.close-reply.ensures))
 

@@ -1,26 +1,41 @@
-use Rattle.std.proofs.Common.{arith, List, subst, sym}
-use Rattle.im_history.specs.Legal.{MayInsert}
-use Rattle.im_history.specs.Rows.{Row}
+use Rattle.std.proofs.Common.{ℕ, arith, ap, subst, sym}
 use Rattle.im_history.specs.Tables.{tables}
 use Rattle.im_names.specs.declared.resolved.Resolved.{Resolved}
 use Rattle.im_names.specs.declared.resolved.Resolved.TheVariants as resolved
 use Rattle.im_names.specs.Fitting.{Serves}
-use Rattle.im_session.specs.inner.Rests.{IsRest}
 use Rattle.im_session.specs.Reads.{Unread}
 use Rattle.im_session.specs.inner.Running.{IsRun}
 use Rattle.im_session.specs.Sessions.{state_of}
 use Rattle.im_session.proofs.SessionLemmas.{counted-resolved, run-resolved}
-use Rattle.im_session.proofs.TableLemmas.{may-insert}
+use Rattle.im_session.proofs.TableLemmas.{may-insert, seen-columns}
 use Rattle.im_session.proofs.playing.play.Goals as goal
-use Rattle.im_statements.specs.Outcomes.{said}
 use Rattle.im_statements.specs.Statements.{resolved_plan}
-use Rattle.im_statements.specs.Writes.{insert}
+
+pub scan-requires-clause-seen : goal.scan-requires-clause-seen
+scan-requires-clause-seen g c =
+    seen-columns (g.H.Reach.known c.args.reach.now).log c.args.context.now.who c.in-Select.bound.table _ c.args.look.now c.requires.look
+    c.columns_of-columns.ensures
+
+pub scan-requires-in-Explain-clause-seen : goal.scan-requires-in-Explain-clause-seen
+scan-requires-in-Explain-clause-seen g c =
+    seen-columns (g.H.Reach.known c.args.reach.now).log c.args.context.now.who c.in-Explain.bound.table _ c.args.look.now c.requires.look
+    c.columns_of-columns-in-Explain.ensures
+
+pub insert-requires-clause-seen : goal.insert-requires-clause-seen
+insert-requires-clause-seen g c =
+    ap (λ (n : ℕ). record { table = c.in-Insert.table; columns = n })
+    (seen-columns (g.H.Reach.known c.args.reach.now).log c.args.context.now.who c.in-Insert.table _ c.args.look.now c.requires.look
+    c.columns_of-columns-in-Insert.ensures)
+
+pub open-requires-clause-seen : goal.open-requires-clause-seen
+open-requires-clause-seen g c =
+    seen-columns (g.H.Reach.known c.args.reach.now).log c.args.context.now.who c.in-OpenFor.bound.table _ c.args.look.now c.requires.look
+    c.columns_of-columns-in-OpenFor.ensures
 
 pub insert-requires-clause-may : goal.insert-requires-clause-may
 insert-requires-clause-may g c =
-    subst (λ (rows : List Row). MayInsert (g.H.Reach.known c.args.reach.now).log c.in-Insert.table rows) (sym c.into_items.ensures)
-    (may-insert (g.H.Reach.known c.args.reach.now).log c.in-Insert.table c.in-Insert.rows
-    (subst (λ (r : Resolved). Serves (tables (g.H.Reach.known c.args.reach.now).log) r) c.in-Insert.is c.requires.serves))
+    may-insert (g.H.Reach.known c.args.reach.now).log c.in-Insert.table c.in-Insert.rows
+    (subst (λ (r : Resolved). Serves (tables (g.H.Reach.known c.args.reach.now).log) r) c.in-Insert.is c.requires.serves)
 
 pub returns-in-Select-clause-run : goal.returns-in-Select-clause-run
 returns-in-Select-clause-run g c =
@@ -39,9 +54,7 @@ pub returns-in-Insert-clause-run : goal.returns-in-Insert-clause-run
 returns-in-Insert-clause-run g c =
     run-resolved c.args.context.now.who c.args.kept.now.items (g.H.Reach.known c.args.reach.now)
     c.requires.agrees (g.H.Reach.known c.insert.new.reach) c.insert.result c.args.resolved (resolved.Insert c.in-Insert.table c.in-Insert.rows) c.in-Insert.is
-    (subst (λ (rows : List Row). IsRest c.args.context.now.who 0 (g.H.Reach.known c.args.reach.now)
-    (insert (g.H.Reach.known c.args.reach.now).limits c.args.context.now.who c.in-Insert.table rows) (said c.insert.result)
-    (g.H.Reach.known c.insert.new.reach)) c.into_items.ensures c.insert.ensures)
+    c.insert.ensures
 
 pub returns-in-Update-clause-run : goal.returns-in-Update-clause-run
 returns-in-Update-clause-run g c =

@@ -1,4 +1,5 @@
 use Rattle.std.proofs.Common.{◌≤◌, inr, List, length, sym, subst}
+use Rattle.im_history.specs.declared.cursors.TheConstants.{OWN_CURSOR}
 use Rattle.im_history.specs.declared.change.Change.{Change}
 use Rattle.im_history.specs.Legal.{MayWrite}
 use Rattle.im_session.specs.inner.Rests.{IsRest}
@@ -11,7 +12,7 @@ use Rattle.im_statements.specs.Writes.{write_or_end, written}
 
 pub write_changes-requires-clause-may : goal.write_changes-requires-clause-may
 write_changes-requires-clause-may g c = λ some.
-    subst (λ (changes : List Change). MayWrite (g.H.Reach.known c.args.reach.now).log c.args.context.now.who 0 changes) (sym c.in-Ok.ensures)
+    subst (λ (changes : List Change). MayWrite (g.H.Reach.known c.args.reach.now).log c.args.context.now.who OWN_CURSOR changes) (sym c.in-Ok.ensures)
     (may-rewrite c.args.context.now.who c.args.rewriting.now c.args.view.now c.args.rows.items (g.H.Reach.known c.args.reach.now) c.requires.scan c.requires.may
     c.requires.rows (subst (λ (changes : List Change). 1 ≤ length changes) c.in-Ok.ensures some))
 

@@ -1,5 +1,6 @@
 use Rattle.std.proofs.Common.{◌≡◌, false, refl, subst, sym}
-use Rattle.im_history.specs.Tables.{tables}
+use Rattle.im_history.specs.Tables.{table_at, tables}
+use Rattle.im_history.specs.Units.{columns_of}
 use Rattle.im_names.specs.Fitting.{OfTable, QueryServes}
 use Rattle.im_session.specs.declared.scan.Purpose.TheVariants.{Rewrite}
 use Rattle.im_session.specs.inner.Purposes.{plan_of}
@@ -14,6 +15,11 @@ pub scan-requires-clause-serves : goal.scan-requires-clause-serves
 scan-requires-clause-serves g c =
     subst (λ (b : Bound). OfTable (tables (g.H.Reach.known c.args.reach.now).log) b.table (QueryServes b)) (sym c.condition_query-bound.ensures)
     (condition-serves (g.H.Reach.known c.args.reach.now).log c.args.table c.args.filter c.args.rewriting c.requires.serves)
+
+pub scan-requires-clause-seen : goal.scan-requires-clause-seen
+scan-requires-clause-seen g c =
+    subst (λ (b : Bound). c.args.columns ≡ columns_of (table_at (g.H.Reach.known c.args.reach.now).log b.table)) (sym c.condition_query-bound.ensures)
+    c.requires.seen
 
 pub scan-requires-clause-may : goal.scan-requires-clause-may
 scan-requires-clause-may g c =

@@ -1,5 +1,6 @@
 use Rattle.std.proofs.Common.{◌≡◌, ◌∙◌, ℕ, List, ap, sym, subst}
 use Rattle.im_group.specs.Partials.{Parts}
+use Rattle.im_history.specs.declared.cursors.TheConstants.{OWN_CURSOR}
 use Rattle.im_history.specs.declared.limits.Limits.{Limits}
 use Rattle.im_history.specs.Rows.{Row}
 use Rattle.im_reach.specs.Sides.{Known}
@@ -25,7 +26,7 @@ rewrite_kept-requires-clause-speaks g c =
 
 pub rewrite_kept-requires-clause-scan : goal.rewrite_kept-requires-clause-scan
 rewrite_kept-requires-clause-scan g c =
-    scan-went c.args.context.now.who 0 c.args.cursor.now.view (g.H.Reach.known c.args.reach.now) (g.H.Reach.known c.gather.new.reach) c.requires.speaks
+    scan-went c.args.context.now.who OWN_CURSOR c.args.cursor.now.view (g.H.Reach.known c.args.reach.now) (g.H.Reach.known c.gather.new.reach) c.requires.speaks
     c.in-Ok.ensures.went
     (subst (λ (n : ℕ). IsScan c.args.context.now.who n c.args.cursor.now.view (g.H.Reach.known c.args.reach.now)) c.requires.may.own
     c.requires.may.kept.scan)

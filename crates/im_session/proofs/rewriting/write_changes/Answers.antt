@@ -10,6 +10,7 @@ use Rattle.im_session.proofs.WritingLemmas.{open-wrote, some-write, write-done, 
 use Rattle.im_session.proofs.rewriting.write_changes.Goals as goal
 use Rattle.im_statements.specs.Outcomes.{Outcome, said}
 use Rattle.im_statements.specs.Turns.{served_reply}
+use Rattle.im_history.specs.declared.cursors.TheConstants.{OWN_CURSOR}
 use Rattle.im_statements.specs.Writes.{written}
 
 pub returns-then-is_empty-clause-rest : goal.returns-then-is_empty-clause-rest
@@ -40,7 +41,7 @@ returns-in-Ok-clause-rest g c = λ late shut.
 
 pub returns-in-Err-clause-cursor : goal.returns-in-Err-clause-cursor
 returns-in-Err-clause-cursor g c =
-    open-went c.args.context.now.who 0 (g.H.Reach.known c.args.reach.now) (g.H.Reach.known c.write.new.self) c.requires.speaks
+    open-went c.args.context.now.who OWN_CURSOR (g.H.Reach.known c.args.reach.now) (g.H.Reach.known c.write.new.self) c.requires.speaks
     (went-found (g.H.Reach.known c.args.reach.now) (g.H.Reach.known c.write.new.self) _ c.in-Err.ensures.err) c.requires.scan.is_open
 
 pub returns-in-Err-clause-rest : goal.returns-in-Err-clause-rest

@@ -9,6 +9,7 @@ use Rattle.im_session.proofs.OpeningLemmas.{unopened-rest}
 use Rattle.im_session.proofs.PurposeLemmas.{opened-may, scan-used}
 use Rattle.im_session.proofs.ScanLemmas.{shut-added}
 use Rattle.im_session.proofs.scan.scan.Goals as goal
+use Rattle.im_history.specs.declared.cursors.TheConstants.{OWN_CURSOR}
 use Rattle.im_history.specs.Views.{view_at}
 use Rattle.im_statements.specs.Scans.{rows_seen, serve_from}
 
@@ -42,7 +43,7 @@ returns-in-Err-clause-rest g c =
     let bound = c.args.bound in
     let limits = (g.H.Reach.known c.args.reach.now).limits in
     rw c.refused_reply.ensures
-    (unopened-rest who 0 0 bound.table (g.H.Reach.known c.args.reach.now) (g.H.Reach.known c.open_cursor.new.reach) false (fault_of (aim.Opening 0))
+    (unopened-rest who 0 OWN_CURSOR bound.table (g.H.Reach.known c.args.reach.now) (g.H.Reach.known c.open_cursor.new.reach) false (fault_of (aim.Opening OWN_CURSOR))
     (λ at.
     serve_from (view_at at who bound.table) bound.filter 0
     (behind_scan limits who bound c.args.purpose (length at) (view_at at who bound.table) (rows_seen at (view_at at who bound.table))))

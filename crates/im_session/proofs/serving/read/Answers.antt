@@ -1,7 +1,7 @@
 use Rattle.std.specs.Arc.{arc_value}
 use Rattle.std.specs.Option.{option_map}
 use Rattle.im_session.proofs.ScanLemmas.{scan-went, went-found, went-log}
-use Rattle.im_session.proofs.ReadsLemmas.{extent-read}
+use Rattle.im_session.proofs.ReadsLemmas.{extent-read, fetched-length}
 use Rattle.im_session.proofs.ServingLemmas.{read-of}
 use Rattle.im_session.proofs.serving.read.Goals as goal
 
@@ -33,4 +33,4 @@ returns-in-Err-clause-ticks g c =
 pub returns-in-Ok-clause-rows : goal.returns-in-Ok-clause-rows
 returns-in-Ok-clause-rows g c =
     let found = went-log (g.H.Reach.known c.args.reach.now) (g.H.Reach.known c.pin-pinned.new.self) _ c.in-Ok.ensures.ok in
-    rw found.2 found.3
+    rw (found.2, fetched-length _ _ _) found.3

@@ -3,7 +3,7 @@ use Rattle.im_history.specs.declared.look.Look.{Look}
 use Rattle.im_history.specs.Transactions.{is_open}
 use Rattle.im_session.proofs.NameLemmas.{definition-alone, definition-committed, idle-commit, shut-commit}
 use Rattle.im_session.proofs.RestLemmas.{rest-lacks, rest-look}
-use Rattle.im_session.proofs.ScanLemmas.{open-went, speaks-went, went-found, went-log}
+use Rattle.im_session.proofs.ScanLemmas.{own-went, speaks-went, went-found, went-log}
 use Rattle.im_session.proofs.statement.define.Goals as goal
 use Rattle.im_statements.specs.Statements.{definition_plan}
 
@@ -16,7 +16,7 @@ returns-in_default g c = λ state.
 
 pub define_named-reply-requires-clause-shut : goal.define_named-reply-requires-clause-shut
 define_named-reply-requires-clause-shut g c =
-    open-went c.args.context.now.who 0 (g.H.Reach.known c.args.reach.now) (g.H.Reach.known c.look.new.self) c.requires.speaks
+    own-went c.args.context.now.who (g.H.Reach.known c.args.reach.now) (g.H.Reach.known c.look.new.self) c.requires.speaks
     (went-found (g.H.Reach.known c.args.reach.now) (g.H.Reach.known c.look.new.self) _ c.in-Ok.ensures.ok) c.requires.shut
 
 pub returns-then-is_none : goal.returns-then-is_none
@@ -33,7 +33,7 @@ define_later-requires-clause-shut g c =
     shut-commit c.args.context.now.who (g.H.Reach.known c.look.new.self) (g.H.Reach.known c.commit.new.self) _
     (speaks-went c.args.context.now.who (g.H.Reach.known c.args.reach.now) (g.H.Reach.known c.look.new.self) went c.requires.speaks)
     c.in-Ok-commit.ensures.ok
-    (open-went c.args.context.now.who 0 (g.H.Reach.known c.args.reach.now) (g.H.Reach.known c.look.new.self) c.requires.speaks went c.requires.shut)
+    (own-went c.args.context.now.who (g.H.Reach.known c.args.reach.now) (g.H.Reach.known c.look.new.self) c.requires.speaks went c.requires.shut)
 
 pub define_later-requires-clause-idle : goal.define_later-requires-clause-idle
 define_later-requires-clause-idle g c =
@@ -59,5 +59,5 @@ returns-in-Err g c = λ state.
     c.in-Ok.ensures.ok
     (rest-lacks c.args.context.now.who 0 (g.H.Reach.known c.look.new.self) (g.H.Reach.known c.commit.new.self) _ _
     (speaks-went c.args.context.now.who (g.H.Reach.known c.args.reach.now) (g.H.Reach.known c.look.new.self) went c.requires.speaks)
-    (open-went c.args.context.now.who 0 (g.H.Reach.known c.args.reach.now) (g.H.Reach.known c.look.new.self) c.requires.speaks went c.requires.shut)
+    (own-went c.args.context.now.who (g.H.Reach.known c.args.reach.now) (g.H.Reach.known c.look.new.self) c.requires.speaks went c.requires.shut)
     c.in-Err.ensures.err))

@@ -4,7 +4,7 @@ use Rattle.im_reach.specs.Sides.{Known}
 use Rattle.im_session.specs.inner.Rests.{IsRest}
 use Rattle.im_session.proofs.OtherLemmas.{idle-found}
 use Rattle.im_session.proofs.RestLemmas.{rest-lacks, rest-look}
-use Rattle.im_session.proofs.ScanLemmas.{open-went, speaks-went, went-found, went-log}
+use Rattle.im_session.proofs.ScanLemmas.{own-went, speaks-went, went-found, went-log}
 use Rattle.im_session.proofs.statement.define_later.Goals as goal
 use Rattle.im_statements.specs.Outcomes.{said}
 use Rattle.im_statements.specs.Statements.{looked_up, named_plan}
@@ -16,7 +16,7 @@ define_named-reply-requires-clause-speaks g c =
 
 pub define_named-reply-requires-clause-shut : goal.define_named-reply-requires-clause-shut
 define_named-reply-requires-clause-shut g c =
-    open-went c.args.context.now.who 0 (g.H.Reach.known c.args.reach.now) (g.H.Reach.known c.look.new.self) c.requires.speaks
+    own-went c.args.context.now.who (g.H.Reach.known c.args.reach.now) (g.H.Reach.known c.look.new.self) c.requires.speaks
     (went-found (g.H.Reach.known c.args.reach.now) (g.H.Reach.known c.look.new.self) _ c.in-Ok.ensures.ok) c.requires.shut
 
 pub define_named-reply-requires-clause-idle : goal.define_named-reply-requires-clause-idle

@@ -1,6 +1,7 @@
 use Rattle.std.proofs.Common.{◌∙◌}
+use Rattle.im_core.specs.Answers.{cursor_view}
 use Rattle.im_core.proofs.FetchLemmas.{is_found, has_view}
-use Rattle.im_core.proofs.LendLemmas.{lent-content, reads_stale, reads_all}
+use Rattle.im_core.proofs.LendLemmas.{lent-content, read-fetched, reads_stale, reads_all}
 use Rattle.im_core.proofs.SeenLemmas.{Holds-seen}
 use Rattle.im_core.proofs.store.Core.read.Goals as goal
 
@@ -17,7 +18,7 @@ pub returns-in_ok-fetch_stale-in-Some-clause-fetched : goal.returns-in_ok-fetch_
 returns-in_ok-fetch_stale-in-Some-clause-fetched g c =
     let has = has_view c.args.who c.args.cursor (Holds-seen c.self.invariant c.self.view_is) c.requires.within c.cursor.ensures c.unwrap-view.ensures in
     let stale = reads_stale _ _ _ _ has _ (rw c.in-Some.is at c.in_ok-unit.ensures) in
-    c.in_ok-fetch_stale-in-Some.ensures.fetched stale.at stale.is ∙ stale.rows
+    c.in_ok-fetch_stale-in-Some.ensures.fetched stale.at stale.is ∙ (stale.rows ∙ read-fetched c.args.self.now.log (cursor_view c.args.self.now.log c.args.who c.args.cursor) c.args.extent)
 
 pub returns-in_ok-fetch-in-None-clause-unit : goal.returns-in_ok-fetch-in-None-clause-unit
 returns-in_ok-fetch-in-None-clause-unit g c =
@@ -28,7 +29,7 @@ pub returns-in_ok-fetch-in-None-clause-fetched : goal.returns-in_ok-fetch-in-Non
 returns-in_ok-fetch-in-None-clause-fetched g c =
     let has = has_view c.args.who c.args.cursor (Holds-seen c.self.invariant c.self.view_is) c.requires.within c.cursor.ensures c.unwrap-view.ensures in
     let all = reads_all _ _ _ _ has (rw c.in-None.is at c.in_ok-unit.ensures) in
-    c.in_ok-fetch-in-None.ensures.fetched ∙ all.rows
+    c.in_ok-fetch-in-None.ensures.fetched ∙ (all.rows ∙ read-fetched c.args.self.now.log (cursor_view c.args.self.now.log c.args.who c.args.cursor) c.args.extent)
 
 pub returns-in_err-fetch_stale-in-Some-clause-steps : goal.returns-in_err-fetch_stale-in-Some-clause-steps
 returns-in_err-fetch_stale-in-Some-clause-steps g c =

@@ -1,4 +1,5 @@
-use Rattle.std.proofs.Common.{◌≡◌, None, sym, subst, ap, ◌∙◌}
+use Rattle.std.proofs.Common.{◌≡◌, List, None, length, sym, subst, ap, ◌∙◌}
+use Rattle.im_values.specs.declared.schema.Column.{Column}
 use Rattle.im_history.specs.declared.view.View.{View}
 use Rattle.im_history.specs.Legal.{Exists}
 use Rattle.im_history.specs.Refusals.{open_refusal}
@@ -21,11 +22,23 @@ invariant_of-self-2 g c =
     let exists = subst (λ (s : Seen). Exists s.log c.args.table) (sym (c.self.view_is ∙ c.view.ensures.same)) c.requires.exists in
     let allowed = subst (λ (s : Seen). open_refusal s.log c.args.who c.args.cursor ≡ None) (sym (c.self.view_is ∙ c.view.ensures.same)) c.requires.allowed in
     let view = c.in_ok-view.ensures.view ∙ ap (λ (s : Seen). view_at s.log c.args.who c.args.table) (sym (c.self.view_is ∙ c.view.ensures.same)) in
+    let lent =
+    subst
+    (λ (columns : List Column). IsOpened c.reserve_cursor.new.self c.open_cursor.new.self c.args.who
+    (record {
+      cursor = c.args.cursor;
+      table = c.args.table;
+      scn = c.in_ok-view.view.scn;
+      rows = c.in_ok-view.view.rows;
+      per = c.in_ok-view.view.per;
+      columns = length columns;
+    }))
+    c.columns.ensures.columns c.open_cursor.ensures in
     let opened =
     subst
     (λ (v : View). IsOpened c.reserve_cursor.new.self c.open_cursor.new.self c.args.who
-    (record { cursor = c.args.cursor; table = c.args.table; scn = v.scn; rows = v.rows; per = v.per }))
-    view c.open_cursor.ensures in
+    (record { cursor = c.args.cursor; table = c.args.table; scn = v.scn; rows = v.rows; per = v.per; columns = length v.columns }))
+    view lent in
     Holds-open _ _ c.self.inside.history _ _ c.args.who c.args.cursor c.args.table _ _ c.self.invariant
     (is-number _ _ c.number.ensures.same c.number.ensures.few) exists allowed (open_shut _ _ _ allowed) c.reserve_cursor.ensures.same
     (grew-who _ _ _ _ _ _ c.number.ensures.same

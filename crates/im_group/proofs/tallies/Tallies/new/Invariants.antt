@@ -1,6 +1,6 @@
 use Rattle.std.proofs.Common.{◌≡◌, [], ◌++◌, map, drop}
-use Rattle.im_group.specs.Tallies.{tally_of}
+use Rattle.im_group.specs.Sums.{sums_of}
 use Rattle.im_group.proofs.tallies.Tallies.new.Given as goal
 
-abbrev pub invariant-loop-item : goal.invariant-loop-item
-invariant-loop-item l = l.tallies.items ++ map (λ i. tally_of i []) (drop l.item-index l.wanted) ≡ map (λ i. tally_of i []) l.wanted
+abbrev pub invariant-loop-one : goal.invariant-loop-one
+invariant-loop-one l = l.sums.items ++ map (λ a. sums_of a []) (drop l.one-index l.asked) ≡ map (λ a. sums_of a []) l.asked

@@ -6,6 +6,5 @@ use Rattle.im_history.proofs.changes.Changes.len.Goals as goal
 pub returns-in-Put : goal.returns-in-Put
 returns-in-Put c =
     c.len.ensures
-    ∙ (c.in-Put.rows.ok.0
-    ∙ (sym (length-put_from c.in-Put.field-0 c.in-Put.field-1 c.in-Put.rows.items)
-    ∙ ap length (sym (ap changes_in c.in-Put.is) ∙ c.self.view_is)))
+    ∙ (sym (length-put_from c.in-Put.field-0 c.in-Put.field-1 c.in-Put.rows)
+    ∙ ap length (sym (ap changes_in c.in-Put.is) ∙ c.self.view_is))

@@ -24,5 +24,5 @@ opened (Err refused) who cursor table misses old new added allowed is = tt
 
 pub returns-clause-ok : goal.returns-clause-ok
 returns-clause-ok g c =
-    opened c.open_cursor-answer.result c.args.who c.args.cursor c.args.table c.args.self.now.misses c.args.self.now.core c.open_cursor-answer.new.self
+    opened c.open_cursor-answer.result c.args.who c.args.cursor c.args.opening.table c.args.self.now.misses c.args.self.now.core c.open_cursor-answer.new.self
     c.open_cursor-answer.ensures.ok c.open_cursor-answer.ensures.allowed c.open_cursor-answer.ensures.view

@@ -1,9 +1,0 @@
-use Rattle.im_statements.proofs.AgreementLaws.{keep-agreement}
-use Rattle.im_statements.proofs.TransactionLaws.{keep-transaction}
-use Rattle.im_statements.proofs.agreement.lines_keep_agreement.Goals as goal
-
-pub returns-clause-cursors : goal.returns-clause-cursors
-returns-clause-cursors c = keep-agreement
-
-pub returns-clause-transaction : goal.returns-clause-transaction
-returns-clause-transaction c = keep-transaction

@@ -1,0 +1,27 @@
+ghost use Rattle.std.specs.Prelude.{◌≡◌, [], ◌∷◌};
+ghost use Rattle.im_history.specs.Cursors.{own_cursors};
+ghost use Rattle.im_statements.specs.Agreement.{KeepAgreement};
+ghost use Rattle.im_statements.specs.Rounds.{PlayTheSame, StayAmongOthers, StayEnough};
+ghost use Rattle.im_statements.specs.Transaction.{KeepTransaction};
+
+/// A law, for contracts alone: what a session keeps of its cursors agrees with its history after each line, whatever others do
+/// meanwhile and wherever memory runs out; and its reply says whether a transaction of the session is open after it.
+pub fn lines_keep_agreement()
+    ensures cursors { KeepAgreement }
+    ensures transaction { KeepTransaction }
+{}
+
+/// A law, for contracts alone: the cursors that statements open by themselves, by their numbers. Code and definitions cite them by
+/// name.
+pub fn own_cursors_are()
+    ensures { own_cursors ≡ 0 ∷ [] }
+{}
+
+/// A law, for contracts alone: how many rounds a line of the background is played in does not matter. It comes to the same
+/// result and the same history in any number of rounds that is enough for it, and so does every greater number, out of memory
+/// or not; and what may come of a line in some rounds, whatever others do meanwhile, may come of it in more.
+pub fn rounds_do_not_matter()
+    ensures same { PlayTheSame }
+    ensures enough { StayEnough }
+    ensures others { StayAmongOthers }
+{}
