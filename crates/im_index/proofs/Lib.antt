@@ -1,0 +1,4 @@
+mod OrderLemmas
+mod BoundsLemmas
+mod ExcludesLemmas
+pub mod ForCallers
