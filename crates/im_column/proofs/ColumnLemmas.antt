@@ -3,8 +3,9 @@ use Rattle.std.proofs.Common.{◌≡◌, ℕ, ℤ, ◌<◌, List, length, count_
 use Rattle.im_values.specs.declared.value.Value.{Value}
 use Rattle.im_values.specs.Order.{is_null}
 use Rattle.im_values.specs.Sizes.{dictionary}
-use Rattle.im_column.specs.Summaries.{bounds_of, bounds_with, sum_of}
-use Rattle.im_column.specs.declared.bounds.Bounds.{Bounds}
+use Rattle.im_column.specs.Summaries.{sum_of}
+use Rattle.im_index.specs.Bounds.{bounds_of, bounds_with}
+use Rattle.im_index.specs.declared.bounds.Bounds.{Bounds}
 use Rattle.im_column.specs.declared.form.Kept.{Kept}
 use Rattle.im_column.specs.inner.Sized.{values_of, IsKeptFor, IsCountedFor, IsSummedFor}
 

@@ -5,15 +5,16 @@ ghost use Rattle.im_values.specs.Sizes as spec;
 ghost use Rattle.im_codes.specs.Dictionary.{AreCodesOf, IsDictionaryOf, coded, lent};
 ghost use Rattle.im_column.specs.Forms.{AreKeptFor, AreLent, IsFormOf, IsShort};
 ghost use Rattle.im_bits.specs.Packed.{HasCodesFrom};
-ghost use Rattle.im_column.specs.Summaries.{bounds_of, bounds_with, sum_of};
+ghost use Rattle.im_column.specs.Summaries.{sum_of};
+ghost use Rattle.im_index.specs.Bounds.{bounds_of, bounds_with};
 ghost use Rattle.im_column.specs.inner.Sized.{IsCountedFor, IsSummary};
 
-use crate::bounds::Bounds;
 use crate::form::{Form, Kept};
 use crate::sizes::{coded_bytes, rise, runs_bytes, width_for};
 use crate::summary::{Summary, summarize};
 use im_bits::Bits;
 use im_codes::{Coding, Dict, Runs};
+use im_index::Bounds;
 use im_values::{NoMemory, Value, copied};
 use std::alloc::Global;
 use std::marker::Model;

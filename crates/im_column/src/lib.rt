@@ -2,19 +2,18 @@
 //!
 //! Contracts see a [`Column`] as the list of its values. [`Column::form`] lends the form that it is kept in: the values
 //! one beside another, codes of a dictionary, or runs of codes. Which one that is follows from the values alone, by the
-//! sizes of `im_values/specs/Sizes.antt`, and so do [`Column::bytes`], the [`Bounds`] and the sum.
+//! sizes of `im_values/specs/Sizes.antt`, and so do [`Column::bytes`], the sum and the [`Bounds`], which are those of `im_index`.
 //!
 //! A column never changes, and costs nothing to share behind an `Arc` of its user's.
 //!
 //! Start with `specs/Forms.antt` and `column.rt`, then `specs/Summaries.antt` and `summary.rt`.
 #![tactic(auto)]
 
-mod bounds;
 mod column;
 mod form;
 mod sizes;
 mod summary;
 
-pub use bounds::Bounds;
 pub use column::Column;
 pub use form::Form;
+pub use im_index::{Bounds, may_match};

@@ -1,8 +1,9 @@
-ghost use Rattle.std.specs.Prelude.{◌≡◌, not};
+ghost use Rattle.std.specs.Prelude.{◌≡◌, IfOk, not};
 ghost use Rattle.im_index.specs.Excludes as spec;
 ghost use Rattle.im_values.specs.Order as values;
 
-use im_values::{Cmp, Value, order};
+use im_values::{Cmp, NoMemory, Value, order};
+use std::alloc::Global;
 
 /// The least and the greatest value that is not NULL, or none, and how many NULLs there are.
 #[derive(Drop)]
@@ -10,6 +11,29 @@ pub struct Bounds {
     pub least: Option<Value>,
     pub greatest: Option<Value>,
     pub nulls: u64,
+}
+
+/// A value once more, where there is one.
+fn copy_of(value: &Option<Value>, alloc: Global) -> Result<Option<Value>, NoMemory>
+    ensures { IfOk result (λ copy. copy ≡ value.now) }
+{
+    match value {
+        Some(value) => Ok(Some(value.copy(alloc)?)),
+        None => Ok(None),
+    }
+}
+
+impl Bounds {
+    /// The same bounds once more.
+    pub fn copy(&self, alloc: Global) -> Result<Bounds, NoMemory>
+        ensures { IfOk result (λ bounds. bounds ≡ self.now) }
+    {
+        Ok(Bounds {
+            least: copy_of(&self.least, alloc)?,
+            greatest: copy_of(&self.greatest, alloc)?,
+            nulls: self.nulls,
+        })
+    }
 }
 
 /// Whether a value is NULL.

@@ -7,8 +7,9 @@ use Rattle.im_values.specs.Order.{order, is_null}
 use Rattle.im_values.specs.Sizes.{Plain, Coded, Runs, shape_of, width_for, column_bytes, plain_bytes}
 use Rattle.im_codes.specs.Dictionary.{coded, values_at}
 use Rattle.im_column.specs.Forms.{AreKeptFor}
-use Rattle.im_column.specs.Summaries.{bounds_of, sum_of}
-use Rattle.im_column.specs.declared.bounds.Bounds.{Bounds}
+use Rattle.im_column.specs.Summaries.{sum_of}
+use Rattle.im_index.specs.Bounds.{bounds_of}
+use Rattle.im_index.specs.declared.bounds.Bounds.{Bounds}
 use Rattle.im_column.specs.declared.form.Kept.{Kept}
 use Rattle.im_column.specs.declared.form.Kept.TheVariants as kept
 
