@@ -3,3 +3,4 @@ mod BuildLemmas
 mod ReadLemmas
 mod UnitLemmas
 mod PieceLemmas
+mod RankLemmas

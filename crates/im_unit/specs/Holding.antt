@@ -1,7 +1,9 @@
 -- What is read of a column unit.
-use Rattle.std.specs.Prelude.{◌≡◌, ℕ, ◌-◌, nat_lt, List, length, get_or, Option, None, if◌then◌else◌}
+use Rattle.std.specs.Prelude.{◌≡◌, ℕ, ◌-◌, nat_lt, List, length, map, take, get_or, Option, Some, None, is_some, if◌then◌else◌}
 use Rattle.std.specs.List.{All, AllByRecursion}
 use Rattle.std.specs.Option.{ForSome}
+use Rattle.im_index.specs.declared.bounds.Bounds.{Bounds}
+use Rattle.im_index.specs.Bounds.{bounds_of}
 use Rattle.im_column.specs.Forms.{IsShort}
 pub use Rattle.im_history.specs.Contents.{columns_of, count_present, present_rows, unit_bytes, values_in}
 use Rattle.im_history.specs.Rows.{Row}
@@ -10,6 +12,14 @@ use Rattle.im_history.specs.Units.{Content}
 -- the row at a row number: none before the unit's first one, none past its last one
 abbrev pub row_of : Content → ℕ → Option Row
 row_of content rid = if nat_lt rid content.first then None else get_or content.rows (rid - content.first) None
+
+-- how many rows of a unit are present before the one at a row number, where that is present
+abbrev pub spot_of : Content → ℕ → Option ℕ
+spot_of content rid = if is_some (row_of content rid) then Some (count_present (take (rid - content.first) content.rows)) else None
+
+-- the bounds of a unit's columns
+abbrev pub edges_of : Content → List Bounds
+edges_of content = map bounds_of (columns_of content)
 
 -- each row that is present has so many values
 abbrev pub HaveWidth : ℕ → List (Option Row) → Type 0

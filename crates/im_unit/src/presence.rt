@@ -1,7 +1,7 @@
 ghost use Rattle.std.specs.Prelude.{◌≡◌, ◌+◌, ◌*◌, ◌^◌, ◌<◌, ◌≤◌, All, IfOk, length, map, is_some, nat_lt, take, get_or, false};
 ghost use Rattle.std.specs.Bool.{OnTrue};
 ghost use Rattle.std.specs.Int.{div_ceil};
-ghost use Rattle.im_unit.specs.inner.Kept.{count_set};
+ghost use Rattle.im_unit.specs.inner.Kept.{count_set, ranks_of};
 
 use im_bits::{Bits, words_for};
 use im_values::{NoMemory, Row};
@@ -12,18 +12,19 @@ use std::marker::Model;
 #[derive(Drop)]
 pub struct Presence {
     bits: Bits,
+    ranks: Vec<u64>,
     count: u64,
 }
 
 impl Model for Presence {
     ghost use Rattle.std.specs.Prelude.{◌≡◌, ◌^◌, ◌<◌, List, Bool, map, nat_lt};
-    ghost use Rattle.im_unit.specs.inner.Kept.{count_set};
+    ghost use Rattle.im_unit.specs.inner.Kept.{count_set, ranks_of};
 
     ghost Value = { List Bool };
 
     ghost view = { λ p. map (nat_lt 0) p.bits.codes };
 
-    ghost invariant = { λ p. (p.count ≡ count_set (map (nat_lt 0) p.bits.codes)) × (p.count < 2 ^ 31) };
+    ghost invariant = { λ p. (p.count ≡ count_set (map (nat_lt 0) p.bits.codes)) × (p.count < 2 ^ 31) × (p.ranks.items ≡ ranks_of (map (nat_lt 0) p.bits.codes)) };
 }
 
 /// 1 for a row, and 0 for none.
@@ -46,19 +47,51 @@ fn bits_of(alloc: Global, rows: &[Option<Row>]) -> Result<Vec<u32>, NoMemory>
     Ok(bits)
 }
 
-/// How many of the bits before a place are set.
-fn count_before(bits: &Bits, place: u64) -> u64
-    requires { place ≤ length bits.now.codes }
+/// How many of the bits before a place are set, where it is known how many are before an earlier one.
+fn count_on(bits: &Bits, first: u64, known: u64, place: u64) -> u64
+    requires order { first ≤ place }
+    requires within { place ≤ length bits.now.codes }
+    requires known { known ≡ count_set (take first (map (nat_lt 0) bits.now.codes)) }
+    requires few { known ≤ first }
     ensures count { result ≡ count_set (take place (map (nat_lt 0) bits.now.codes)) }
     ensures most { result ≤ place }
 {
-    let mut count = 0;
-    for i in 0..place {
+    let mut count = known;
+    for i in first..place {
         if bits.get(i) != 0 {
             count += 1;
         }
     }
     count
+}
+
+/// How many bits lie between two ranks.
+const STEP: u64 = 64;
+
+/// How many of the bits are set before each 64th one.
+fn ranks_of(alloc: Global, bits: &Bits) -> Result<Vec<u64>, NoMemory>
+    ensures { IfOk result (λ ranks. ranks.items ≡ ranks_of (map (nat_lt 0) bits.now.codes)) }
+{
+    let len = bits.len();
+    let many = len / STEP + 1;
+    let mut ranks = Vec::with_capacity(alloc, many as usize)?;
+    let mut count = 0;
+    for i in 0..many {
+        ranks.push(count)?;
+        count = count_on(bits, i * STEP, count, len.min((i + 1) * STEP));
+    }
+    Ok(ranks)
+}
+
+/// How many of the bits before a place are set, by the rank before it. It costs at most 63 bits.
+fn count_at(bits: &Bits, ranks: &[u64], place: u64) -> u64
+    requires within { place ≤ length bits.now.codes }
+    requires ranks { ranks.now ≡ ranks_of (map (nat_lt 0) bits.now.codes) }
+    ensures count { result ≡ count_set (take place (map (nat_lt 0) bits.now.codes)) }
+    ensures most { result ≤ place }
+{
+    let rank = place / STEP;
+    count_on(bits, rank * STEP, ranks[rank as usize], place)
 }
 
 impl Presence {
@@ -68,8 +101,9 @@ impl Presence {
         ensures { IfOk result (λ presence. presence ≡ map is_some rows.now) }
     {
         let bits = Bits::pack(alloc, bits_of(alloc, rows)?.as_slice(), 1)?;
-        let count = count_before(&bits, bits.len());
-        Ok(Presence { bits, count })
+        let ranks = ranks_of(alloc, &bits)?;
+        let count = count_at(&bits, ranks.as_slice(), bits.len());
+        Ok(Presence { bits, ranks, count })
     }
 
     /// How many row numbers there are.
@@ -106,7 +140,7 @@ impl Presence {
         self.bits.get(place) != 0
     }
 
-    /// How many rows before a place are present. It costs the places before, unless every row is present.
+    /// How many rows before a place are present. It costs at most 63 bits, and nothing where every row is present.
     pub fn before(&self, place: u64) -> u64
         requires { place ≤ length self.now }
         ensures { result ≡ count_set (take place self.now) }
@@ -114,7 +148,7 @@ impl Presence {
         if self.is_full() {
             return place;
         }
-        count_before(&self.bits, place)
+        count_at(&self.bits, self.ranks.as_slice(), place)
     }
 
     /// The bytes that it counts for.

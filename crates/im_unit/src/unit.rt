@@ -1,7 +1,8 @@
 ghost use Rattle.std.specs.Prelude.{◌≡◌, ◌+◌, ◌<◌, ◌≤◌, ◌^◌, map, length, sum_by, IfOk};
 ghost use Rattle.std.specs.Arc.{arc_value};
 ghost use Rattle.im_values.specs.Sizes.{column_bytes};
-ghost use Rattle.im_unit.specs.Holding.{AreShort, HaveWidth, columns_of, present_rows, row_of, values_in};
+ghost use Rattle.im_index.specs.Bounds.{bounds_of};
+ghost use Rattle.im_unit.specs.Holding.{AreShort, HaveWidth, columns_of, edges_of, present_rows, row_of, spot_of, values_in};
 ghost use Rattle.im_unit.specs.inner.Kept.{AreBounded};
 
 use crate::building::{columns_of, rows_present};
@@ -9,6 +10,7 @@ use crate::presence::Presence;
 use crate::reading::{row_at, rows_of, slots_of, spread_rows};
 use im_column::Column;
 use im_history::UnitLike;
+use im_index::Bounds;
 use im_values::limits::MOST_COLUMNS;
 use im_values::{NoMemory, Row};
 use std::alloc::Global;
@@ -22,6 +24,7 @@ pub struct ColumnUnit {
     first: u64,
     presence: Presence,
     columns: Vec<Arc<Column>>,
+    edges: Vec<Bounds>,
     bytes: u64,
 }
 
@@ -30,6 +33,7 @@ impl Model for ColumnUnit {
     ghost use Rattle.std.specs.Arc.{arc_value};
     ghost use Rattle.std.specs.Int.{div_ceil};
     ghost use Rattle.im_values.specs.Sizes.{column_bytes};
+    ghost use Rattle.im_index.specs.Bounds.{bounds_of};
     ghost use Rattle.im_history.specs.Units.{Content};
     ghost use Rattle.im_unit.specs.inner.Kept.{HaveLength, content_kept, count_set};
 
@@ -37,7 +41,7 @@ impl Model for ColumnUnit {
 
     ghost view = { λ u. content_kept u.scn u.first (length u.columns.items) u.presence (map arc_value u.columns.items) };
 
-    ghost invariant = { λ u. HaveLength (count_set u.presence) (map arc_value u.columns.items) × (length u.columns.items ≤ 16) × (u.bytes ≡ 8 * div_ceil (length u.presence) 64 + sum_by column_bytes (map arc_value u.columns.items)) };
+    ghost invariant = { λ u. HaveLength (count_set u.presence) (map arc_value u.columns.items) × (length u.columns.items ≤ 16) × (u.bytes ≡ 8 * div_ceil (length u.presence) 64 + sum_by column_bytes (map arc_value u.columns.items)) × (u.edges.items ≡ map bounds_of (map arc_value u.columns.items)) };
 }
 
 /// The bytes of columns.
@@ -52,6 +56,17 @@ fn bytes_of(columns: &[Arc<Column>]) -> u64
         bytes += column.bytes();
     }
     bytes
+}
+
+/// The bounds of columns, once more.
+fn edges_of(alloc: Global, columns: &[Arc<Column>]) -> Result<Vec<Bounds>, NoMemory>
+    ensures { IfOk result (λ edges. edges.items ≡ map bounds_of (map arc_value columns.now)) }
+{
+    let mut edges = Vec::with_capacity(alloc, columns.len())?;
+    for column in columns {
+        edges.push(column.bounds().copy(alloc)?)?;
+    }
+    Ok(edges)
 }
 
 impl ColumnUnit {
@@ -76,35 +91,50 @@ impl ColumnUnit {
         let presence = Presence::of(alloc, rows)?;
         let present = rows_present(alloc, rows)?;
         let columns = columns_of(alloc, present.as_slice(), columns as usize)?;
+        let edges = edges_of(alloc, columns.as_slice())?;
         let bytes = presence.bytes() + bytes_of(columns.as_slice());
         Ok(ColumnUnit {
             scn,
             first,
             presence,
             columns,
+            edges,
             bytes,
         })
     }
 
     /// A copy of the row at a row number: None where there is none, and where the row number is not the unit's.
     ///
-    /// It costs the row numbers before.
+    /// It costs a value of each column.
     pub fn get(&self, alloc: Global, rid: u64) -> Result<Option<Row>, NoMemory>
         ensures { IfOk result (λ row. row ≡ row_of self.now rid) }
     {
-        if rid < self.first {
+        let Some(spot) = self.spot(rid) else {
             return Ok(None);
+        };
+        let row = row_at(alloc, self.columns.as_slice(), spot, self.presence.count())?;
+        Ok(Some(row))
+    }
+
+    /// How many present rows have a lower row number: the place of a row in the columns. None exactly where no row is present at
+    /// this row number.
+    ///
+    /// It takes no memory, and costs at most 64 bits.
+    pub fn spot(&self, rid: u64) -> Option<u64>
+        ensures { result ≡ spot_of self.now rid }
+    {
+        if rid < self.first {
+            return None;
         }
         let place = rid - self.first;
         if place >= self.presence.len() {
-            return Ok(None);
+            return None;
         }
         if !self.presence.is_present(place) {
-            return Ok(None);
+            return None;
         }
         let spot = self.presence.before(place);
-        let row = row_at(alloc, self.columns.as_slice(), spot, self.presence.count())?;
-        Ok(Some(row))
+        Some(spot)
     }
 
     /// The rows by row number, from the first one on, read back. Their values are copied, 64 rows at a time into one block that
@@ -134,6 +164,13 @@ impl ColumnUnit {
         ensures { result.now ≡ values_in i (present_rows self.now.rows) }
     {
         &self.columns[i as usize]
+    }
+
+    /// The bounds of the columns, in order. It takes no memory.
+    pub fn edges(&self) -> &[Bounds]
+        ensures { result.now ≡ edges_of self.now }
+    {
+        self.edges.as_slice()
     }
 
     /// The row number of the first of its rows.

@@ -1,5 +1,5 @@
 -- How the rows of a unit are kept: which are present, and the columns of those.
-use Rattle.std.specs.Prelude.{◌≡◌, ℕ, ◌+◌, ◌^◌, ◌<◌, Bool, true, false, List, [], ◌∷◌, length, map, get_or, count_by, Option, Some, None}
+use Rattle.std.specs.Prelude.{◌≡◌, ℕ, ◌+◌, ◌*◌, ◌/◌, ◌^◌, ◌<◌, Bool, true, false, List, [], ◌∷◌, length, map, take, get_or, count_by, Option, Some, None}
 use Rattle.std.specs.List.{All, range_with_len}
 use denote.Ref.{Bor}
 use Rattle.im_values.specs.declared.value.Value.{Value}
@@ -12,6 +12,10 @@ use Rattle.im_history.specs.Units.{Content}
 -- how many of the flags are set
 abbrev pub count_set : List Bool → ℕ
 count_set flags = count_by (λ flag. flag) flags
+
+-- how many flags are set before each 64th one
+abbrev pub ranks_of : List Bool → List ℕ
+ranks_of flags = map (λ i. count_set (take (i * 64) flags)) (range_with_len 0 (length flags / 64 + 1))
 
 -- rows, put one after another where a flag is set
 abbrev pub spread : List Bool → List Row → List (Option Row)

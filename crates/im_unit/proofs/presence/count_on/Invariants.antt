@@ -1,7 +1,7 @@
 use Rattle.std.proofs.Common.{◌≡◌, ◌≤◌, map, take}
 use Rattle.std.specs.Prelude.{nat_lt}
 use Rattle.im_unit.specs.inner.Kept.{count_set}
-use Rattle.im_unit.proofs.presence.count_before.Given as goal
+use Rattle.im_unit.proofs.presence.count_on.Given as goal
 
 -- so many of the bits before this one are set
 abbrev pub invariant-loop-i : goal.invariant-loop-i

@@ -5,6 +5,7 @@ use Rattle.std.specs.Arc.{arc_value}
 use Rattle.std.specs.List.{range_with_len}
 use Rattle.std.proofs.lemmas.List.{length-map}
 use Rattle.im_values.specs.Sizes.{column_bytes}
+use Rattle.im_index.specs.Bounds.{bounds_of}
 use Rattle.im_history.specs.Rows.{Row}
 use Rattle.im_unit.specs.Holding.{values_in}
 use Rattle.im_unit.specs.inner.Kept.{AreRows, lent, content_kept}
@@ -30,8 +31,8 @@ bytes_of-requires c =
     ∙ ap (λ (l : List Row). map (λ column. values_in column l) (range_with_len 0 c.args.columns))
     (ap lent c.as_slice.ensures.value ∙ c.in_ok-present.ensures)) in
     record {
-      few = omega (arith, ap length c.as_slice-2.ensures.value, length-map columns arc_value, is.wide, c.requires.few_columns);
-      bounded = rw c.as_slice-2.ensures.value is.bounded;
+      few = omega (arith, ap length c.as_slice-3.ensures.value, length-map columns arc_value, is.wide, c.requires.few_columns);
+      bounded = rw c.as_slice-3.ensures.value is.bounded;
     }
 
 pub invariant_of-result : goal.invariant_of-result
@@ -47,7 +48,8 @@ invariant_of-result c =
       omega (arith, length-map columns arc_value, is.wide, c.requires.few_columns),
       ap (λ (n : ℕ). n + c.bytes_of.result) c.bytes.ensures.bytes
           ∙ ap (λ (n : ℕ). 8 * div_ceil (length c.in_ok-presence.presence) 64 + n)
-          (c.bytes_of.ensures.bytes ∙ ap (λ slice. sum_by column_bytes (map arc_value slice)) c.as_slice-2.ensures.value),
+          (c.bytes_of.ensures.bytes ∙ ap (λ slice. sum_by column_bytes (map arc_value slice)) c.as_slice-3.ensures.value),
+      c.in_ok-edges.ensures ∙ ap (λ slice. map bounds_of (map arc_value slice)) c.as_slice-2.ensures.value,
     )
 
 pub returns : goal.returns
