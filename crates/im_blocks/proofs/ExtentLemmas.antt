@@ -2,11 +2,11 @@
 use Rattle.std.proofs.Common.{◌≡◌, ℕ, ◌+◌, ◌-◌, ◌≤◌, List, [], ◌∷◌, ◌++◌, Option, sym, ap, ◌∙◌, arith}
 use Rattle.std.proofs.lemmas.List.FromFn.{map-range_with_len_more}
 use Rattle.im_values.specs.declared.value.Value.{Value}
-use Rattle.im_versions.specs.Versions.{Versions, row_at}
-use Rattle.im_blocks.specs.Chains.{versions_at, rows_at}
+use Rattle.im_versions.specs.Versions.{row_at}
+use Rattle.im_blocks.specs.Chains.{AllVersions, versions_at, rows_at}
 
 -- the rows up to a row number, and its row
-pub rows_at-more : (blocks : List (List Versions)) (table first rid scn : ℕ) (row : Option (List Value)) (so_far longer : List (ℕ × Option (List Value))) →
+pub rows_at-more : (blocks : AllVersions) (table first rid scn : ℕ) (row : Option (List Value)) (so_far longer : List (ℕ × Option (List Value))) →
     first ≤ rid → so_far ≡ rows_at blocks table first (rid - first) scn → row ≡ row_at (versions_at blocks table rid) scn →
     longer ≡ so_far ++ (rid, row) ∷ [] → longer ≡ rows_at blocks table first (rid + 1 - first) scn
 rows_at-more blocks table first rid scn row so_far longer from rows is pushed =

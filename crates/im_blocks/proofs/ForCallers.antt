@@ -4,7 +4,7 @@ use Rattle.std.specs.List.{fold, flat_map, range_with_len}
 use Rattle.im_tables.proofs.ForCallers.{cell_at-nil}
 use Rattle.im_values.specs.declared.schema.Column.{Column}
 use Rattle.im_versions.specs.declared.version.Version.{Version}
-use Rattle.im_versions.specs.Versions.{Versions, no_chain, row_at}
+use Rattle.im_versions.specs.Versions.{row_at}
 use Rattle.im_history.specs.declared.change.Change.{Change}
 use Rattle.im_history.specs.declared.entry.Entry.{Entry}
 use Rattle.im_history.specs.declared.entry.What.{What}
@@ -15,7 +15,8 @@ use Rattle.im_history.specs.History.{History, replay}
 use Rattle.im_history.specs.Rows.{Row, rows, row_after}
 use Rattle.im_history.specs.Touched.{touches, last_touch, touched_after}
 use Rattle.im_history.specs.Transactions.{pending}
-use Rattle.im_blocks.specs.Chains.{chain_of, versions_at, newest_scn, rows_among, rows_at}
+use Rattle.im_blocks.specs.declared.slot.Slot.TheVariants.{Empty}
+use Rattle.im_blocks.specs.Chains.{AllVersions, no_versions, versions_at, versions_in, newest_scn, rows_among, rows_at}
 use Rattle.im_blocks.specs.Kept.{IsKept, TellsTouches}
 use Rattle.im_blocks.specs.Transitions.{SameVersions, IsBefore, Applied}
 use Rattle.im_blocks.specs.VersionsOf.{version_by, versions_from, versions_of}
@@ -36,12 +37,13 @@ versions_of-push h entry table rid =
     ∙ (versions_from-append 1 (commits h) (committed_by h entry.who entry.what) table rid
     ∙ ap (λ (k : ℕ). versions_from 1 (commits h) table rid ++ versions_from k (committed_by h entry.who entry.what) table rid) next)
 
-chain_of-nil : (table rid : ℕ) → (chain_of [] table rid).versions ≡ []
-chain_of-nil table rid = ap (λ (c : Versions). c.versions) (cell_at-nil no_chain table rid)
+versions_at-nil : (table rid : ℕ) → versions_at no_versions table rid ≡ []
+unfolding versions_at
+versions_at-nil table rid = ap (versions_in [] [] table rid) (cell_at-nil Empty table rid)
 
 -- no versions are those of the empty history
-pub IsKept-nil : IsKept [] []
-IsKept-nil = record { each = λ table rid. chain_of-nil table rid ∙ versions_of-nil table rid }
+pub IsKept-nil : IsKept [] no_versions
+IsKept-nil = record { each = λ table rid. versions_at-nil table rid ∙ versions_of-nil table rid }
 
 versions_of-quiet : (h : History) (entry : Entry) (table rid : ℕ) → moves_clock entry.what ≡ false →
     versions_of (h ++ entry ∷ []) table rid ≡ versions_of h table rid
@@ -49,12 +51,12 @@ unfolding versions_of
 versions_of-quiet h entry table rid quiet = ap (λ (list : List (List Change)). versions_from 1 list table rid) (commits-push_quiet h entry quiet)
 
 -- an entry that commits nothing gives no row a version
-pub IsKept-quiet : (h : History) (entry : Entry) (blocks : List (List Versions)) → moves_clock entry.what ≡ false → IsKept h blocks →
+pub IsKept-quiet : (h : History) (entry : Entry) (blocks : AllVersions) → moves_clock entry.what ≡ false → IsKept h blocks →
     IsKept (h ++ entry ∷ []) blocks
 IsKept-quiet h entry blocks quiet kept = record { each = λ table rid. kept.each table rid ∙ sym (versions_of-quiet h entry table rid quiet) }
 
 -- nor does the creation of a table
-pub IsKept-create : (h : History) (who : ℕ) (name : List ℕ) (schema : List Column) (grid : Grid) (blocks : List (List Versions)) → IsKept h blocks →
+pub IsKept-create : (h : History) (who : ℕ) (name : List ℕ) (schema : List Column) (grid : Grid) (blocks : AllVersions) → IsKept h blocks →
     IsKept (h ++ record { who = who; what = Create name schema grid } ∷ []) blocks
 IsKept-create h who name schema grid blocks kept = record {
   each =
@@ -63,11 +65,11 @@ IsKept-create h who name schema grid blocks kept = record {
 }
 
 -- blocks with the same versions keep the same history
-pub IsKept-same : (h : History) (old new : List (List Versions)) → SameVersions old new → IsKept h old → IsKept h new
+pub IsKept-same : (h : History) (old new : AllVersions) → SameVersions old new → IsKept h old → IsKept h new
 IsKept-same h old new same kept = record { each = λ table rid. same.versions table rid ∙ kept.each table rid }
 
 -- blocks with a commit's changes applied keep the history with this commit
-pub IsKept-commit : (h : History) (who : ℕ) (old new : List (List Versions)) → Applied old new (scn h + 1) (pending h who) → IsKept h old →
+pub IsKept-commit : (h : History) (who : ℕ) (old new : AllVersions) → Applied old new (scn h + 1) (pending h who) → IsKept h old →
     IsKept (h ++ record { who = who; what = Commit } ∷ []) new
 IsKept-commit h who old new applied kept = record {
   each = λ table rid.
@@ -85,7 +87,7 @@ row_at-versions_of h table rid n =
     ∙ ap (λ (k : ℕ). fold (row_after table rid) None (flat_map (λ changes. changes) (take k (commits h)))) same
 
 -- the row at an SCN is the row committed at it
-pub rows_kept : (h : History) (blocks : List (List Versions)) → IsKept h blocks → (table rid n : ℕ) →
+pub rows_kept : (h : History) (blocks : AllVersions) → IsKept h blocks → (table rid n : ℕ) →
     row_at (versions_at blocks table rid) n ≡ rows h table n rid
 rows_kept h blocks kept table rid n = ap (λ (v : List Version). row_at v n) (kept.each table rid) ∙ row_at-versions_of h table rid n
 
@@ -94,14 +96,14 @@ map_same f g same [] = refl
 map_same f g same (k ∷ ks) = rw (same k) (ap (λ l. g k ∷ l) (map_same f g same ks))
 
 -- row numbers, each with the row committed at an SCN
-pub rows_among_kept : (h : History) (blocks : List (List Versions)) → IsKept h blocks → (table : ℕ) (rids : List ℕ) (n : ℕ) →
+pub rows_among_kept : (h : History) (blocks : AllVersions) → IsKept h blocks → (table : ℕ) (rids : List ℕ) (n : ℕ) →
     rows_among blocks table rids n ≡ map (λ rid. (rid, rows h table n rid)) rids
 rows_among_kept h blocks kept table rids n =
     map_same (λ rid. (rid, row_at (versions_at blocks table rid) n)) (λ rid. (rid, rows h table n rid))
     (λ rid. ap (λ (row : Option Row). (rid, row)) (rows_kept h blocks kept table rid n)) rids
 
 -- so many of them from the first on
-pub rows_at_kept : (h : History) (blocks : List (List Versions)) → IsKept h blocks → (table first count n : ℕ) →
+pub rows_at_kept : (h : History) (blocks : AllVersions) → IsKept h blocks → (table first count n : ℕ) →
     rows_at blocks table first count n ≡ map (λ rid. (rid, rows h table n rid)) (range_with_len first count)
 rows_at_kept h blocks kept table first count n = rows_among_kept h blocks kept table (range_with_len first count) n
 
@@ -130,13 +132,13 @@ IsNewest-push table rid h entry newest = record {
 }
 
 -- the newest version is of the last commit that touched the row
-pub latest_kept : (h : History) (blocks : List (List Versions)) → IsKept h blocks → (table rid : ℕ) →
+pub latest_kept : (h : History) (blocks : AllVersions) → IsKept h blocks → (table rid : ℕ) →
     newest_scn (versions_at blocks table rid) ≡ last_touch h table rid
 latest_kept h blocks kept table rid =
     ap newest_scn (kept.each table rid) ∙ (each_history (IsNewest table rid) (IsNewest-nil table rid) (IsNewest-push table rid) h).is
 
 -- so a newest version of a later commit than an SCN tells the last commit that touched the row
-pub touches_kept : (h : History) (blocks : List (List Versions)) → IsKept h blocks → TellsTouches h blocks
+pub touches_kept : (h : History) (blocks : AllVersions) → IsKept h blocks → TellsTouches h blocks
 touches_kept h blocks kept = record {
   later = λ table rid number after. latest_kept h blocks kept table rid;
   not_later = λ table rid number upto. let last = latest_kept h blocks kept table rid in omega (arith, last, upto);
@@ -170,7 +172,7 @@ pub last_touch-le-scn : (h : History) (table rid : ℕ) → last_touch h table r
 last_touch-le-scn h table rid = (each_history (IsPast table rid) (IsPast-nil table rid) (IsPast-push table rid) h).is
 
 -- so the next commit can be applied
-pub ready_to_apply : (h : History) (blocks : List (List Versions)) → IsKept h blocks → IsBefore blocks (scn h + 1)
+pub ready_to_apply : (h : History) (blocks : AllVersions) → IsKept h blocks → IsBefore blocks (scn h + 1)
 ready_to_apply h blocks kept = record {
   each = λ table rid. let past = last_touch-le-scn h table rid in rw (latest_kept h blocks kept table rid) (omega (arith, past));
 }
@@ -178,11 +180,11 @@ ready_to_apply h blocks kept = record {
 -- ---- without a history
 
 -- no versions are of earlier commits than any
-pub IsBefore-nil : (number : ℕ) → 0 < number → IsBefore [] number
-IsBefore-nil number some = record { each = λ table rid. let none = ap newest_scn (chain_of-nil table rid) in omega (arith, none, some) }
+pub IsBefore-nil : (number : ℕ) → 0 < number → IsBefore no_versions number
+IsBefore-nil number some = record { each = λ table rid. let none = ap newest_scn (versions_at-nil table rid) in omega (arith, none, some) }
 
 -- room changes no version
-pub IsBefore-same : (old new : List (List Versions)) (number : ℕ) → SameVersions old new → IsBefore old number → IsBefore new number
+pub IsBefore-same : (old new : AllVersions) (number : ℕ) → SameVersions old new → IsBefore old number → IsBefore new number
 IsBefore-same old new number same before = record {
   each = λ table rid. let equal = ap newest_scn (same.versions table rid) in let earlier = before.each table rid in omega (arith, equal, earlier);
 }
@@ -192,7 +194,7 @@ either_below true number newest earlier = omega arith
 either_below false number newest earlier = omega (arith, earlier)
 
 -- after a commit the next one can be applied
-pub IsBefore-applied : (old new : List (List Versions)) (number : ℕ) (changes : List Change) → Applied old new number changes → IsBefore old number →
+pub IsBefore-applied : (old new : AllVersions) (number : ℕ) (changes : List Change) → Applied old new number changes → IsBefore old number →
     IsBefore new (number + 1)
 IsBefore-applied old new number changes applied before = record {
   each = λ table rid.

@@ -1,5 +1,8 @@
 mod ExtentLemmas
 pub mod ForCallers
 mod HandingLemmas
+mod Places
 mod RoomLemmas
+mod RunLemmas
+mod StoreLemmas
 mod VersionLemmas

@@ -1,16 +1,15 @@
 -- What it means that the blocks are those of a history.
-use Rattle.std.specs.Prelude.{◌≡◌, ℕ, ◌<◌, ◌≤◌, List}
-use Rattle.im_versions.specs.Versions.{Versions}
+use Rattle.std.specs.Prelude.{◌≡◌, ℕ, ◌<◌, ◌≤◌}
 use Rattle.im_history.specs.History.{History}
 use Rattle.im_history.specs.Touched.{last_touch}
-use Rattle.im_blocks.specs.Chains.{newest_scn, versions_at}
+use Rattle.im_blocks.specs.Chains.{AllVersions, newest_scn, versions_at}
 use Rattle.im_blocks.specs.VersionsOf.{versions_of}
 
 -- each row number of each table has the versions that the history gave it
-pub record IsKept (history : History) (blocks : List (List Versions)) : Type 0 where
+pub record IsKept (history : History) (blocks : AllVersions) : Type 0 where
   pub each : (table rid : ℕ) → versions_at blocks table rid ≡ versions_of history table rid
 
 -- whether a commit behind an SCN touched a row, and which was the last: the newest version says so
-pub record TellsTouches (history : History) (blocks : List (List Versions)) : Type 0 where
+pub record TellsTouches (history : History) (blocks : AllVersions) : Type 0 where
   pub later : (table rid scn : ℕ) → scn < newest_scn (versions_at blocks table rid) → newest_scn (versions_at blocks table rid) ≡ last_touch history table rid
   pub not_later : (table rid scn : ℕ) → newest_scn (versions_at blocks table rid) ≤ scn → last_touch history table rid ≤ scn

@@ -1,23 +1,26 @@
--- What the calls do to all chains, row number by row number.
-use Rattle.std.specs.Prelude.{◌≡◌, ℕ, ◌<◌, ◌≤◌, List, ◌++◌, All}
-use Rattle.im_versions.specs.Versions.{Versions}
+-- What the calls do to all versions, row number by row number.
+use Rattle.std.specs.Prelude.{◌≡◌, ℕ, ◌<◌, ◌≤◌, Bool, List, ◌++◌, length}
+use Rattle.std.specs.List.{All}
+use Rattle.std.specs.Option.{is_some}
 use Rattle.im_history.specs.declared.change.Change.{Change}
-use Rattle.im_blocks.specs.Chains.{chain_of, versions_at, newest_scn}
+use Rattle.im_blocks.specs.Chains.{AllVersions, IsReady, versions_at, newest_scn}
 use Rattle.im_blocks.specs.VersionsOf.{version_by}
 
 -- each row has the versions that it had, and no less room
-pub record SameVersions (old new : List (List Versions)) : Type 0 where
+pub record SameVersions (old new : AllVersions) : Type 0 where
   pub versions : (table rid : ℕ) → versions_at new table rid ≡ versions_at old table rid
-  pub room : (table rid : ℕ) → (chain_of old table rid).spare ≤ (chain_of new table rid).spare
+  pub ready : (table rid : ℕ) (put : Bool) → IsReady old table rid put → IsReady new table rid put
+  pub room : old.room ≤ new.room
 
 -- each change has room for a version at its row
-pub record HasRoom (blocks : List (List Versions)) (changes : List Change) : Type 0 where
-  pub each : All (λ change. 0 < (chain_of blocks change.table change.rid).spare) changes
+pub record HasRoom (blocks : AllVersions) (changes : List Change) : Type 0 where
+  pub each : All (λ change. IsReady blocks change.table change.rid (is_some change.row)) changes
+  pub runs : length changes ≤ blocks.room
 
 -- the newest version of each row is of an earlier commit than this one
-pub record IsBefore (blocks : List (List Versions)) (scn : ℕ) : Type 0 where
+pub record IsBefore (blocks : AllVersions) (scn : ℕ) : Type 0 where
   pub each : (table rid : ℕ) → newest_scn (versions_at blocks table rid) < scn
 
 -- each row has one version more where the changes of the commit touch it, and else those that it had
-pub record Applied (old new : List (List Versions)) (scn : ℕ) (changes : List Change) : Type 0 where
+pub record Applied (old new : AllVersions) (scn : ℕ) (changes : List Change) : Type 0 where
   pub versions : (table rid : ℕ) → versions_at new table rid ≡ versions_at old table rid ++ version_by scn changes table rid

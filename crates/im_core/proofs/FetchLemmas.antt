@@ -10,8 +10,7 @@ use Rattle.im_history.specs.Stored.{Stored}
 use Rattle.im_history.specs.Cursors.{Opened, opened, cursor_at, is_cursor}
 use Rattle.im_history.specs.History.{History}
 use Rattle.im_history.specs.Tables.{given}
-use Rattle.im_versions.specs.Versions.{Versions}
-use Rattle.im_blocks.specs.Chains.{rows_at}
+use Rattle.im_blocks.specs.Chains.{AllVersions, rows_at}
 use Rattle.im_blocks.specs.Kept.{IsKept}
 use Rattle.im_blocks.proofs.ForCallers.{rows_at_kept}
 use Rattle.im_txn.specs.declared.cursor.Cursor.{Cursor}
@@ -75,7 +74,7 @@ finds_view h who cursor extent found views light found_is within = by (cursor_at
         }
 
 -- what is read for it
-pub fetched_is : (h : History) (blocks : List (List Versions)) (view : View) (extent count : ℕ) (cursor : Cursor) → IsKept h blocks
+pub fetched_is : (h : History) (blocks : AllVersions) (view : View) (extent count : ℕ) (cursor : Cursor) → IsKept h blocks
     → HasView view extent cursor → count ≡ min cursor.per (cursor.rows - extent * cursor.per)
     → rows_at blocks cursor.table (extent * cursor.per) count cursor.scn ≡ committed_in h view extent
 fetched_is h blocks view extent count cursor keeps has count_is =

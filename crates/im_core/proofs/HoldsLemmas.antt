@@ -4,7 +4,6 @@ use Rattle.std.proofs.lemmas.List.{length-replicate}
 use Rattle.std.specs.Option.{option_map}
 use Rattle.im_values.specs.declared.limits.TheConstants.{MOST_CHANGES, MOST_TABLES, MOST_WEIGHT, NUMBERS}
 use Rattle.im_values.specs.declared.schema.Column.{Column}
-use Rattle.im_versions.specs.Versions.{Versions}
 use Rattle.im_history.specs.declared.change.Change.{Change}
 use Rattle.im_history.specs.declared.entry.Entry.{Entry}
 use Rattle.im_history.specs.declared.entry.Mode.{Mode}
@@ -25,6 +24,7 @@ use Rattle.im_history.specs.Transactions.{begun, is_open, pending}
 use Rattle.im_history.specs.Units.{Content}
 use Rattle.im_history.specs.Weights.{weight, changes_weight}
 use Rattle.im_history.proofs.Laws.{IsLegal-push, weight-push}
+use Rattle.im_blocks.specs.Chains.{AllVersions, no_versions}
 use Rattle.im_blocks.specs.Kept.{IsKept}
 use Rattle.im_blocks.specs.Transitions.{SameVersions, Applied}
 use Rattle.im_blocks.proofs.ForCallers.{IsKept-nil, IsKept-quiet, IsKept-create, IsKept-same, IsKept-commit}
@@ -96,7 +96,7 @@ module _ {U : Type 0} (content : U → Content) (limits : Limits) (history : Sto
   }
 
   -- more room for what a commit applies and notes
-  pub Holds-roomier : (new_blocks : List (List Versions)) (new_kept : Kept U) → Holds content limits history caches → SameVersions caches.blocks new_blocks
+  pub Holds-roomier : (new_blocks : AllVersions) (new_kept : Kept U) → Holds content limits history caches → SameVersions caches.blocks new_blocks
       → SameTold caches.kept new_kept → Holds content limits history (record caches { blocks = new_blocks; kept = new_kept })
   Holds-roomier new_blocks new_kept holds same told =
       let count : count_by is_some new_kept.builds ≡ count_by is_some caches.kept.builds = ap (count_by is_some) told.builds in
@@ -117,7 +117,7 @@ module _ {U : Type 0} (content : U → Content) (limits : Limits) (history : Sto
   -- all is told as before of the column store
   pub Holds-told : (new_kept : Kept U) → Holds content limits history caches → SameTold caches.kept new_kept
       → Holds content limits history (record caches { kept = new_kept })
-  Holds-told new_kept holds told = Holds-roomier caches.blocks new_kept holds (record { versions = λ table rid. refl; room = λ table rid. omega arith }) told
+  Holds-told new_kept holds told = Holds-roomier caches.blocks new_kept holds (record { versions = λ table rid. refl; ready = λ table rid put ready. ready; room = omega arith }) told
 
   -- more room in the history
   pub Holds-reserved : (reserved : Stored) (room : ℕ) → Holds content limits history caches → reserved ≡ record history { spare = max history.spare room }
@@ -138,7 +138,7 @@ module _ {U : Type 0} (content : U → Content) (limits : Limits) (history : Sto
       })
 
   -- an entry that is light, and leaves the rows
-  light_step : (after : Stored) (entry : Entry) (room : ℕ) (new_beginnings : List ℕ) (new_blocks : List (List Versions)) (new : Standing) (new_kept : Kept U)
+  light_step : (after : Stored) (entry : Entry) (room : ℕ) (new_beginnings : List ℕ) (new_blocks : AllVersions) (new : Standing) (new_kept : Kept U)
       → Holds content limits history caches → entry.who < NUMBERS → Grew history after entry room → IsLight entry.what
       → IsAllowed limits history.entries entry.who entry.what → Began (history.entries ++ entry ∷ []) new_beginnings
       → IsKept (history.entries ++ entry ∷ []) new_blocks → Agrees (history.entries ++ entry ∷ []) new → IsOf content (history.entries ++ entry ∷ []) new_kept
@@ -216,7 +216,7 @@ module _ {U : Type 0} (content : U → Content) (limits : Limits) (history : Sto
   owed_after who new true e agrees is = let fewer = owed-ended history.entries who caches.standing new agrees e is in omega (arith, fewer)
   owed_after who new false e agrees is = let same = owed-ended-none history.entries who caches.standing new agrees e is in omega (arith, same)
 
-  pub Holds-commit : (after : Stored) (who s : ℕ) (changes : List Change) (mid_blocks new_blocks : List (List Versions)) (new : Standing)
+  pub Holds-commit : (after : Stored) (who s : ℕ) (changes : List Change) (mid_blocks new_blocks : AllVersions) (new : Standing)
       (mid_kept new_kept : Kept U)
       → Holds content limits history caches → who < NUMBERS → s ≡ scn history.entries → SameVersions caches.blocks mid_blocks
       → Grew history after (record { who = who; what = Commit }) (owed caches.standing mid_kept + 1) → changes ≡ pending history.entries who
@@ -322,7 +322,7 @@ no_caches standing kept = record {
   counts = [];
   weighed = 0;
   beginnings = replicate NUMBERS 0;
-  blocks = [];
+  blocks = no_versions;
   standing = standing;
   kept = kept;
 }

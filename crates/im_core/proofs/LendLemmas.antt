@@ -3,7 +3,6 @@ use Rattle.std.proofs.Common.{◌≡◌, ℕ, Bool, true, false, List, length, m
 use Rattle.std.specs.Option.{option_map}
 use Rattle.std.proofs.lemmas.List.{length-map}
 use Rattle.std.proofs.lemmas.List.FromFn.{length-range_with_len}
-use Rattle.im_versions.specs.Versions.{Versions}
 use Rattle.im_history.specs.declared.limits.Limits.{Limits}
 use Rattle.im_history.specs.declared.view.View.{View}
 use Rattle.im_history.specs.History.{History}
@@ -13,7 +12,7 @@ use Rattle.im_history.specs.Stored.{Stored}
 use Rattle.im_history.specs.Units.{Content, content_at, unit}
 use Rattle.im_history.proofs.ShapeLaws.{per_at-some}
 use Rattle.im_history.proofs.ViewLaws.{shown_all-same}
-use Rattle.im_blocks.specs.Chains.{rows_among}
+use Rattle.im_blocks.specs.Chains.{AllVersions, rows_among}
 use Rattle.im_blocks.proofs.ForCallers.{rows_among_kept}
 use Rattle.im_directory.specs.Agrees.{Agrees}
 use Rattle.im_directory.specs.Slots.{Kept, Stock, stale_told, told_at, unit_in}
@@ -108,7 +107,7 @@ pub read-fetched : (h : History) (view : View) (extent : ℕ) → read_in h view
 read-fetched h view extent = sym (shown_all-same view (read_in h view extent))
 
 -- the rows that are stale beside a unit, as they are kept
-pub record KeepsStale (h : History) (blocks : List (List Versions)) (table extent scn at : ℕ) (rids : List ℕ) : Type 0 where
+pub record KeepsStale (h : History) (blocks : AllVersions) (table extent scn at : ℕ) (rids : List ℕ) : Type 0 where
   pub rows : rows_among blocks table rids scn ≡ stale_in h table extent scn at
   pub long : length rids ≡ length (stale_in h table extent scn at)
 

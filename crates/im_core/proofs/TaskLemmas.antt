@@ -1,7 +1,6 @@
 -- What is read for a build.
 use Rattle.std.proofs.Common.{◌≡◌, ℕ, ◌-◌, ◌*◌, ◌<◌, ◌≤◌, min, List, Some, refl, sym, ap, ◌∙◌, subst, arith}
 use Rattle.im_values.specs.declared.limits.TheConstants.{MOST_ROWS}
-use Rattle.im_versions.specs.Versions.{Versions}
 use Rattle.im_history.specs.declared.limits.Limits.{Limits}
 use Rattle.im_history.specs.declared.task.Held.{Held}
 use Rattle.im_history.specs.declared.task.Task.{Task}
@@ -9,7 +8,7 @@ use Rattle.im_history.specs.History.{History}
 use Rattle.im_history.specs.Stored.{Stored}
 use Rattle.im_history.specs.Units.{Content, held_at}
 use Rattle.im_history.proofs.HeldLaws.{held-within}
-use Rattle.im_blocks.specs.Chains.{rows_at}
+use Rattle.im_blocks.specs.Chains.{AllVersions, rows_at}
 use Rattle.im_blocks.specs.Kept.{IsKept}
 use Rattle.im_blocks.proofs.ForCallers.{rows_at_kept}
 use Rattle.im_directory.specs.Slots.{build_in}
@@ -45,7 +44,7 @@ pub task_rows_are : (h : History) (task : Task) (given count : ℕ) → HasTask 
     → count ≡ task_rows h task
 task_rows_are h task given count has count_is = count_is ∙ ap (λ n. min task.per (n - task.extent * task.per)) (sym has.is)
 
-pub task_fetched_is : (h : History) (blocks : List (List Versions)) (task : Task) (given count : ℕ) → IsKept h blocks → HasTask h task given
+pub task_fetched_is : (h : History) (blocks : AllVersions) (task : Task) (given count : ℕ) → IsKept h blocks → HasTask h task given
     → count ≡ min task.per (given - task.extent * task.per) → rows_at blocks task.table (task.extent * task.per) count task.scn ≡ task_fetched h task
 task_fetched_is h blocks task given count keeps has count_is =
     rows_at_kept h blocks keeps task.table (task.extent * task.per) count task.scn ∙ rw (task_rows_are h task given count has count_is) refl

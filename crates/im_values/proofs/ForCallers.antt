@@ -1,11 +1,13 @@
 -- What callers know of the order of values (it is a total order, and values tie in it exactly where they are equal), and of a block of values.
-use Rattle.std.proofs.Common.{◌≡◌, ℕ, ◌+◌, ◌*◌, ◌≤◌, List, [], ◌∷◌, ◌++◌, zero, suc, length, take, drop, refl, ap, ◌∙◌, arith}
+use Rattle.std.proofs.Common.{◌≡◌, true, sym, ℕ, ◌+◌, ◌*◌, ◌≤◌, List, [], ◌∷◌, ◌++◌, zero, suc, length, take, drop, refl, ap, ◌∙◌, arith}
 use Rattle.std.proofs.lemmas.List.{length-drop, nil_from_length, take-append-le, drop-append-le, take_all}
 use Rattle.std.specs.Cmp.{IsTotalOrder, int_cmp_total}
 use Rattle.std.specs.FinMap.{int_cmp-IsAntisymmetric, slice_cmp-IsAntisymmetric, nat_cmp-IsAntisymmetric}
 use Rattle.std.specs.Cmp.Lexicographic.{nat_list_cmp_total, texts_ties}
 use Rattle.std.specs.Ordering.{ordering_reverse, is_eq}
-use Rattle.std.specs.declared.cmp.Ordering.TheVariants.{Less, Equal}
+use Rattle.std.specs.declared.cmp.Ordering.{Ordering}
+use Rattle.std.specs.declared.cmp.Ordering.TheVariants.{Less, Equal, Greater}
+use Rattle.std.specs.Bool.{Decides}
 use Rattle.im_values.specs.contracts.value.ValuePartialEq.TheImpl as value_eq
 use Rattle.im_values.specs.declared.value.Value.{Value}
 use Rattle.im_values.specs.declared.value.Value.TheVariants.{Int, Text, Null}
@@ -93,3 +95,22 @@ cut-push (suc count) width values row long wide =
     let enough : width ≤ length values = omega (arith, more, long) in
     rw (take-append-le width values row enough, drop-append-le width values row enough)
     (ap (λ rows. take width values ∷ rows) (cut-push count width (drop width values) row (rest_of count width values long) wide))
+
+-- ---- Equal values
+
+tied : (o : Ordering) → is_eq o ≡ true → o ≡ Equal
+tied Equal e = refl
+tied Less e = cc
+tied Greater e = cc
+
+own_reverse : (o : Ordering) → o ≡ ordering_reverse o → is_eq o ≡ true
+own_reverse Equal e = refl
+own_reverse Less e = cc
+own_reverse Greater e = cc
+
+-- equality of values, as it is derived, decides whether they are the same
+pub value_decides : (a b : Value) → Decides ((value_eq.ghosts).eq a b) (a ≡ b)
+value_decides a b = (
+  λ equal. order_same a b (tied (order a b) (sym (value_ties a b) ∙ equal)),
+  λ same. value_ties a b ∙ (ap (λ v. is_eq (order v b)) same ∙ own_reverse (order b b) (order_total.antisymm b b)),
+)

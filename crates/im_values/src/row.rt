@@ -11,7 +11,7 @@ use std::sync::Arc;
 
 /// How the values of a row are kept.
 #[derive(Drop)]
-enum Form {
+pub(crate) enum Form {
     /// In memory of the row's own.
     Owned(Vec<Value>),
     /// In a block that rows share: from this place on, so many.
@@ -24,7 +24,7 @@ enum Form {
 /// its values. A block lives as long as any of its rows.
 #[derive(Drop)]
 pub struct Row {
-    form: Form,
+    pub(crate) form: Form,
 }
 
 impl Model for Row {

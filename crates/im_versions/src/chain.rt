@@ -4,7 +4,6 @@ ghost use Rattle.im_versions.specs.Form as kept;
 ghost use Rattle.im_versions.specs.Versions.{no_chain, row_at, latest, newest_row, versions_to, IsRising};
 
 use crate::version::Version;
-use im_tables::Cell;
 use im_values::{NoMemory, Row, Steps};
 use std::alloc::Global;
 use std::marker::Model;
@@ -99,14 +98,6 @@ impl Chain {
         ensures { result ≡ latest self.now.versions }
     {
         Some(versions_in(&self.form).last()?.scn)
-    }
-}
-
-impl Cell for Chain {
-    ghost blank = { no_chain };
-
-    fn empty(alloc: Global) -> Chain {
-        Chain::new(alloc)
     }
 }
 

@@ -1,23 +1,27 @@
--- The single steps by which changes come to their chains.
-use Rattle.std.specs.Prelude.{ℕ, ◌-◌, ◌<◌, ◌≤◌, ◌==◌, List, [], ◌∷◌, ◌++◌, Option, if◌then◌else◌}
+-- The single steps by which changes come to their rows.
+use Rattle.std.specs.Prelude.{◌≡◌, ℕ, ◌+◌, ◌<◌, ◌≤◌, ◌==◌, Bool, List, [], ◌∷◌, ◌++◌, Option, if◌then◌else◌}
 use Rattle.im_values.specs.declared.value.Value.{Value}
-use Rattle.im_tables.specs.Table.{with_cell}
-use Rattle.im_history.specs.declared.change.Change.{Change}
-use Rattle.im_versions.specs.Versions.{Versions}
-use Rattle.im_blocks.specs.Chains.{chain_of, newest_scn}
+use Rattle.im_versions.specs.declared.version.Version.{Version}
+use Rattle.im_blocks.specs.Chains.{AllVersions, IsReady, newest_scn, versions_at}
 
--- a chain can take the row of a commit: it has no later version, and it has room unless this commit gave it a version
-pub record MayTake (chain : Versions) (scn : ℕ) : Type 0 where
+-- a row number can take the row of a commit: it has no later version, and it has room unless this commit gave it a version
+pub record MayTake (blocks : AllVersions) (table rid : ℕ) (put : Bool) (scn : ℕ) : Type 0 where
   pub some : 0 < scn
-  pub below : newest_scn chain.versions ≤ scn
-  pub room : newest_scn chain.versions < scn → 0 < chain.spare
+  pub below : newest_scn (versions_at blocks table rid) ≤ scn
+  pub ready : newest_scn (versions_at blocks table rid) < scn → IsReady blocks table rid put
+  pub room : 0 < blocks.room
 
--- a chain with the row that a commit left, unless it has a version of this commit
-abbrev pub chain_after : ℕ → Option (List Value) → Versions → Versions
-chain_after scn row chain =
-    if newest_scn chain.versions == scn then chain
-    else record { versions = chain.versions ++ record { scn = scn; row = row } ∷ []; spare = chain.spare - 1 }
+-- the versions of a row number with what a commit left, unless they have a version of this commit
+abbrev pub versions_after : ℕ → Option (List Value) → List Version → List Version
+versions_after scn row versions = if newest_scn versions == scn then versions else versions ++ record { scn = scn; row = row } ∷ []
 
--- all chains, that of the change having taken its row
-abbrev pub blocks_after : ℕ → Change → List (List Versions) → List (List Versions)
-blocks_after scn change blocks = with_cell change.table change.rid (chain_after scn change.row (chain_of blocks change.table change.rid)) blocks
+-- only one row number has other versions now, and room is gone for one run at most
+pub record IsOnly (old new : AllVersions) (table rid : ℕ) : Type 0 where
+  pub others : (t r : ℕ) → (t ≡ table → r ≡ rid → ⊥) → versions_at new t r ≡ versions_at old t r
+  pub ready : (t r : ℕ) (put : Bool) → (t ≡ table → r ≡ rid → ⊥) → IsReady old t r put → IsReady new t r put
+  pub room : old.room ≤ new.room + 1
+
+-- a row number has taken the row of a commit
+pub record HasTaken (old new : AllVersions) (table rid scn : ℕ) (row : Option (List Value)) : Type 0 where
+  pub only : IsOnly old new table rid
+  pub versions : versions_at new table rid ≡ versions_after scn row (versions_at old table rid)

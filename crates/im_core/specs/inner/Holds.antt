@@ -1,12 +1,12 @@
 -- How what a store keeps agrees with its history.
 use Rattle.std.specs.Prelude.{ℕ, ◌+◌, ◌≤◌, List, count_by, is_some}
-use Rattle.im_versions.specs.Versions.{Versions}
 use Rattle.im_history.specs.declared.limits.Limits.{Limits}
 use Rattle.im_history.specs.declared.look.TableInfo.{TableInfo}
 use Rattle.im_history.specs.Legal.{AreSmall, IsLegal}
 use Rattle.im_history.specs.Stored.{Stored}
 use Rattle.im_history.specs.Units.{Content}
 use Rattle.im_history.specs.Weights.{weight}
+use Rattle.im_blocks.specs.Chains.{AllVersions}
 use Rattle.im_blocks.specs.Kept.{IsKept}
 use Rattle.im_directory.specs.Agrees.{Agrees as IsOf}
 use Rattle.im_directory.specs.Slots.{Kept}
@@ -22,7 +22,7 @@ pub record Caches (U : Type 0) : Type 0 where
   pub counts : List ℕ
   pub weighed : ℕ
   pub beginnings : List ℕ
-  pub blocks : List (List Versions)
+  pub blocks : AllVersions
   pub standing : Standing
   pub kept : Kept U
 

@@ -1,5 +1,48 @@
-use Rattle.im_blocks.proofs.HandingLemmas.{HasCell-may_take}
+use Rattle.std.proofs.Common.{◌≡◌, ◌<◌, List, get_or, sym, ap, ◌∙◌, subst, arith}
+use Rattle.std.specs.Option.{is_some}
+use Rattle.im_versions.specs.declared.version.Version.{Version}
+use Rattle.im_blocks.specs.declared.touched.Touched.{Touched}
+use Rattle.im_blocks.specs.declared.slot.Slot.TheVariants.{InChain}
+use Rattle.im_blocks.specs.Chains.{AllVersions, IsReady, newest_scn, slot_at, versions_at}
+use Rattle.im_blocks.specs.inner.Puts.{IsOneLonger}
+use Rattle.im_blocks.proofs.Places.{got}
+use Rattle.im_blocks.proofs.StoreLemmas.{HasTaken-chain, in_chain, ready_chain}
 use Rattle.im_blocks.proofs.blocks.Blocks.put.Goals as goal
 
-pub cell_mut-requires : goal.cell_mut-requires
-cell_mut-requires c = rw c.self.view_is (HasCell-may_take c.args.self.now c.args.change.table c.args.change.rid c.args.scn c.requires)
+pub take-requires-clause-later : goal.take-requires-clause-later
+take-requires-clause-later c =
+    let table = c.args.change.table in
+    let rid = c.args.change.rid in
+    let latest = c.latest.ensures in
+    let differs = c.if-latest-scn.false in
+    let upto = c.requires.below in
+    let earlier : newest_scn (versions_at c.args.self.now table rid) < c.args.scn = grind (arith, latest, differs, upto) in
+    let slot = sym c.slot.ensures ∙ c.in-InChain.is in
+    let found = ready_chain c.args.self.now table rid c.in-InChain.number (is_some c.args.change.row) slot (c.requires.ready earlier) in
+    let versions = in_chain c.args.self.now table rid c.in-InChain.number _ slot (sym found.is) in
+    let here =
+    c.index_mut.ensures.value
+    ∙ (ap (λ (b : AllVersions). get_or b.chains c.in-InChain.number c.index_mut.result.now) c.self.view_is
+    ∙ got c.args.self.now.chains c.in-InChain.number found.was c.index_mut.result.now found.at) in
+    subst (λ (vs : List Version). newest_scn vs < c.args.scn) (sym (ap (λ (x : Touched). x.chain.versions) here ∙ versions)) earlier
+
+pub returns-in-InChain : goal.returns-in-InChain
+returns-in-InChain c =
+    let table = c.args.change.table in
+    let rid = c.args.change.rid in
+    let number = c.in-InChain.number in
+    let was : AllVersions =
+    record { slots = c.self.inside.slots; runs = c.self.inside.runs.items; chains = c.self.inside.chains.items; room = c.self.inside.room } in
+    let is : was ≡ c.args.self.now = c.self.view_is in
+    let latest = c.latest.ensures in
+    let differs = c.if-latest-scn.false in
+    let upto = c.requires.below in
+    let earlier : newest_scn (versions_at c.args.self.now table rid) < c.args.scn = grind (arith, latest, differs, upto) in
+    let slot = subst (λ (b : AllVersions). slot_at b table rid ≡ InChain number) (sym is) (sym c.slot.ensures ∙ c.in-InChain.is) in
+    let ready = subst (λ (b : AllVersions). IsReady b table rid (is_some c.args.change.row)) (sym is) (c.requires.ready earlier) in
+    let found = ready_chain was table rid number (is_some c.args.change.row) slot ready in
+    let here = c.index_mut.ensures.value ∙ got was.chains number found.was c.index_mut.result.now found.at in
+    let longer = subst (λ (x : Touched). IsOneLonger x c.take.new.self c.args.scn c.args.change.row) here c.take.ensures in
+    let later : newest_scn (versions_at was table rid) ≡ c.args.scn → ⊥ =
+    λ e. let same = ap (λ (b : AllVersions). newest_scn (versions_at b table rid)) is in absurd (omega (arith, e, same, earlier)) in
+    rw (← c.self.view_is) (HasTaken-chain was table rid number c.args.scn c.args.change.row found.was c.take.new.self slot found.is found.at found.own longer later)

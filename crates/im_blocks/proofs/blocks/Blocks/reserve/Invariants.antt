@@ -1,10 +1,13 @@
-use Rattle.std.proofs.Common.{take}
-use Rattle.im_blocks.specs.Transitions.{SameVersions, HasRoom}
+use Rattle.std.proofs.Common.{◌≤◌, take, length, All}
+use Rattle.std.specs.Option.{is_some}
+use Rattle.im_blocks.specs.Chains.{IsReady}
+use Rattle.im_blocks.specs.Transitions.{SameVersions}
 use Rattle.im_blocks.proofs.blocks.Blocks.reserve.Given as goal
 
--- the rows of the changes so far have room
+-- the rows of the changes so far are ready
 abbrev pub invariant-loop-change : goal.invariant-loop-change
 invariant-loop-change l = record {
   same : SameVersions l.fn.self l.self;
-  room : HasRoom l.self (take l.change-index l.changes);
+  ready : All (λ change. IsReady l.self change.table change.rid (is_some change.row)) (take l.change-index l.changes);
+  room : length l.changes ≤ l.self.room;
 }

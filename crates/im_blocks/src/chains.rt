@@ -1,0 +1,65 @@
+ghost use Rattle.std.specs.Prelude.{◌≡◌, ◌+◌, ◌∷◌, ◌<◌, ◌≤◌, ◌++◌, [], length, option_copied, IfOk, OnOk, OnErr};
+ghost use Rattle.im_versions.specs.Versions as versions;
+ghost use Rattle.im_blocks.specs.Chains.{chain_versions, newest_scn};
+ghost use Rattle.im_blocks.specs.inner.Puts.{IsChained};
+
+use crate::touched::Touched;
+use im_values::{NoMemory, Row, Steps, Value, clone_row};
+use im_versions::Chain;
+use std::alloc::Global;
+use std::sync::ledger::Ledger;
+
+/// The values of a row number at an SCN, by its chain. It is one step at most.
+pub fn values_at<'a, L: Ledger>(
+    touched: Option<&'a Touched>,
+    scn: u64,
+    steps: &mut Steps<L>,
+) -> Option<&'a [Value]>
+    ensures row { option_copied result ≡ versions.row_at (chain_versions (option_copied touched.entry)) scn }
+    ensures few { steps.new ≤ steps.old + 1 }
+{
+    Some(touched?.chain.at(scn, steps)?.values())
+}
+
+/// A copy of the row of a row number at an SCN, by its chain. It is one step at most.
+pub fn row_at<L: Ledger>(
+    alloc: Global,
+    touched: Option<&Touched>,
+    scn: u64,
+    steps: &mut Steps<L>,
+) -> Result<Option<Row>, NoMemory>
+    ensures row { IfOk result (λ row. row ≡ versions.row_at (chain_versions (option_copied touched.entry)) scn) }
+    ensures few { steps.new ≤ steps.old + 1 }
+{
+    let Some(touched) = touched else {
+        return Ok(None);
+    };
+    match touched.chain.at(scn, steps) {
+        Some(row) => Ok(Some(clone_row(alloc, row)?)),
+        None => Ok(None),
+    }
+}
+
+/// The SCN of the newest version of a row number, by its chain.
+pub fn newest(touched: Option<&Touched>) -> u64
+    ensures { result ≡ newest_scn (chain_versions (option_copied touched.entry)) }
+{
+    match touched {
+        Some(touched) => touched.chain.latest().unwrap_or(0),
+        None => 0,
+    }
+}
+
+/// Adds a chain for a row number, with room for one version more, and answers its number.
+pub fn push(chains: &mut Vec<Touched>, table: u32, rid: u64, chain: Chain) -> Result<u32, NoMemory>
+    ensures ok { IfOk result (λ number. IsChained chains.old.items chains.new.items number table rid chain.versions) }
+    ensures err { OnErr result (chains.new.items ≡ chains.old.items) }
+{
+    let Ok(number) = u32::try_from(chains.len()) else {
+        return Err(NoMemory);
+    };
+    let mut chain = chain;
+    chain.reserve()?;
+    chains.push(Touched { table, rid, chain })?;
+    Ok(number)
+}

@@ -1,0 +1,24 @@
+ghost use Rattle.std.specs.Prelude.{◌≡◌};
+ghost use Rattle.im_blocks.specs.declared.slot.Slot.TheVariants as slot;
+
+use im_tables::Cell;
+use std::alloc::Global;
+
+/// Where the versions of a row number are kept.
+#[derive(Clone, Copy, Drop)]
+pub enum Slot {
+    /// Nowhere: it has none.
+    Empty,
+    /// In the run of this number: it has one.
+    InRun(u32),
+    /// In the chain of this number.
+    InChain(u32),
+}
+
+impl Cell for Slot {
+    ghost blank = { slot.Empty };
+
+    fn empty(_alloc: Global) -> Slot {
+        Slot::Empty
+    }
+}
