@@ -124,6 +124,13 @@ ready_chain b t r number put slot (HasChain has) =
     with_spare (Some x) some = refl
 ready_chain b t r number put slot (IsBlank some blank there) = absurd (cc (slot, blank))
 
+-- and that chain has room
+pub ready_spare : (b : AllVersions) (t r number : ℕ) (put : Bool) (was : Touched) → slot_at b t r ≡ InChain number → IsReady b t r put
+    → chain_at b.chains number t r ≡ Some was → 0 < was.chain.spare
+ready_spare b t r number put was slot (HasChain has) is =
+    subst (λ (o : Option Touched). 0 < chain_spare o) is (subst (λ (s : Slot). 0 < spare_in b.chains t r s) slot has)
+ready_spare b t r number put was slot (IsBlank some blank there) is = absurd (cc (slot, blank))
+
 -- ---- one row number has another slot
 
 -- a slot that is set, with runs and chains in which each other row number has what it had

@@ -1,4 +1,4 @@
-ghost use Rattle.std.specs.Prelude.{◌≡◌, ◌+◌, ◌^◌, ◌<◌, ◌≤◌, [], length, is_some, option_copied, IfOk, OnOk};
+ghost use Rattle.std.specs.Prelude.{◌≡◌, ◌==◌, ◌+◌, ◌^◌, ◌<◌, ◌≤◌, [], length, is_some, option_copied, IfOk, OnOk};
 ghost use Rattle.im_blocks.specs.declared.slot.Slot.TheVariants as slots;
 ghost use Rattle.im_tables.specs.Table.{HasCell};
 ghost use Rattle.im_versions.specs.Versions.{row_at};
@@ -302,13 +302,20 @@ impl Blocks {
         ensures { HasTaken self.old self.new change.table change.rid scn change.row }
     {
         let Change { table, rid, row } = change;
-        if self.latest(table, rid) == scn {
+        if self.has_taken(table, rid, scn) {
             return;
         }
         match self.slot(table, rid) {
             Slot::InChain(number) => self.chains[number as usize].take(scn, row),
             _ => self.put_row(table, rid, scn, row.unwrap()),
         }
+    }
+
+    /// Whether a row number has a version of the commit with this SCN already.
+    fn has_taken(&self, table: u32, rid: u64, scn: u64) -> bool
+        ensures { result ≡ (newest_scn (versions_at self.now table rid) == scn) }
+    {
+        self.latest(table, rid) == scn
     }
 
     /// Puts a row at a row number that is blank.

@@ -1,22 +1,43 @@
-use Rattle.std.proofs.Common.{◌≡◌, ◌<◌, List, get_or, sym, ap, ◌∙◌, subst, arith}
+use Rattle.std.proofs.Common.{◌≡◌, ℕ, ◌<◌, ◌≤◌, ◌==◌, false, List, get_or, sym, ap, ◌∙◌, subst, arith}
 use Rattle.std.specs.Option.{is_some}
+use Rattle.std.proofs.lemmas.Bool.{eq-eqb, true≢false}
 use Rattle.im_versions.specs.declared.version.Version.{Version}
 use Rattle.im_blocks.specs.declared.touched.Touched.{Touched}
 use Rattle.im_blocks.specs.declared.slot.Slot.TheVariants.{InChain}
 use Rattle.im_blocks.specs.Chains.{AllVersions, IsReady, newest_scn, slot_at, versions_at}
 use Rattle.im_blocks.specs.inner.Puts.{IsOneLonger}
 use Rattle.im_blocks.proofs.Places.{got}
-use Rattle.im_blocks.proofs.StoreLemmas.{HasTaken-chain, in_chain, ready_chain}
+use Rattle.im_blocks.proofs.StoreLemmas.{HasTaken-chain, in_chain, ready_chain, ready_spare}
 use Rattle.im_blocks.proofs.blocks.Blocks.put.Goals as goal
+
+-- the versions of a row number are of earlier commits, where this one gave it none
+is_earlier : (b : AllVersions) (table rid scn : ℕ) → newest_scn (versions_at b table rid) ≤ scn → (newest_scn (versions_at b table rid) == scn) ≡ false →
+    newest_scn (versions_at b table rid) < scn
+is_earlier b table rid scn upto differs =
+    let apart : newest_scn (versions_at b table rid) ≡ scn → ⊥ = λ e. true≢false (sym (eq-eqb _ _ e) ∙ differs) in
+    grind (arith, apart, upto)
+
+pub take-requires-clause-room : goal.take-requires-clause-room
+take-requires-clause-room c =
+    let table = c.args.change.table in
+    let rid = c.args.change.rid in
+    let number = c.in-InChain.number in
+    let earlier = is_earlier c.args.self.now table rid c.args.scn c.requires.below (sym c.has_taken.ensures ∙ c.if-has_taken.false) in
+    let slot = sym c.slot.ensures ∙ c.in-InChain.is in
+    let ready = c.requires.ready earlier in
+    let found = ready_chain c.args.self.now table rid number (is_some c.args.change.row) slot ready in
+    let here =
+    c.index_mut.ensures.value
+    ∙ (ap (λ (b : AllVersions). get_or b.chains number c.index_mut.result.now) c.self.view_is
+    ∙ got c.args.self.now.chains number found.was c.index_mut.result.now found.at) in
+    subst (λ (x : Touched). 0 < x.chain.spare) (sym here)
+    (ready_spare c.args.self.now table rid number (is_some c.args.change.row) found.was slot ready found.is)
 
 pub take-requires-clause-later : goal.take-requires-clause-later
 take-requires-clause-later c =
     let table = c.args.change.table in
     let rid = c.args.change.rid in
-    let latest = c.latest.ensures in
-    let differs = c.if-latest-scn.false in
-    let upto = c.requires.below in
-    let earlier : newest_scn (versions_at c.args.self.now table rid) < c.args.scn = grind (arith, latest, differs, upto) in
+    let earlier = is_earlier c.args.self.now table rid c.args.scn c.requires.below (sym c.has_taken.ensures ∙ c.if-has_taken.false) in
     let slot = sym c.slot.ensures ∙ c.in-InChain.is in
     let found = ready_chain c.args.self.now table rid c.in-InChain.number (is_some c.args.change.row) slot (c.requires.ready earlier) in
     let versions = in_chain c.args.self.now table rid c.in-InChain.number _ slot (sym found.is) in
@@ -34,10 +55,7 @@ returns-in-InChain c =
     let was : AllVersions =
     record { slots = c.self.inside.slots; runs = c.self.inside.runs.items; chains = c.self.inside.chains.items; room = c.self.inside.room } in
     let is : was ≡ c.args.self.now = c.self.view_is in
-    let latest = c.latest.ensures in
-    let differs = c.if-latest-scn.false in
-    let upto = c.requires.below in
-    let earlier : newest_scn (versions_at c.args.self.now table rid) < c.args.scn = grind (arith, latest, differs, upto) in
+    let earlier = is_earlier c.args.self.now table rid c.args.scn c.requires.below (sym c.has_taken.ensures ∙ c.if-has_taken.false) in
     let slot = subst (λ (b : AllVersions). slot_at b table rid ≡ InChain number) (sym is) (sym c.slot.ensures ∙ c.in-InChain.is) in
     let ready = subst (λ (b : AllVersions). IsReady b table rid (is_some c.args.change.row)) (sym is) (c.requires.ready earlier) in
     let found = ready_chain was table rid number (is_some c.args.change.row) slot ready in
