@@ -1,0 +1,4 @@
+mod BitLemmas
+mod LaneLemmas
+mod MaskLemmas
+pub mod ForCallers

@@ -1,0 +1,6 @@
+use Rattle.std.proofs.Common.{◌≡◌, take, map}
+use Rattle.im_lanes.specs.Masks.{words_of, is_between}
+use Rattle.im_lanes.proofs.between.words_between.Given as goal
+
+abbrev pub invariant-loop-place : goal.invariant-loop-place
+invariant-loop-place l = l.words.items ≡ take l.place (words_of (map (is_between l.low l.high) l.bits.codes))

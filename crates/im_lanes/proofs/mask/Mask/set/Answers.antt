@@ -1,0 +1,38 @@
+use Rattle.std.proofs.Common.{◌≡◌, ◌==◌, ◌&&◌, ◌||◌, ◌*◌, ◌<◌, not, nat_lt, true, false, map, set, cond, List, ℕ, length, get_or, refl, ap, subst, sym, ◌∙◌, arith}
+use Rattle.std.specs.Int.{div_ceil}
+use Rattle.std.proofs.lemmas.Grind.{div_ceil_times}
+use Rattle.std.proofs.lemmas.List.{with_items_is, length-set, length-map}
+use Rattle.im_lanes.specs.Masks.{bit_in, bits_in, words_of, is_within, filled}
+use Rattle.im_lanes.proofs.MaskLemmas.{Holds, have-holds, small-whole, bit_in-whole, count-of, length-of, word-inside, get_or-put, chosen-is, dropped-is, length-filled, get_or-filled, get_or-turned}
+use Rattle.im_lanes.proofs.mask.Mask.set.Goals as goal
+
+pub set_bit-requires-clause-inside : goal.set_bit-requires-clause-inside
+set_bit-requires-clause-inside c = rw c.deref_mut.ensures.value (word-inside _ _ _ c.args.i c.self.view_is c.self.invariant.1 c.requires)
+
+pub set_bit-requires-clause-small : goal.set_bit-requires-clause-small
+set_bit-requires-clause-small c = rw c.deref_mut.ensures.value (λ k. small-whole _ _ k c.self.invariant.1)
+
+pub invariant_of-self : goal.invariant_of-self
+invariant_of-self c =
+    let words = c.self.inside.words.items in
+    let is = with_items_is c.self.inside.words c.set_bit.new.words (c.set_bit.auto.words ∙ c.deref_mut.ensures.len) in
+    let have = rw c.deref_mut.ensures.value at c.set_bit.ensures in
+    let mask = c.args.self.now in
+    let size = length-of _ _ _ c.self.view_is in
+    let holds : Holds c.set_bit.new.words c.self.inside.len (set mask c.args.i true) =
+    have-holds (λ k. (k == c.args.i) || bit_in words k) words c.set_bit.new.words c.self.inside.len (set mask c.args.i true) c.self.invariant.1 (length-set mask c.args.i true ∙ size) (c.set_bit.auto.words ∙ ap length c.deref_mut.ensures.value) have
+    (λ k h. let bit = bit_in-whole _ _ _ c.self.view_is c.self.invariant.1 k h in chosen-is (k == c.args.i) (bit_in words k) ∙ (ap (λ b. cond (k == c.args.i) true b) bit ∙ sym (get_or-put mask c.args.i k true c.requires))) in
+    let P : List ℕ → Type 0 = λ ws. ws ≡ words_of (bits_in ws c.self.inside.len) in
+    (c.self.invariant.0, subst P (sym is) holds.whole)
+
+pub returns : goal.returns
+returns c =
+    let words = c.self.inside.words.items in
+    let is = with_items_is c.self.inside.words c.set_bit.new.words (c.set_bit.auto.words ∙ c.deref_mut.ensures.len) in
+    let have = rw c.deref_mut.ensures.value at c.set_bit.ensures in
+    let mask = c.args.self.now in
+    let size = length-of _ _ _ c.self.view_is in
+    let holds : Holds c.set_bit.new.words c.self.inside.len (set mask c.args.i true) =
+    have-holds (λ k. (k == c.args.i) || bit_in words k) words c.set_bit.new.words c.self.inside.len (set mask c.args.i true) c.self.invariant.1 (length-set mask c.args.i true ∙ size) (c.set_bit.auto.words ∙ ap length c.deref_mut.ensures.value) have
+    (λ k h. let bit = bit_in-whole _ _ _ c.self.view_is c.self.invariant.1 k h in chosen-is (k == c.args.i) (bit_in words k) ∙ (ap (λ b. cond (k == c.args.i) true b) bit ∙ sym (get_or-put mask c.args.i k true c.requires))) in
+    ap (λ ws. bits_in ws c.self.inside.len) is ∙ holds.is

@@ -1,0 +1,8 @@
+use Rattle.std.proofs.Common.{◌≡◌, ℕ, ◌<◌, ◌≤◌, length, slice_index, bit_or}
+use Rattle.im_lanes.proofs.words.or_words.Given as goal
+
+abbrev pub invariant-loop-i : goal.invariant-loop-i
+invariant-loop-i l = record {
+  done : (k : ℕ) → k < l.i → slice_index l.words k ≡ bit_or (slice_index l.fn.words k) (slice_index l.others k);
+  rest : (k : ℕ) → l.i ≤ k → slice_index l.words k ≡ slice_index l.fn.words k;
+}

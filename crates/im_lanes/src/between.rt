@@ -1,0 +1,62 @@
+ghost use Rattle.std.specs.Prelude.{◌≡◌, ◌*◌, ◌^◌, ◌<◌, ◌≤◌, IfOk, length, map};
+ghost use Rattle.im_lanes.specs.Masks.{is_between, is_within, word_at, words_of};
+
+use crate::lanes::bits_between;
+use crate::mask::{Mask, word_count};
+use crate::words::first_bits;
+use im_bits::Bits;
+use im_values::NoMemory;
+use std::alloc::Global;
+use std::simd::u32x64;
+
+/// Chooses each code that lies between two others, both ends in. None does where `high` is below `low`.
+pub fn mask_between(alloc: Global, bits: &Bits, low: u32, high: u32) -> Result<Mask, NoMemory>
+    ensures { IfOk result (λ mask. mask ≡ map (is_between low high) bits.now.codes) }
+{
+    if high < low {
+        let mask = Mask::none(alloc, bits.len())?;
+        return Ok(mask);
+    }
+    let words = words_between(alloc, bits, low, high)?;
+    Ok(Mask::of_words(words, bits.len()))
+}
+
+/// Chooses each code from one on and below another.
+pub fn mask_within(alloc: Global, bits: &Bits, low: u32, end: u32) -> Result<Mask, NoMemory>
+    ensures { IfOk result (λ mask. mask ≡ map (is_within low end) bits.now.codes) }
+{
+    if end == 0 {
+        let mask = Mask::none(alloc, bits.len())?;
+        return Ok(mask);
+    }
+    let mask = mask_between(alloc, bits, low, end - 1)?;
+    Ok(mask)
+}
+
+/// The words of the mask of the codes that lie between two others.
+fn words_between(alloc: Global, bits: &Bits, low: u32, high: u32) -> Result<Vec<u64>, NoMemory>
+    requires { low ≤ high }
+    ensures { IfOk result (λ words. words.items ≡ words_of (map (is_between low high) bits.now.codes)) }
+{
+    let count = word_count(bits.len());
+    let mut words = Vec::with_capacity(alloc, count)?;
+    for place in 0..count {
+        words.push(word_between(bits, place as u64, low, high))?;
+    }
+    Ok(words)
+}
+
+/// One of these words.
+#[inline(always)]
+fn word_between(bits: &Bits, place: u64, low: u32, high: u32) -> u64
+    requires order { low ≤ high }
+    requires inside { place * 64 < length bits.now.codes }
+    requires few { place < 2 ^ 32 }
+    ensures { result ≡ word_at (map (is_between low high) bits.now.codes) place }
+{
+    let first = place * 64;
+    let left = bits.len() - first;
+    let mut codes = [0; 64];
+    bits.codes_from(first, &mut codes);
+    first_bits(bits_between(u32x64::from_array(codes), low, high), left)
+}
