@@ -3,7 +3,8 @@ ghost use Rattle.im_syntax.specs.Rules.{IsStmt};
 
 use im_lex::lex;
 use im_parse::parse;
-use im_syntax::{Keyword, Stmt, Token, spell};
+use im_spell::spell;
+use im_syntax::{Keyword, Stmt, Token};
 use std::alloc::Global;
 use std::test::Fail;
 

@@ -1,7 +1,6 @@
 pub mod ConditionParts
 pub mod FunctionLaws
 pub mod Slots
-pub mod SpellLists
 pub mod Crossing
 mod CrossingConditions
 mod ChoicesLemmas

@@ -1,7 +1,7 @@
 //! Tokens, statements, and the one spelling of each statement.
 //!
 //! A [`Stmt`] keeps each optional part as written or absent, so it has one list of tokens: `spelling`, in
-//! `specs/Spelling.antt`, which [`spell`] computes. `IsStmt`, in `specs/Rules.antt`, says which values are statements:
+//! `specs/Spelling.antt`, which `im_spell` computes. `IsStmt`, in `specs/Rules.antt`, says which values are statements:
 //! what names, numbers and lists must be, and how deep a condition nests. Contracts see lists as lists and a
 //! condition as a tree (`specs/Condition.antt`), so two of them are equal in a contract exactly where they are written
 //! alike. One tree of conditions serves those that are written, a [`Cond`], and those whose names are resolved, a
@@ -19,12 +19,6 @@ mod keyword;
 pub mod limits;
 mod literal;
 mod query;
-mod spell_condition;
-mod spell_query;
-mod spell_rows;
-mod spell_statement;
-mod spell_table;
-mod spelled;
 mod statement;
 mod table;
 mod token;
@@ -42,7 +36,6 @@ pub use item::{Function, Item, ItemOf, ItemPart};
 pub use keyword::{Keyword, keywords_are};
 pub use literal::Lit;
 pub use query::{KeyPart, ListPart, Query, Way};
-pub use spell_statement::spell;
 pub use statement::{Side, Stmt};
 pub use table::{ColumnPart, KindWord, MemoryPart};
 pub use token::{Sign, Token};

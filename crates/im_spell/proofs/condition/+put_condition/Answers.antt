@@ -1,7 +1,7 @@
 use Rattle.std.proofs.Common.{arith, ap}
 use Rattle.im_syntax.specs.Condition.{conj_size, cond_size}
 use Rattle.im_syntax.proofs.ConditionParts.{term_below, conj_below}
-use Rattle.im_syntax.proofs.spell_condition.+put_condition.Goals as goal
+use Rattle.im_spell.proofs.condition.+put_condition.Goals as goal
 
 pub put_conj-put_term-requires : goal.put_conj-put_term-requires
 put_conj-put_term-requires t c =

@@ -3,13 +3,9 @@ ghost use Rattle.im_readers.specs.Grammar.{spell_joined};
 ghost use Rattle.im_syntax.specs.Spelling as spelled;
 ghost use Rattle.im_syntax.specs.declared.statement.Stmt.TheVariants as stmt;
 
-use crate::condition::Cond;
-use crate::keyword::Keyword;
-use crate::literal::Lit;
-use crate::spell_query::put_where;
+use crate::query::put_where;
 use crate::spelled::{Spelled, put_in_parens, put_list, put_lit, put_name, put_sign, put_word};
-use crate::token::{Sign, Token};
-use crate::tuples::{Tuples, TuplesForm};
+use im_syntax::{Cond, Keyword, Lit, Sign, Token, Tuples, TuplesForm};
 use im_values::{Name, NoMemory};
 use std::alloc::Global;
 

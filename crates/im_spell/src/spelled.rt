@@ -4,9 +4,7 @@ ghost use Rattle.im_syntax.specs.Spelling as spell;
 ghost use Rattle.im_syntax.specs.declared.token.Token.{Token};
 ghost use Rattle.im_syntax.specs.declared.token.Token.TheVariants as token;
 
-use crate::keyword::Keyword;
-use crate::literal::Lit;
-use crate::token::{Sign, Token};
+use im_syntax::{Keyword, Lit, Sign, Token};
 use im_values::{List, Name, NoMemory};
 use std::alloc::Global;
 

@@ -1,10 +1,8 @@
 ghost use Rattle.std.specs.Prelude.{◌≡◌, ◌++◌, ◌∷◌, [], ◌==◌, if◌then◌else◌, OnOk};
 ghost use Rattle.im_syntax.specs.Spelling as spelled;
 
-use crate::condition::{Cond, Conj, Term, TermForm};
-use crate::keyword::Keyword;
 use crate::spelled::{put_in_parens, put_lit, put_name, put_sign, put_word};
-use crate::token::{Sign, Token};
+use im_syntax::{Cond, Conj, Keyword, Sign, Term, TermForm, Token};
 use im_values::{Cmp, NoMemory};
 use std::alloc::Global;
 

@@ -5,10 +5,8 @@ ghost use Rattle.im_syntax.specs.declared.token.Token.TheVariants as token;
 ghost use Rattle.im_syntax.specs.declared.keyword.Keyword.TheVariants as key;
 ghost use Rattle.im_syntax.specs.declared.statement.Stmt.TheVariants as stmt;
 
-use crate::keyword::Keyword;
 use crate::spelled::{Spelled, put_in_parens, put_name, put_number, put_sign, put_word};
-use crate::table::{ColumnPart, KindWord, MemoryPart};
-use crate::token::{Sign, Token};
+use im_syntax::{ColumnPart, Keyword, KindWord, MemoryPart, Sign, Token};
 use im_values::{Name, NoMemory, Priority};
 use std::alloc::Global;
 

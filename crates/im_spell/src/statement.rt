@@ -4,14 +4,11 @@ ghost use Rattle.im_syntax.specs.Rules.{IsStmt};
 ghost use Rattle.im_syntax.specs.declared.token.Token.TheVariants as token;
 ghost use Rattle.im_syntax.specs.declared.statement.Stmt.TheVariants as stmt;
 
-use crate::keyword::Keyword;
-use crate::query::Query;
-use crate::spell_query::put_query;
-use crate::spell_rows::{put_delete, put_insert, put_update};
-use crate::spell_table::{put_alter_memory, put_alter_no_memory, put_create};
+use crate::query::put_query;
+use crate::rows::{put_delete, put_insert, put_update};
 use crate::spelled::{put_name, put_number, put_word};
-use crate::statement::Stmt;
-use crate::token::Token;
+use crate::table::{put_alter_memory, put_alter_no_memory, put_create};
+use im_syntax::{Keyword, Query, Stmt, Token};
 use im_values::{Name, NoMemory};
 use std::alloc::Global;
 

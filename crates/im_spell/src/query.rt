@@ -1,13 +1,9 @@
 ghost use Rattle.std.specs.Prelude.{◌≡◌, ◌++◌, ◌∷◌, [], OnOk};
 ghost use Rattle.im_syntax.specs.Spelling as spelled;
 
-use crate::condition::Cond;
-use crate::item::ItemPart;
-use crate::keyword::Keyword;
-use crate::query::{KeyPart, ListPart, Query, Way};
-use crate::spell_condition::put_cond;
+use crate::condition::put_cond;
 use crate::spelled::{Spelled, put_list, put_name, put_sign, put_word};
-use crate::token::{Sign, Token};
+use im_syntax::{Cond, ItemPart, KeyPart, Keyword, ListPart, Query, Sign, Token, Way};
 use im_values::{Name, NoMemory};
 use std::alloc::Global;
 

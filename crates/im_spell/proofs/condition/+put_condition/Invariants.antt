@@ -1,8 +1,8 @@
 use Rattle.std.proofs.Common.{◌≡◌, ◌++◌, drop}
 use Rattle.im_syntax.specs.Condition.{term_size, conj_size, cond_size}
 use Rattle.im_syntax.specs.Spelling.{spell_conj, spell_cond}
-use Rattle.im_syntax.proofs.SpellLists.{conj_from, cond_from}
-use Rattle.im_syntax.proofs.spell_condition.+put_condition.Given as goal
+use Rattle.im_spell.proofs.SpellLists.{conj_from, cond_from}
+use Rattle.im_spell.proofs.condition.+put_condition.Given as goal
 
 abbrev pub decreases-put_cond : goal.decreases-put_cond
 decreases-put_cond l = cond_size l.cond.now
