@@ -3,18 +3,7 @@ ghost use Rattle.im_syntax.specs.BoundFits.{FilterFits, TestsFit, TestFits, valu
 ghost use Rattle.im_eval.specs.Holds as spec;
 
 use im_syntax::{Choices, Filter, Test, TestForm, Tests};
-use im_values::{Cmp, Row, Truth, Value, compare};
-
-/// The truth of a condition on a row, by SQL's three-valued logic.
-///
-/// It takes no memory, stops at the first Yes of an OR and the first No of an AND, and recurses as deep as NOT and
-/// parentheses nest in the condition.
-pub fn holds(filter: &Filter, row: &Row) -> Truth
-    requires { FilterFits row.now filter.now }
-    ensures { result ≡ spec.truth_of filter.now row.now }
-{
-    some_hold(filter, row.values())
-}
+use im_values::{Cmp, Truth, Value, compare};
 
 /// The value of a row in a column.
 fn value_in(row: &[Value], column: u32) -> &Value
@@ -83,7 +72,7 @@ fn test_holds(test: &Test, row: &[Value]) -> Truth
             values,
         } => with_not(*negated, within(value_in(row, *column), values)),
         TestForm::Not(test) => test_holds(test, row).negated(),
-        TestForm::Nest(filter) => some_hold(filter, row),
+        TestForm::Nest(filter) => holds(filter, row),
     }
 }
 
@@ -103,9 +92,12 @@ fn all_hold(tests: &Tests, row: &[Value]) -> Truth
     truth
 }
 
-/// The OR of the conjunctions.
+/// The truth of a condition on a row, by SQL's three-valued logic: the OR of its conjunctions.
+///
+/// It takes no memory, stops at the first Yes of an OR and the first No of an AND, and recurses as deep as NOT and
+/// parentheses nest in the condition.
 #[cycle(condition)]
-fn some_hold(filter: &Filter, row: &[Value]) -> Truth
+pub fn holds(filter: &Filter, row: &[Value]) -> Truth
     requires { FilterFits row.now filter.now }
     ensures { result ≡ spec.truth_of filter.now row.now }
 {

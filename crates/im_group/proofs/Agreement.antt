@@ -1,8 +1,7 @@
 -- Keys are equal exactly where their values tie in SQL's order.
-use Rattle.std.proofs.Common.{◌≡◌, Bool, ◌&&◌, List, [], ◌∷◌, map, refl, ap, ◌∙◌}
+use Rattle.std.proofs.Common.{◌≡◌, Bool, List, [], ◌∷◌, map, refl, ap, ◌∙◌}
 use Rattle.std.specs.Ordering.{ordering_then}
 use Rattle.std.specs.Cmp.Lexicographic.{pointwise, slice_cmp, lists_ties}
-use denote.Ref.{Bor}
 use Rattle.im_values.specs.contracts.value.ValuePartialEq.TheImpl as value_eq
 use Rattle.im_values.specs.contracts.value.ValueOrd.TheImpl as value_ord
 use Rattle.im_values.specs.declared.value.Value.{Value}
@@ -17,18 +16,6 @@ same_value = (value_eq.ghosts).eq
 
 pub keys_tie : (xs ys : List Value) → pointwise same_value xs ys ≡ is_key xs ys
 keys_tie = lists_ties order value_ties
-
--- keys that are lent
-lent_keys : (xs ys : List (Bor Value))
-    → pointwise (λ (x y : Bor Value). same_value x.now y.now) xs ys ≡ pointwise same_value (map (λ v. v.now) xs) (map (λ v. v.now) ys)
-lent_keys [] [] = refl
-lent_keys [] (y ∷ ys) = refl
-lent_keys (x ∷ xs) [] = refl
-lent_keys (x ∷ xs) (y ∷ ys) = ap (λ b. same_value x.now y.now && b) (lent_keys xs ys)
-
-pub lent_keys_tie : (xs ys : List (Bor Value))
-    → pointwise (λ (x y : Bor Value). same_value x.now y.now) xs ys ≡ is_key (map (λ v. v.now) xs) (map (λ v. v.now) ys)
-lent_keys_tie xs ys = lent_keys xs ys ∙ keys_tie (map (λ v. v.now) xs) (map (λ v. v.now) ys)
 
 -- the order of values, as it is derived
 value_orders : (a b : Value) → (value_ord.ghosts).cmp a b ≡ order a b

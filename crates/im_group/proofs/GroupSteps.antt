@@ -13,7 +13,7 @@ use Rattle.im_syntax.specs.BoundFits.{BoundFits}
 use Rattle.im_group.specs.declared.asked.Asked.{Asked}
 use Rattle.im_group.specs.Tallies.{Tallied, wanted, asked_in, tallied, row_taken, HasRoom}
 use Rattle.im_group.specs.Partials.{Numbered, lent_rows, key_order, key_of, is_key, keeps, kept, members, tallies_of, keys_of, groups_of}
-use Rattle.im_group.specs.inner.Steps.{tallies_at, placed, so_far, first_groups, one_group, with_kept, with_row, GroupsAre}
+use Rattle.im_group.specs.inner.Steps.{tallies_at, placed, so_far, first_groups, with_kept, with_row, GroupsAre}
 use Rattle.im_group.proofs.Few.{all_few, shorter}
 use Rattle.im_group.proofs.Sorting.{true_is_not_false}
 use Rattle.im_group.proofs.Orders.{key_total, key_same}
@@ -126,61 +126,28 @@ first-at (c ∷ cs) qs q = refl
 pub first-are : (bound : Bound) → GroupsAre bound [] (first_groups bound.groups (asked_in (wanted bound)))
 first-are bound = record { at = λ q. first-at bound.groups (asked_in (wanted bound)) q ∙ sym (get-groups_of bound [] q) }
 
--- with GROUP BY there is no group of no row
-pub none-are : (bound : Bound) → 0 < length bound.groups → GroupsAre bound [] []
-none-are bound some = subst (GroupsAre bound []) (nothing bound.groups some) (first-are bound)
-  where
-    nothing : (columns : List ℕ) → 0 < length columns → first_groups columns (asked_in (wanted bound)) ≡ []
-    nothing [] some = absurd (omega (arith, some))
-    nothing (c ∷ cs) some = refl
-
--- without GROUP BY there is one
-pub one-is : (bound : Bound) → bound.groups ≡ [] → GroupsAre bound [] (one_group (tallied (asked_in (wanted bound)) []))
-one-is bound whole = subst (GroupsAre bound []) (ap (λ (cs : List ℕ). first_groups cs (asked_in (wanted bound))) whole) (first-are bound)
-
-one_with_row : (b : Bool) (qs : List Asked) (ts : Tallied) (row : List Value)
-    → cond b (placed (one_group ts) [] (row_taken qs (so_far qs (tallies_at (one_group ts) [])) row)) (one_group ts)
-    ≡ one_group (cond b (row_taken qs ts row) ts)
-one_with_row true qs ts row = refl
-one_with_row false qs ts row = refl
-
--- the one group, once one row more has come
-pub one-push : (bound : Bound) (rows : List (List Value)) (ts : Tallied) (row : List Value) → bound.groups ≡ []
-    → GroupsAre bound rows (one_group ts) → GroupsAre bound (cond (keeps bound.filter row) (rows ++ row ∷ []) rows) (one_group (with_kept bound ts row))
-one-push bound rows ts row whole g =
-    subst (GroupsAre bound (cond (keeps bound.filter row) (rows ++ row ∷ []) rows))
-    (ap (λ (cs : List ℕ). cond (keeps bound.filter row)
-    (placed (one_group ts) (key_of cs row) (row_taken (asked_in (wanted bound)) (so_far (asked_in (wanted bound)) (tallies_at (one_group ts) (key_of cs row))) row))
-    (one_group ts)) whole ∙ one_with_row (keeps bound.filter row) (asked_in (wanted bound)) ts row)
-    (with_row-push bound rows (one_group ts) row g)
-
--- its counts stay below 2^64 with one row more
-pub one-few : (bound : Bound) (rows : List (List Value)) (ts : Tallied) → bound.groups ≡ [] → GroupsAre bound rows (one_group ts)
-    → length rows + 1 < 2 ^ 64 → HasRoom ts
-one-few bound rows ts whole g few =
-    subst (λ (cs : List ℕ). HasRoom (so_far (asked_in (wanted bound)) (tallies_at (one_group ts) (key_of cs [])))) whole
-    (few_so_far bound rows (one_group ts) [] g few)
-
 -- the kept rows of one row more
-pub kept-push : (bound : Bound) (rows : List (ℕ × Bor (List Value))) (i : ℕ) (d : ℕ × Bor (List Value)) → i < length rows
-    → map (λ r. r.1) (kept bound (lent_rows (take (i + 1) rows)))
-    ≡ cond (keeps bound.filter (get_or rows i d).1.now)
-    (map (λ r. r.1) (kept bound (lent_rows (take i rows))) ++ (get_or rows i d).1.now ∷ [])
-    (map (λ r. r.1) (kept bound (lent_rows (take i rows))))
-kept-push bound rows i d lt =
-    ap (λ (l : List (ℕ × Bor (List Value))). map (λ r. r.1) (kept bound (lent_rows l))) (take_more rows i d lt)
-    ∙ (ap (λ (l : List Numbered). map (λ r. r.1) (kept bound l)) (map-append (λ row. (row.0, row.1.now)) (take i rows) (get_or rows i d ∷ []))
-    ∙ (ap (map (λ r. r.1)) (filter-append (λ r. keeps bound.filter r.1) (lent_rows (take i rows)) (lent_rows (get_or rows i d ∷ [])))
-    ∙ (map-append (λ r. r.1) (kept bound (lent_rows (take i rows))) (kept bound (lent_rows (get_or rows i d ∷ [])))
-    ∙ last (keeps bound.filter (get_or rows i d).1.now))))
+pub kept-push : (bound : Bound) (rows : List Numbered) (row : Numbered) → kept bound (rows ++ row ∷ []) ≡ with_kept bound (kept bound rows) row
+kept-push bound rows row = filter-append (λ r. keeps bound.filter r.1) rows (row ∷ []) ∙ last (keeps bound.filter row.1)
   where
-    so_far_kept : List (List Value)
-    so_far_kept = map (λ r. r.1) (kept bound (lent_rows (take i rows)))
-
-    last : (b : Bool) → so_far_kept ++ map (λ r. r.1) (cond b (lent_rows (get_or rows i d ∷ [])) [])
-        ≡ cond b (so_far_kept ++ (get_or rows i d).1.now ∷ []) so_far_kept
+    last : (b : Bool) → kept bound rows ++ cond b (row ∷ []) [] ≡ cond b (kept bound rows ++ row ∷ []) (kept bound rows)
     last true = refl
-    last false = no_more so_far_kept
+    last false = no_more (kept bound rows)
+
+-- and their values
+pub values-push : (bound : Bound) (rows : List Numbered) (row : Numbered)
+    → map (λ r. r.1) (kept bound (rows ++ row ∷ []))
+    ≡ cond (keeps bound.filter row.1) (map (λ r. r.1) (kept bound rows) ++ row.1 ∷ []) (map (λ r. r.1) (kept bound rows))
+values-push bound rows row = ap (map (λ r. r.1)) (kept-push bound rows row) ∙ each (keeps bound.filter row.1)
+  where
+    each : (b : Bool) → map (λ r. r.1) (cond b (kept bound rows ++ row ∷ []) (kept bound rows))
+        ≡ cond b (map (λ r. r.1) (kept bound rows) ++ row.1 ∷ []) (map (λ r. r.1) (kept bound rows))
+    each true = map-append (λ r. r.1) (kept bound rows) (row ∷ [])
+    each false = refl
+
+-- of so many rows no more are kept
+pub few_kept : (bound : Bound) (rows : List Numbered) → length (map (λ r. r.1) (kept bound rows)) ≤ length rows
+few_kept bound rows = let same = length-map (kept bound rows) (λ r. r.1) in let less = shorter (λ r. keeps bound.filter r.1) rows in omega arith
 
 -- a query may be asked of rows that are lent
 pub lent-fits : (bound : Bound) (rows : List (ℕ × Bor (List Value))) → AllByRecursion (λ r. BoundFits r.1 bound) (lent_rows rows)
@@ -194,18 +161,18 @@ fits-at bound [] i d within is all = absurd (omega (arith, within))
 fits-at bound (row ∷ rows) zero d within is all = subst (λ (r : ℕ × Bor (List Value)). BoundFits r.1.now bound) (sym is) all.0
 fits-at bound (row ∷ rows) (suc i) d within is all = fits-at bound rows i d (omega (arith, within)) is all.1
 
+-- one lent row more
+pub lent-push : (rows : List (ℕ × Bor (List Value))) (i : ℕ) (d : ℕ × Bor (List Value)) → i < length rows
+    → lent_rows (take (i + 1) rows) ≡ lent_rows (take i rows) ++ ((get_or rows i d).0, (get_or rows i d).1.now) ∷ []
+lent-push rows i d lt = ap lent_rows (take_more rows i d lt) ∙ map-append (λ row. (row.0, row.1.now)) (take i rows) (get_or rows i d ∷ [])
+
 short_take : {A : Type 0} (i : ℕ) (xs : List A) → length (take i xs) ≤ i
 short_take zero xs = omega arith
 short_take (suc i) [] = omega arith
 short_take (suc i) (x ∷ xs) = omega (arith, short_take i xs)
 
--- of so many rows no more are kept
-pub few_kept : (bound : Bound) (rows : List (ℕ × Bor (List Value))) (i : ℕ) → length (map (λ r. r.1) (kept bound (lent_rows (take i rows)))) ≤ i
-few_kept bound rows i =
-    let a = length-map (kept bound (lent_rows (take i rows))) (λ r. r.1) in
-    let b = shorter (λ r. keeps bound.filter r.1) (lent_rows (take i rows)) in
-    let c : length (lent_rows (take i rows)) ≡ length (take i rows) = length-map (take i rows) (λ row. (row.0, row.1.now)) in
-    let d = short_take i rows in omega arith
+pub few_lent : (rows : List (ℕ × Bor (List Value))) (i : ℕ) → length (lent_rows (take i rows)) ≤ i
+few_lent rows i = let same : length (lent_rows (take i rows)) ≡ length (take i rows) = length-map (take i rows) (λ row. (row.0, row.1.now)) in let less = short_take i rows in omega arith
 
 -- groups that are those of the rows, as a map
 pub held_are : (bound : Bound) (rows : List (List Value)) (groups : List (List Value × Tallied)) → GroupsAre bound rows groups

@@ -11,6 +11,8 @@ mod Agreement
 mod GroupSteps
 mod AskedLemmas
 mod ReadingLaws
+mod TakingLaws
+mod NearLaws
 mod KeySort
 mod Merging
 mod Parts

@@ -1,5 +1,5 @@
 -- The part of an answer that some of the rows give.
-use Rattle.std.specs.Prelude.{◌≡◌, ℕ, Bool, true, false, List, [], ◌∷◌, ◌++◌, map, filter, Option, None, Some, if◌then◌else◌}
+use Rattle.std.specs.Prelude.{◌≡◌, ℕ, ◌+◌, ◌<◌, ◌^◌, Bool, true, false, List, [], ◌∷◌, ◌++◌, length, map, filter, Option, None, Some, if◌then◌else◌}
 use Rattle.std.specs.Option.{ForSome}
 use Rattle.std.specs.Ordering.{is_eq}
 use Rattle.std.specs.declared.cmp.Ordering.{Ordering}
@@ -94,6 +94,16 @@ partial bound rows =
 pub record IsPart (bound : Bound) (part : Parts) : Type 0 where
   pub rows : List Numbered
   pub is : part ≡ partial bound rows
+
+-- the part of rows that are so few that one more can be counted
+pub record IsPartOfFew (bound : Bound) (part : Parts) : Type 0 where
+  pub rows : List Numbered
+  pub is : part ≡ partial bound rows
+  pub few : length rows + 1 < 2 ^ 64
+
+-- the part of some rows goes on to the part of these and of one row more
+pub record GoesOn (bound : Bound) (old : Parts) (row : Numbered) (new : Parts) : Type 0 where
+  pub goes : (rows : List Numbered) → old ≡ partial bound rows → new ≡ partial bound (rows ++ row ∷ [])
 
 -- the groups of two parts: a group of both joins what it has in each
 abbrev pub with_tallies : Option Tallied → Tallied → Tallied

@@ -1,30 +1,44 @@
-ghost use Rattle.std.specs.Prelude.{◌≡◌, ◌+◌, ◌<◌, ◌≤◌, ◌++◌, ◌∷◌, [], None, IfOk, OnOk, OnErr, map, length};
+ghost use Rattle.std.specs.Prelude.{◌≡◌, ◌+◌, ◌<◌, ◌≤◌, ◌++◌, ◌∷◌, [], None, true, IfOk, OnOk, OnErr, map, length};
 ghost use Rattle.std.specs.List.{AllByRecursion};
 ghost use Rattle.std.specs.Option.{ForSome};
 ghost use Rattle.indexmap.specs.IndexMap.{spare};
 ghost use Rattle.im_syntax.specs.BoundFits.{BoundFits, FilterFits};
-ghost use Rattle.im_group.specs.inner.Holding.{CanJoinGroups, CanTake, as_groups, asked_by, kept_values, lent, lent_key, own, with_first, with_group, with_taken};
+ghost use Rattle.im_group.specs.inner.Holding.{CanJoinGroups, CanTake, as_groups, asked_by, own, with_first, with_group, with_taken};
 ghost use Rattle.im_group.specs.Partials as spec;
-ghost use Rattle.im_group.specs.inner.Steps.{tallies_at, with_kept, with_row, one_group, GroupsAre};
-ghost use Rattle.im_group.specs.Tallies as group;
-ghost use Rattle.im_group.specs.Tallies.{CanJoin, HasRoom};
+ghost use Rattle.im_group.specs.inner.Steps.{stands_at, tallies_at, with_row, first_groups, one_group};
+ghost use Rattle.im_group.specs.Tallies.{CanJoin, tallied};
 
-use crate::asked::{Asked, asked_in};
+use crate::asked::Asked;
+use crate::near::near;
 use crate::tallies::Tallies;
 use im_eval::holds;
-use im_syntax::{Bound, Filter, Item};
-use im_values::{NoMemory, Row, Truth, Value};
+use im_syntax::{Bound, Filter};
+use im_values::{NoMemory, Truth, Value, copied};
 use indexmap::IndexMap;
 use std::alloc::Global;
 
 /// The groups of a query, by the values in the columns of GROUP BY.
 pub type Groups = IndexMap<Vec<Value>, Tallies>;
 
-/// The groups of rows that stay where they are: a key is lent by the first row that has it.
-type Lent<'a> = IndexMap<Vec<&'a Value>, Tallies>;
+/// What is kept from row to row: where the group of the last row stands, and room for the key of a row.
+#[derive(Drop)]
+pub struct Room {
+    last: usize,
+    key: Vec<Value>,
+}
+
+impl Room {
+    /// Room before the first row. It takes no memory.
+    pub fn new(alloc: Global) -> Room {
+        Room {
+            last: 0,
+            key: Vec::new(alloc),
+        }
+    }
+}
 
 /// Whether a query keeps a row: its condition is Yes, or it has none. It takes no memory.
-pub fn keeps(filter: &Option<Filter>, row: &Row) -> bool
+pub fn keeps(filter: &Option<Filter>, row: &[Value]) -> bool
     requires { ForSome filter.now (FilterFits row.now) }
     ensures { result ≡ spec.keeps filter.now row.now }
 {
@@ -34,157 +48,21 @@ pub fn keeps(filter: &Option<Filter>, row: &Row) -> bool
     }
 }
 
-/// What a query wants of each group: its items, then those of its keys.
-pub fn wanted(alloc: Global, bound: &Bound) -> Result<Vec<Item>, NoMemory>
-    ensures { IfOk result (λ items. items.items ≡ group.wanted bound.now) }
-{
-    let mut items = Vec::from_slice(alloc, bound.items.items())?;
-    for key in bound.keys.items() {
-        items.push(key.item)?;
-    }
-    Ok(items)
-}
-
-/// Lends the values of a row in the columns of GROUP BY.
-fn lend_key<'a>(columns: &[u32], row: &'a [Value], key: &mut Vec<&'a Value>) -> Result<(), NoMemory>
+/// The key of a row: copies of its values in the columns of GROUP BY.
+fn write_key(
+    alloc: Global,
+    columns: &[u32],
+    row: &[Value],
+    key: &mut Vec<Value>,
+) -> Result<(), NoMemory>
     requires { AllByRecursion (λ column. column < length row.now) columns.now }
-    ensures { OnOk result (lent_key key.new.items ≡ spec.key_of columns.now row.now) }
+    ensures { OnOk result (key.new.items ≡ spec.key_of columns.now row.now) }
 {
     key.clear();
     for column in columns {
-        key.push(&row[*column as usize])?;
+        key.push(row[*column as usize].copy(alloc)?)?;
     }
     Ok(())
-}
-
-/// A group of a key that is new takes its first row.
-fn put_group<'a>(
-    alloc: Global,
-    asked: &[Asked],
-    key: &[&'a Value],
-    row: &[Value],
-    groups: &mut Lent<'a>,
-) -> Result<(), NoMemory>
-    requires fits { AllByRecursion (λ a. a.column < length row.now) asked.now }
-    requires new { tallies_at (lent groups.old.entries) (lent_key key.now) ≡ None }
-    ensures { OnOk result (lent groups.new.entries ≡ with_first asked.now (lent groups.old.entries) (lent_key key.now) row.now) }
-{
-    let mut tallies = Tallies::new(alloc, asked)?;
-    tallies.take(alloc, asked, row)?;
-    groups.insert(Vec::from_slice(alloc, key)?, tallies)?;
-    Ok(())
-}
-
-/// The group of a key takes a row. A key that is there is looked up once and not copied.
-fn take_row<'a>(
-    alloc: Global,
-    asked: &[Asked],
-    key: &[&'a Value],
-    row: &[Value],
-    groups: &mut Lent<'a>,
-) -> Result<(), NoMemory>
-    requires fits { AllByRecursion (λ a. a.column < length row.now) asked.now }
-    requires few { CanTake asked.now (lent groups.old.entries) (lent_key key.now) }
-    ensures { OnOk result (lent groups.new.entries ≡ with_taken asked.now (lent groups.old.entries) (lent_key key.now) row.now) }
-{
-    match groups.get_mut(key) {
-        Some(tallies) => tallies.take(alloc, asked, row),
-        None => put_group(alloc, asked, key, row, groups),
-    }
-}
-
-/// The groups take a row, where the query keeps it.
-fn take_kept<'a>(
-    alloc: Global,
-    bound: &Bound,
-    asked: &[Asked],
-    row: &'a Row,
-    key: &mut Vec<&'a Value>,
-    groups: &mut Lent<'a>,
-) -> Result<(), NoMemory>
-    requires asked { asked.now ≡ asked_by bound.now }
-    requires fits { BoundFits row.now bound.now }
-    requires few { CanTake asked.now (lent groups.old.entries) (spec.key_of bound.now.groups row.now) }
-    ensures { OnOk result (lent groups.new.entries ≡ with_row bound.now (lent groups.old.entries) row.now) }
-{
-    if keeps(&bound.filter, row) {
-        lend_key(bound.groups.items(), row.values(), key)?;
-        take_row(alloc, asked, key.as_slice(), row.values(), groups)
-    } else {
-        Ok(())
-    }
-}
-
-/// The groups of the rows that a query keeps.
-fn lent_groups<'a>(
-    alloc: Global,
-    bound: &Bound,
-    asked: &[Asked],
-    rows: &[(u64, &'a Row)],
-) -> Result<Lent<'a>, NoMemory>
-    requires asked { asked.now ≡ asked_by bound.now }
-    requires some { 0 < length bound.now.groups }
-    requires fits { AllByRecursion (λ r. BoundFits r.1.now bound.now) rows.now }
-    ensures groups { IfOk result (λ groups.
-        GroupsAre bound.now (kept_values bound.now (spec.lent_rows rows.now)) (lent groups.entries)) }
-{
-    let mut groups = IndexMap::new(alloc);
-    let mut key = Vec::with_capacity(alloc, bound.groups.items().len())?;
-    for (_, row) in rows {
-        take_kept(alloc, bound, asked, *row, &mut key, &mut groups)?;
-    }
-    Ok(groups)
-}
-
-/// The tallies take a row, where the query keeps it.
-fn tally_kept(
-    alloc: Global,
-    bound: &Bound,
-    asked: &[Asked],
-    row: &Row,
-    tallies: &mut Tallies,
-) -> Result<(), NoMemory>
-    requires asked { asked.now ≡ asked_by bound.now }
-    requires fits { BoundFits row.now bound.now }
-    requires few { HasRoom tallies.old }
-    ensures { OnOk result (tallies.new ≡ with_kept bound.now tallies.old row.now) }
-{
-    if keeps(&bound.filter, row) {
-        tallies.take(alloc, asked, row.values())
-    } else {
-        Ok(())
-    }
-}
-
-/// What the one group of a query without GROUP BY takes of the rows that the query keeps.
-fn whole_tallies(
-    alloc: Global,
-    bound: &Bound,
-    asked: &[Asked],
-    rows: &[(u64, &Row)],
-) -> Result<Tallies, NoMemory>
-    requires asked { asked.now ≡ asked_by bound.now }
-    requires whole { bound.now.groups ≡ [] }
-    requires fits { AllByRecursion (λ r. BoundFits r.1.now bound.now) rows.now }
-    ensures groups { IfOk result (λ tallies.
-        GroupsAre bound.now (kept_values bound.now (spec.lent_rows rows.now)) (one_group tallies)) }
-{
-    let mut tallies = Tallies::new(alloc, asked)?;
-    for (_, row) in rows {
-        tally_kept(alloc, bound, asked, *row, &mut tallies)?;
-    }
-    Ok(tallies)
-}
-
-/// The values of a key, copied.
-fn owned_key(alloc: Global, values: &[&Value]) -> Result<Vec<Value>, NoMemory>
-    ensures { IfOk result (λ key. key.items ≡ map (λ v. v.now) values.now) }
-{
-    let mut key = Vec::with_capacity(alloc, values.len())?;
-    for value in values {
-        key.push(value.copy(alloc)?)?;
-    }
-    Ok(key)
 }
 
 /// Puts a group with a new key behind the others.
@@ -196,73 +74,144 @@ fn put_new(groups: &mut Groups, key: Vec<Value>, tallies: Tallies) -> Result<(),
     Ok(())
 }
 
-/// The group that some rows give to a query without GROUP BY, which has one also over no row.
-fn whole_group(
+/// A group of a key that is new takes its first row.
+fn put_group(
+    alloc: Global,
+    asked: &[Asked],
+    key: &[Value],
+    row: &[Value],
+    groups: &mut Groups,
+) -> Result<(), NoMemory>
+    requires fits { AllByRecursion (λ a. a.column < length row.now) asked.now }
+    ensures { OnOk result (own groups.new.entries ≡ with_first asked.now (own groups.old.entries) key.now row.now) }
+{
+    let mut tallies = Tallies::new(alloc, asked)?;
+    tallies.take(alloc, asked, row)?;
+    groups.insert(copied(alloc, key)?, tallies)?;
+    Ok(())
+}
+
+/// The group at a place, which has the key of a row, takes the row. No key is looked at.
+fn take_there(
+    alloc: Global,
+    _columns: &[u32],
+    asked: &[Asked],
+    place: usize,
+    row: &[Value],
+    groups: &mut Groups,
+) -> Result<(), NoMemory>
+    requires fits { AllByRecursion (λ a. a.column < length row.now) asked.now }
+    requires there { stands_at (own groups.old.entries) (spec.key_of _columns.now row.now) place ≡ true }
+    requires few { CanTake asked.now (own groups.old.entries) (spec.key_of _columns.now row.now) }
+    ensures { OnOk result (own groups.new.entries ≡ with_taken asked.now (own groups.old.entries) (spec.key_of _columns.now row.now) row.now) }
+{
+    match groups.get_index_mut(place) {
+        Some(tallies) => tallies.take(alloc, asked, row),
+        None => Ok(()),
+    }
+}
+
+/// The group of the key of a row takes the row: the key is looked up once, and copied where it is new.
+fn take_looked_up(
+    alloc: Global,
+    columns: &[u32],
+    asked: &[Asked],
+    key: &[Value],
+    row: &[Value],
+    last: &mut usize,
+    groups: &mut Groups,
+) -> Result<(), NoMemory>
+    requires fits { AllByRecursion (λ a. a.column < length row.now) asked.now }
+    requires key { key.now ≡ spec.key_of columns.now row.now }
+    requires few { CanTake asked.now (own groups.old.entries) (spec.key_of columns.now row.now) }
+    ensures { OnOk result (own groups.new.entries ≡ with_taken asked.now (own groups.old.entries) (spec.key_of columns.now row.now) row.now) }
+{
+    match groups.get_index_of(key) {
+        Some(place) => {
+            *last = place;
+            take_there(alloc, columns, asked, place, row, groups)
+        }
+        None => {
+            *last = groups.len();
+            put_group(alloc, asked, key, row, groups)
+        }
+    }
+}
+
+/// The group of the key of a row takes the row. The key is looked up where the group is not near.
+fn take_grouped(
+    alloc: Global,
+    columns: &[u32],
+    asked: &[Asked],
+    row: &[Value],
+    room: &mut Room,
+    groups: &mut Groups,
+) -> Result<(), NoMemory>
+    requires keyed { AllByRecursion (λ column. column < length row.now) columns.now }
+    requires fits { AllByRecursion (λ a. a.column < length row.now) asked.now }
+    requires few { CanTake asked.now (own groups.old.entries) (spec.key_of columns.now row.now) }
+    ensures { OnOk result (own groups.new.entries ≡ with_taken asked.now (own groups.old.entries) (spec.key_of columns.now row.now) row.now) }
+{
+    match near(columns, row, groups, room.last) {
+        Some(place) => {
+            room.last = place;
+            take_there(alloc, columns, asked, place, row, groups)
+        }
+        None => {
+            write_key(alloc, columns, row, &mut room.key)?;
+            take_looked_up(
+                alloc,
+                columns,
+                asked,
+                room.key.as_slice(),
+                row,
+                &mut room.last,
+                groups,
+            )
+        }
+    }
+}
+
+/// The groups take a row, where the query keeps it.
+pub fn take_row(
     alloc: Global,
     bound: &Bound,
     asked: &[Asked],
-    rows: &[(u64, &Row)],
-) -> Result<Groups, NoMemory>
+    row: &[Value],
+    room: &mut Room,
+    groups: &mut Groups,
+) -> Result<(), NoMemory>
     requires asked { asked.now ≡ asked_by bound.now }
-    requires whole { bound.now.groups ≡ [] }
-    requires fits { AllByRecursion (λ r. BoundFits r.1.now bound.now) rows.now }
-    ensures { IfOk result (λ groups.
-        as_groups groups.entries ≡ spec.groups_of bound.now (kept_values bound.now (spec.lent_rows rows.now))) }
+    requires fits { BoundFits row.now bound.now }
+    requires few { CanTake asked.now (own groups.old.entries) (spec.key_of bound.now.groups row.now) }
+    ensures { OnOk result (own groups.new.entries ≡ with_row bound.now (own groups.old.entries) row.now) }
 {
-    let tallies = whole_tallies(alloc, bound, asked, rows)?;
+    if keeps(&bound.filter, row) {
+        take_grouped(alloc, bound.groups.items(), asked, row, room, groups)
+    } else {
+        Ok(())
+    }
+}
+
+/// The one group of a query without GROUP BY, over no row.
+fn whole_group(alloc: Global, asked: &[Asked]) -> Result<Groups, NoMemory>
+    ensures { IfOk result (λ groups. own groups.entries ≡ one_group (tallied asked.now [])) }
+{
+    let tallies = Tallies::new(alloc, asked)?;
     let mut groups = IndexMap::new(alloc);
     put_new(&mut groups, Vec::new(alloc), tallies)?;
     Ok(groups)
 }
 
-/// The groups that some rows give to a query with GROUP BY.
-fn groups_by_key(
-    alloc: Global,
-    bound: &Bound,
-    asked: &[Asked],
-    rows: &[(u64, &Row)],
-) -> Result<Groups, NoMemory>
-    requires asked { asked.now ≡ asked_by bound.now }
-    requires some { 0 < length bound.now.groups }
-    requires fits { AllByRecursion (λ r. BoundFits r.1.now bound.now) rows.now }
-    ensures { IfOk result (λ groups.
-        as_groups groups.entries ≡ spec.groups_of bound.now (kept_values bound.now (spec.lent_rows rows.now))) }
+/// The groups of no row: without GROUP BY there is one.
+pub fn no_groups(alloc: Global, bound: &Bound, asked: &[Asked]) -> Result<Groups, NoMemory>
+    ensures { IfOk result (λ groups. own groups.entries ≡ first_groups bound.now.groups asked.now) }
 {
-    let lent = lent_groups(alloc, bound, asked, rows)?;
-    let mut groups = IndexMap::new(alloc);
-    groups.reserve(lent.len())?;
-    for (key, tallies) in lent {
-        put_new(&mut groups, owned_key(alloc, key.as_slice())?, tallies)?;
-    }
-    Ok(groups)
-}
-
-/// The groups that some rows give to a grouped query. The rows stay where they are.
-///
-/// It asks the condition once of each row. With GROUP BY it costs one look-up a row that is kept, and copies the values of
-/// a key once for each group; without GROUP BY nothing is looked up.
-pub fn groups_of(alloc: Global, bound: &Bound, rows: &[(u64, &Row)]) -> Result<Groups, NoMemory>
-    requires fits { AllByRecursion (λ r. BoundFits r.1.now bound.now) rows.now }
-    ensures { IfOk result (λ groups.
-        as_groups groups.entries ≡ spec.groups_of bound.now (kept_values bound.now (spec.lent_rows rows.now))) }
-{
-    let wanted = wanted(alloc, bound)?;
-    let asked = asked_in(alloc, wanted.as_slice())?;
     if bound.groups.items().is_empty() {
-        whole_group(alloc, bound, asked.as_slice(), rows)
+        whole_group(alloc, asked)
     } else {
-        groups_by_key(alloc, bound, asked.as_slice(), rows)
+        Ok(IndexMap::new(alloc))
     }
-}
-
-fn copy_key(alloc: Global, values: &[Value]) -> Result<Vec<Value>, NoMemory>
-    ensures { IfOk result (λ key. key.items ≡ values.now) }
-{
-    let mut key = Vec::with_capacity(alloc, values.len())?;
-    for value in values {
-        key.push(value.copy(alloc)?)?;
-    }
-    Ok(key)
 }
 
 /// The same groups once more.
@@ -274,7 +223,7 @@ pub fn copy_groups(alloc: Global, groups: &Groups) -> Result<Groups, NoMemory>
     for (key, tallies) in groups.iter() {
         put_new(
             &mut copies,
-            copy_key(alloc, key.as_slice())?,
+            copied(alloc, key.as_slice())?,
             tallies.copy(alloc)?,
         )?;
     }

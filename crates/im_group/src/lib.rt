@@ -10,14 +10,17 @@
 #![tactic(auto)]
 
 mod asked;
+mod asking;
 mod cell;
 mod grouping;
+mod near;
 mod partial;
 mod record;
 mod records;
 mod sums;
 mod tallies;
 
+pub use asking::Asking;
 pub use cell::Cell;
 pub use grouping::keeps;
 pub use partial::Partial;

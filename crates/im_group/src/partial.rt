@@ -1,19 +1,21 @@
-ghost use Rattle.std.specs.Prelude.{◌≡◌, ◌++◌, IfOk, OnOk, OnErr, length, map};
+ghost use Rattle.std.specs.Prelude.{◌≡◌, ◌++◌, [], IfOk, OnOk, OnErr, length, map};
 ghost use Rattle.std.specs.List.{AllByRecursion};
 ghost use Rattle.im_syntax.specs.BoundFits.{BoundFits};
 ghost use Rattle.im_syntax.specs.BoundQuery.{IsOfGroup, IsQuery};
 ghost use Rattle.im_group.specs.inner.Holding.{AreKeyed, as_groups, entry_order, held_records};
 ghost use Rattle.im_group.specs.Partials as spec;
+ghost use Rattle.im_group.specs.inner.Steps.{with_kept};
 ghost use Rattle.im_group.specs.Tallies as group;
 ghost use Rattle.im_group.specs.Answers.{finished, group_records, in_order, part_records};
 
 use crate::asked::{Asked, asked_in};
+use crate::asking::{Asking, wanted};
 use crate::cell::Cell;
-use crate::grouping::{Groups, copy_groups, groups_of, join_groups, keeps, wanted};
+use crate::grouping::{Groups, Room, copy_groups, join_groups, keeps, no_groups, take_row};
 use crate::record::Record;
 use crate::records::{group_record, projected, put_in_order, row_records};
 use im_syntax::{Bound, Item};
-use im_values::{NoMemory, Row, Value, clone_row};
+use im_values::{NoMemory, Row, Value, clone_row, copied};
 use indexmap::IndexMap;
 use std::alloc::Global;
 use std::cmp::Ordering;
@@ -24,6 +26,7 @@ use std::marker::Model;
 pub struct Partial {
     rows: Vec<(u64, Row)>,
     groups: Groups,
+    room: Room,
 }
 
 impl Model for Partial {
@@ -37,22 +40,38 @@ impl Model for Partial {
     ghost view = { λ p. record { rows = p.rows.items; groups = held (λ k. k.items) p.groups.entries } };
 }
 
-/// Copies of the rows that a query keeps, in their order.
-fn kept_rows(
+/// Puts a copy of a row with its number behind the others, where the query keeps it.
+fn keep_row(
     alloc: Global,
     bound: &Bound,
-    rows: &[(u64, &Row)],
-) -> Result<Vec<(u64, Row)>, NoMemory>
-    requires { AllByRecursion (λ r. BoundFits r.1.now bound.now) rows.now }
-    ensures { IfOk result (λ kept. kept.items ≡ spec.kept bound.now (spec.lent_rows rows.now)) }
+    number: u64,
+    row: &[Value],
+    rows: &mut Vec<(u64, Row)>,
+) -> Result<(), NoMemory>
+    requires { BoundFits row.now bound.now }
+    ensures { OnOk result (rows.new.items ≡ with_kept bound.now rows.old.items (number, row.now)) }
 {
-    let mut kept = Vec::new(alloc);
-    for (number, row) in rows {
-        if keeps(&bound.filter, row) {
-            kept.push((*number, clone_row(alloc, row)?))?;
-        }
+    if keeps(&bound.filter, row) {
+        rows.push((number, Row::of(copied(alloc, row)?)))?;
     }
-    Ok(kept)
+    Ok(())
+}
+
+/// Puts a row with its number behind the others, where the query keeps it. The row is shared.
+fn share_row(
+    alloc: Global,
+    bound: &Bound,
+    number: u64,
+    row: &Row,
+    rows: &mut Vec<(u64, Row)>,
+) -> Result<(), NoMemory>
+    requires { BoundFits row.now bound.now }
+    ensures { OnOk result (rows.new.items ≡ with_kept bound.now rows.old.items (number, row.now)) }
+{
+    if keeps(&bound.filter, row.values()) {
+        rows.push((number, clone_row(alloc, row)?))?;
+    }
+    Ok(())
 }
 
 /// Lends rows, each with its number.
@@ -64,6 +83,19 @@ fn lend<'a>(alloc: Global, rows: &'a [(u64, Row)]) -> Result<Vec<(u64, &'a Row)>
         lent.push((*number, row))?;
     }
     Ok(lent)
+}
+
+/// What some rows give to a query, taken one by one.
+fn part_of(alloc: Global, bound: &Bound, rows: &[(u64, &Row)]) -> Result<Partial, NoMemory>
+    requires { AllByRecursion (λ r. BoundFits r.1.now bound.now) rows.now }
+    ensures { IfOk result (λ partial. partial ≡ spec.partial bound.now (spec.lent_rows rows.now)) }
+{
+    let asking = Asking::of(alloc, bound)?;
+    let mut partial = Partial::new(alloc, &asking)?;
+    for (number, row) in rows {
+        partial.take_shared(alloc, &asking, *number, *row)?;
+    }
+    Ok(partial)
 }
 
 fn copy_rows(alloc: Global, rows: &[(u64, Row)]) -> Result<Vec<(u64, Row)>, NoMemory>
@@ -150,25 +182,85 @@ fn records_of(
 }
 
 impl Partial {
-    /// What some rows, each with its row number, give to a query. The rows stay where they are.
+    /// What no row gives to a query.
+    pub fn new(alloc: Global, asking: &Asking<'_>) -> Result<Partial, NoMemory>
+        ensures { IfOk result (λ partial. partial ≡ spec.partial asking.now []) }
+    {
+        let bound = asking.bound();
+        if bound.grouped {
+            let groups = no_groups(alloc, bound, asking.asked())?;
+            Ok(Partial::of_groups(alloc, groups))
+        } else {
+            Ok(Partial::of_groups(alloc, IndexMap::new(alloc)))
+        }
+    }
+
+    fn of_groups(alloc: Global, groups: Groups) -> Partial
+        ensures { result ≡ record { rows = []; groups = as_groups groups.entries } }
+    {
+        Partial {
+            rows: Vec::new(alloc),
+            groups,
+            room: Room::new(alloc),
+        }
+    }
+
+    /// Takes one row more, of a number above those of the rows so far. The row stays where it is.
     ///
-    /// The rows are taken in their order, which is that of rising row numbers. The condition is asked once of each row. Only
-    /// the rows that a query without groups keeps are copied.
+    /// The condition is asked once. A query that is grouped costs one look-up of the row's key, and copies a key once for each
+    /// group; one that is not copies the rows that it keeps. Where memory is out, what the part is then is not said.
+    pub fn take(
+        &mut self,
+        alloc: Global,
+        asking: &Asking<'_>,
+        number: u64,
+        row: &[Value],
+    ) -> Result<(), NoMemory>
+        requires fits { BoundFits row.now asking.now }
+        requires few { spec.IsPartOfFew asking.now self.old }
+        ensures { OnOk result (spec.GoesOn asking.now self.old (number, row.now) self.new) }
+    {
+        let bound = asking.bound();
+        if bound.grouped {
+            take_row(
+                alloc,
+                bound,
+                asking.asked(),
+                row,
+                &mut self.room,
+                &mut self.groups,
+            )
+        } else {
+            keep_row(alloc, bound, number, row, &mut self.rows)
+        }
+    }
+
+    /// Takes one row more, as [`Partial::take`] does. A row that is kept shares its values.
+    pub fn take_shared(
+        &mut self,
+        alloc: Global,
+        asking: &Asking<'_>,
+        number: u64,
+        row: &Row,
+    ) -> Result<(), NoMemory>
+        requires fits { BoundFits row.now asking.now }
+        requires few { spec.IsPartOfFew asking.now self.old }
+        ensures { OnOk result (spec.GoesOn asking.now self.old (number, row.now) self.new) }
+    {
+        let bound = asking.bound();
+        if bound.grouped {
+            self.take(alloc, asking, number, row.values())
+        } else {
+            share_row(alloc, bound, number, row, &mut self.rows)
+        }
+    }
+
+    /// What some rows, each with its row number, give to a query. The rows stay where they are, and those that are kept are shared.
     pub fn of_lent(alloc: Global, bound: &Bound, rows: &[(u64, &Row)]) -> Result<Partial, NoMemory>
         requires fits { AllByRecursion (λ r. BoundFits r.1 bound.now) (spec.lent_rows rows.now) }
         ensures { IfOk result (λ partial. partial ≡ spec.partial bound.now (spec.lent_rows rows.now)) }
     {
-        if bound.grouped {
-            Ok(Partial {
-                rows: Vec::new(alloc),
-                groups: groups_of(alloc, bound, rows)?,
-            })
-        } else {
-            Ok(Partial {
-                rows: kept_rows(alloc, bound, rows)?,
-                groups: IndexMap::new(alloc),
-            })
-        }
+        part_of(alloc, bound, rows)
     }
 
     /// What some rows, each with its row number, give to a query, as [`Partial::of_lent`] says.
@@ -187,6 +279,7 @@ impl Partial {
         Ok(Partial {
             rows: copy_rows(alloc, self.rows.as_slice())?,
             groups: copy_groups(alloc, &self.groups)?,
+            room: Room::new(alloc),
         })
     }
 
@@ -200,7 +293,11 @@ impl Partial {
         ensures parts { OnOk result (spec.IsPartOfBoth self.old other self.new) }
         ensures err { OnErr result (self.new ≡ self.old) }
     {
-        let Partial { mut rows, groups } = other;
+        let Partial {
+            mut rows,
+            groups,
+            ..
+        } = other;
         self.rows.reserve(rows.len())?;
         join_groups(&mut self.groups, groups)?;
         self.rows.append(&mut rows).unwrap();
@@ -211,7 +308,7 @@ impl Partial {
     pub fn into_rows(self) -> Vec<(u64, Row)>
         ensures { result.items ≡ self.rows }
     {
-        let Partial { rows, groups: _ } = self;
+        let Partial { rows, .. } = self;
         rows
     }
 
@@ -226,7 +323,7 @@ impl Partial {
         requires part { spec.IsPart bound.now self }
         ensures { IfOk result (λ records. map (λ cells. cells.items) records.items ≡ finished bound.now self) }
     {
-        let Partial { rows, groups } = self;
+        let Partial { rows, groups, .. } = self;
         let wanted = wanted(alloc, bound)?;
         let mut records = records_of(alloc, bound, wanted.as_slice(), rows.as_slice(), groups)?;
         let count = bound.items.items().len();

@@ -1,8 +1,9 @@
 -- A query may be asked of each row that a scan takes.
-use Rattle.std.proofs.Common.{ℕ, zero, suc, ◌+◌, ◌-◌, ◌<◌, ◌==◌, ◌&&◌, Bool, true, false, if◌then◌else◌, List, [], ◌∷◌, ◌++◌, length, get_or, Option, Some, None, refl, arith}
+use Rattle.std.proofs.Common.{◌≡◌, ℕ, zero, suc, ◌+◌, ◌-◌, ◌<◌, ◌==◌, ◌&&◌, Bool, true, false, if◌then◌else◌, List, [], ◌∷◌, ◌++◌, length, get_or, map, Option, Some, None, refl, sym, subst, arith}
 use Rattle.std.specs.Prelude.{nat_lt}
 use Rattle.std.specs.List.{AllByRecursion, fold}
-use Rattle.std.specs.Option.{ForSome}
+use Rattle.std.specs.Option.{ForSome, option_copied}
+use denote.Ref.{Bor}
 use Rattle.im_syntax.specs.declared.bound.Bound.{Bound}
 use Rattle.im_syntax.specs.BoundFits.{BoundFits}
 use Rattle.im_history.specs.declared.change.Change.{Change}
@@ -11,7 +12,7 @@ use Rattle.im_history.specs.Rows.{Row, row_after}
 use Rattle.im_history.specs.Units.{Content}
 use Rattle.im_group.specs.Partials.{Numbered}
 use Rattle.im_scan.specs.Parts.{MayAsk, row_in_unit, fetched_after, taken_row}
-use Rattle.im_scan.specs.inner.Steps.{numbered, numbered_from}
+use Rattle.im_scan.specs.inner.Steps.{MayScan, numbered, numbered_from}
 use Rattle.im_scan.proofs.SlotLemmas.{AreTaken}
 
 no_row : (bound : Bound) → MayAsk bound None
@@ -58,12 +59,6 @@ own-fits bound (change ∷ own) table rid row all fits =
     own-fits bound own table rid (row_after table rid row change) all.1
     (one-fits bound ((change.table == table) && (change.rid == rid)) change.row row all.0 fits)
 
--- a query may be asked of what the unit has, of what was fetched and of what the own changes put
-pub record MayScan (bound : Bound) (unit : Option Content) (fetched : List (ℕ × Option Row)) (own : List Change) : Type 0 where
-  pub unit_fits : ForSome unit (λ content. AllByRecursion (MayAsk bound) content.rows)
-  pub fetched_fits : AllByRecursion (λ f. MayAsk bound f.1) fetched
-  pub own_fits : AllByRecursion (λ change. MayAsk bound change.row) own
-
 taken-fits : (bound : Bound) (unit : Option Content) (fetched : List (ℕ × Option Row)) (view : View) (rid : ℕ)
     → MayScan bound unit fetched view.own → MayAsk bound (taken_row unit fetched view rid)
 taken-fits bound unit fetched view rid may =
@@ -76,15 +71,16 @@ pub slots-fit : (bound : Bound) (unit : Option Content) (fetched : List (ℕ × 
 slots-fit bound unit fetched view first count slots may taken =
     all-at (MayAsk bound) slots None (λ i within. rw (taken.at i within) (taken-fits bound unit fetched view (first + i) may))
 
--- ---- the rows that there are
+-- ---- one of them
 
-numbered-fits : (bound : Bound) (rid : ℕ) (slot : Option Row) (later : List Numbered) → MayAsk bound slot
-    → AllByRecursion (λ r. BoundFits r.1 bound) later → AllByRecursion (λ r. BoundFits r.1 bound) (numbered rid slot ++ later)
-numbered-fits bound rid None later fits rest = rest
-numbered-fits bound rid (Some row) later fits rest = (fits row refl, rest)
+pub slot-fits : (bound : Bound) (slots : List (Option (Bor Row))) (i : ℕ) (row : Option (Bor Row)) → i < length slots → row ≡ get_or slots i row
+    → AllByRecursion (MayAsk bound) (map option_copied slots) → MayAsk bound (option_copied row)
+slot-fits bound [] i row within is all = absurd (omega (arith, within))
+slot-fits bound (slot ∷ slots) zero row within is all = subst (λ (o : Option (Bor Row)). MayAsk bound (option_copied o)) (sym is) all.0
+slot-fits bound (slot ∷ slots) (suc i) row within is all = slot-fits bound slots i row (omega (arith, within)) is all.1
 
-pub numbered_from-fits : (bound : Bound) (first : ℕ) (slots : List (Option Row)) → AllByRecursion (MayAsk bound) slots
-    → AllByRecursion (λ r. BoundFits r.1 bound) (numbered_from first slots)
-numbered_from-fits bound first [] all = tt
-numbered_from-fits bound first (slot ∷ slots) all =
-    numbered-fits bound first slot (numbered_from (first + 1) slots) all.0 (numbered_from-fits bound (first + 1) slots all.1)
+pub row-fits : (bound : Bound) (fetched : List (ℕ × Option Row)) (i : ℕ) (row : ℕ × Option Row) → i < length fetched → row ≡ get_or fetched i row
+    → AllByRecursion (λ f. MayAsk bound f.1) fetched → MayAsk bound row.1
+row-fits bound [] i row within is all = absurd (omega (arith, within))
+row-fits bound (f ∷ fetched) zero row within is all = subst (λ (o : ℕ × Option Row). MayAsk bound o.1) (sym is) all.0
+row-fits bound (f ∷ fetched) (suc i) row within is all = row-fits bound fetched i row (omega (arith, within)) is all.1

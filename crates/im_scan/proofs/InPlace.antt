@@ -1,20 +1,20 @@
 -- Rows that were fetched in place: of each row number from the first on, in order.
 use Rattle.std.proofs.Common.{◌≡◌, ℕ, zero, suc, ◌+◌, ◌<◌, ◌==◌, Bool, true, false, if◌then◌else◌, List, [], ◌∷◌, ◌++◌, length, take, drop, get_or, map, Option, None, refl, sym, ap, ◌∙◌, arith}
 use Rattle.std.specs.List.{fold, range_with_len}
-use Rattle.std.specs.Option.{option_copied}
 use Rattle.std.proofs.lemmas.Bool.Decides.{nat_tests}
-use Rattle.std.proofs.lemmas.List.{length-map, length-take-le, map_push, take_more, map-append}
+use Rattle.std.proofs.lemmas.List.{length-map, length-take-le, take_more, map-append}
 use Rattle.std.proofs.lemmas.List.FromFn.{length-map-range_with_len}
-use denote.Ref.{Bor}
 use Rattle.im_history.specs.Rows.{Row}
 use Rattle.im_scan.specs.Parts.{row_in_unit, fetched_after}
-use Rattle.im_scan.specs.inner.Steps.{lent, unit_rows, with_fetched}
-use Rattle.im_scan.proofs.SlotLemmas.{length-with_fetched, at-with_fetched}
+use Rattle.im_syntax.specs.declared.bound.Bound.{Bound}
+use Rattle.im_group.specs.Partials.{Parts, partial}
+use Rattle.im_scan.specs.inner.Steps.{GoesOnBy, numbered, numbered_from, unit_rows, with_fetched}
+use Rattle.im_scan.proofs.SlotLemmas.{length-with_fetched, at-with_fetched, numbered_from-push}
 
-abbrev numbers_of : List (ℕ × Option Row) → List ℕ
+abbrev pub numbers_of : List (ℕ × Option Row) → List ℕ
 numbers_of fetched = map (λ row. row.0) fetched
 
-abbrev rows_of : List (ℕ × Option Row) → List (Option Row)
+abbrev pub rows_of : List (ℕ × Option Row) → List (Option Row)
 rows_of fetched = map (λ row. row.1) fetched
 
 first-of : (n m : ℕ) (ns ms : List ℕ) → ◌≡◌ {A = List ℕ} (n ∷ ns) (m ∷ ms) → n ≡ m
@@ -60,20 +60,15 @@ same-lists (x ∷ xs) (y ∷ ys) long at =
     ∙ ap (λ (l : List (Option Row)). y ∷ l)
     (same-lists xs ys (omega (arith, long)) (λ i within. at (suc i) (omega (arith, within))))
 
--- so far each row is of the next row number
-pub record AreInPlace (first : ℕ) (fetched : List (ℕ × Option Row)) (slots : List (Option (Bor Row))) : Type 0 where
-  pub numbers : map (λ row. row.0) fetched ≡ range_with_len first (length fetched)
-  pub rows : lent slots ≡ map (λ row. row.1) fetched
-
 -- nothing need be laid below rows that were fetched in place
-pub in-place : (first : ℕ) (fetched : List (ℕ × Option Row)) (slots : List (Option (Bor Row))) → AreInPlace first fetched slots
-    → lent slots ≡ with_fetched first (unit_rows None first (length fetched)) fetched
-in-place first fetched slots are =
-    are.rows ∙ same-lists (rows_of fetched) (with_fetched first shown fetched) long
+pub in-place : (first : ℕ) (fetched : List (ℕ × Option Row)) → numbers_of fetched ≡ range_with_len first (length fetched)
+    → rows_of fetched ≡ with_fetched first (unit_rows None first (length fetched)) fetched
+in-place first fetched numbers =
+    same-lists (rows_of fetched) (with_fetched first shown fetched) long
     (λ i within.
     let inside : i < length fetched = omega (arith, within, length-map fetched (λ row. row.1)) in
     sym (at-with_fetched first shown fetched i (omega (arith, inside, shown_long))
-    ∙ found fetched first i (get_or shown i None) are.numbers inside))
+    ∙ found fetched first i (get_or shown i None) numbers inside))
   where
     shown : List (Option Row)
     shown = unit_rows None first (length fetched)
@@ -93,12 +88,16 @@ ranges-push first (suc n) =
     ∙ (ap (λ (l : List ℕ). first ∷ l) (ranges-push (first + 1) n)
     ∙ ap (λ (m : ℕ). first ∷ (range_with_len (first + 1) n ++ m ∷ [])) next)
 
+-- the part of rows that were fetched in place
+pub record IsInPlace (bound : Bound) (first : ℕ) (fetched : List (ℕ × Option Row)) (part : Parts) : Type 0 where
+  pub numbers : numbers_of fetched ≡ range_with_len first (length fetched)
+  pub is : part ≡ partial bound (numbered_from first (rows_of fetched))
+
 -- one row more
-pub in-place-more : (first i : ℕ) (fetched : List (ℕ × Option Row)) (d : ℕ × Option Row) (row : Option (Bor Row))
-    (slots longer : List (Option (Bor Row)))
-    → i < length fetched → d ≡ get_or fetched i d → d.0 ≡ first + i → option_copied row ≡ d.1
-    → AreInPlace first (take i fetched) slots → longer ≡ slots ++ row ∷ [] → AreInPlace first (take (i + 1) fetched) longer
-in-place-more first i fetched d row slots longer within is number same are pushed = record {
+pub in-place-more : (bound : Bound) (first i : ℕ) (fetched : List (ℕ × Option Row)) (d : ℕ × Option Row) (row : Option Row) (old new : Parts)
+    → i < length fetched → d ≡ get_or fetched i d → d.0 ≡ first + i → row ≡ d.1
+    → IsInPlace bound first (take i fetched) old → GoesOnBy bound old (numbered d.0 row) new → IsInPlace bound first (take (i + 1) fetched) new
+in-place-more bound first i fetched d row old new within is number same are goes = record {
   numbers =
       ap numbers_of more
       ∙ (map-append (λ r. r.0) (take i fetched) (d ∷ [])
@@ -107,13 +106,12 @@ in-place-more first i fetched d row slots longer within is number same are pushe
       ∙ (ap (λ (n : ℕ). range_with_len first i ++ n ∷ []) number
       ∙ (sym (ranges-push first i)
       ∙ ap (range_with_len first) (sym longer_is))))));
-  rows =
-      ap lent pushed
-      ∙ (map_push option_copied slots row
-      ∙ (ap (λ (l : List (Option Row)). l ++ option_copied row ∷ []) are.rows
-      ∙ (ap (λ (r : Option Row). rows_of (take i fetched) ++ r ∷ []) same
-      ∙ (sym (map-append (λ r. r.1) (take i fetched) (d ∷ []))
-      ∙ ap rows_of (sym more)))));
+  is =
+      goes.goes (numbered_from first (rows_of (take i fetched))) are.is
+      ∙ ap (partial bound)
+      (sym (ap (numbered_from first) (ap rows_of more ∙ map-append (λ r. r.1) (take i fetched) (d ∷ []))
+      ∙ (numbered_from-push first (rows_of (take i fetched)) d.1 d.0 here
+      ∙ ap (λ (r : Option Row). numbered_from first (rows_of (take i fetched)) ++ numbered d.0 r) (sym same))));
 }
   where
     more : take (i + 1) fetched ≡ take i fetched ++ d ∷ []
@@ -124,3 +122,6 @@ in-place-more first i fetched d row slots longer within is number same are pushe
 
     longer_is : length (take (i + 1) fetched) ≡ i + 1
     longer_is = length-take-le (i + 1) fetched (omega (arith, within))
+
+    here : first + length (rows_of (take i fetched)) ≡ d.0
+    here = ap (λ (n : ℕ). first + n) (length-map (take i fetched) (λ r. r.1) ∙ long) ∙ sym number

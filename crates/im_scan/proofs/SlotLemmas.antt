@@ -2,7 +2,7 @@
 use Rattle.std.proofs.Common.{◌≡◌, ℕ, suc, ◌+◌, ◌-◌, ◌<◌, ◌≤◌, ◌==◌, ◌&&◌, Bool, true, false, if◌then◌else◌, List, [], ◌∷◌, ◌++◌, length, take, drop, get_or, Option, Some, None, refl, sym, ap, ◌∙◌, ⊎_elim, arith, append_assoc, append-nil}
 use Rattle.std.specs.Prelude.{nat_lt, slice_set}
 use Rattle.std.specs.List.{fold, cons_option}
-use Rattle.std.specs.Option.{option_copied, option_map}
+use Rattle.std.specs.Option.{option_copied, option_map, unwrap_or}
 use Rattle.std.proofs.lemmas.Bool.{cases_lt}
 use Rattle.std.proofs.lemmas.Bool.Decides.{nat_tests}
 use Rattle.std.proofs.lemmas.List.{take_all, drop_all, get_or-set_same, get_or-set_other, length-map, length-set, length-take-le, map-set, map_more, map_push, ext_get_or}
@@ -10,7 +10,7 @@ use Rattle.std.proofs.lemmas.List.FromFn.{length-map-range_with_len, get_or-map-
 use denote.Ref.{Bor}
 use Rattle.im_history.specs.declared.change.Change.{Change}
 use Rattle.im_history.specs.declared.view.View.{View}
-use Rattle.im_history.specs.Last.{Slot, ArePut}
+use Rattle.im_history.specs.Last.{Slot, ArePut, AreLast}
 use Rattle.im_history.specs.Rows.{Row, row_after, present}
 use Rattle.im_history.proofs.LastLaws.{put-more, put-all}
 use Rattle.im_history.specs.Units.{Content}
@@ -146,6 +146,18 @@ own-all view first before now are =
     let inside : place < length before = let long = are.long in omega (arith, within, long) in
     put-all view.own view.table first before now are place inside ∙ sym (at-with_changes view.table first before view.own place inside))
 
+-- where the last changes are none, nothing changes
+pub own-none : (view : View) (first count : ℕ) (slots : List (Option Row)) → AreLast view.own view.table first count [] → length slots ≡ count
+    → with_changes view.table first slots view.own ≡ slots
+own-none view first count slots none long =
+    sym (own-all view first slots slots (record {
+      long = refl;
+      each = none.each;
+      at = λ place within.
+          ap (λ (o : Option (Option Row)). unwrap_or o (get_or slots place None))
+          (none.found (first + place) (omega arith) (omega (arith, within, long)));
+    }))
+
 -- ---- what is gathered
 
 -- the slots are those that a scan takes at so many row numbers from the first on
@@ -251,7 +263,7 @@ gathered-present unit fetched view first count =
 
 -- ---- one more row numbered
 
-numbered_from-push : (first : ℕ) (slots : List (Option Row)) (slot : Option Row) (rid : ℕ) → first + length slots ≡ rid
+pub numbered_from-push : (first : ℕ) (slots : List (Option Row)) (slot : Option Row) (rid : ℕ) → first + length slots ≡ rid
     → numbered_from first (slots ++ slot ∷ []) ≡ numbered_from first slots ++ numbered rid slot
 numbered_from-push first [] slot rid is =
     ap (λ (n : ℕ). numbered n slot ++ []) (omega (arith, is)) ∙ nothing (numbered rid slot)

@@ -1,80 +1,139 @@
-ghost use Rattle.std.specs.Prelude.{◌≡◌, ◌+◌, ◌*◌, ◌<◌, ◌≤◌, ◌++◌, ◌^◌, length, Option, IfOk, OnOk};
+ghost use Rattle.std.specs.Prelude.{◌≡◌, ◌+◌, ◌*◌, ◌<◌, ◌^◌, length, Option, None, IfOk, OnOk};
 ghost use Rattle.std.specs.List.{AllByRecursion};
 ghost use Rattle.std.specs.Option.{ForSome, option_copied};
 ghost use Rattle.im_history.specs.Grid.{extents_for};
 ghost use Rattle.im_history.specs.History.{History};
 ghost use Rattle.im_history.specs.Rows.{present};
 ghost use Rattle.im_history.specs.Units.{Content};
-ghost use Rattle.im_syntax.specs.BoundFits.{BoundFits};
 ghost use Rattle.im_group.specs.Partials as group;
 ghost use Rattle.im_scan.specs.Faces.{Shows, unit_of};
 ghost use Rattle.im_scan.specs.Parts.{MayAsk, MayAskShown, part_of, taken_row};
 ghost use Rattle.im_scan.specs.Pinned.{IsPinned, seen_in};
-ghost use Rattle.im_scan.specs.inner.Steps.{AreRowsOf, lent, numbered, numbered_from};
+ghost use Rattle.im_scan.specs.inner.Steps.{GoesOnBy, MayScan, lent, numbered, numbered_from, unit_rows, with_fetched};
 
 use crate::faces::Face;
-use crate::slots::{gather, rows_of};
-use im_group::Partial;
+use crate::slots::{gather, has_own, rows_of};
+use im_group::{Asking, Partial};
 use im_history::View;
 use im_syntax::Bound;
 use im_values::{NoMemory, Row};
 use std::alloc::Global;
 
-/// Puts a row, where there is one, with its number behind others.
-fn put_numbered<'a>(
+/// The part takes what stands at a row number, where there is a row. The row stays where it is.
+fn take_row(
+    alloc: Global,
+    asking: &Asking<'_>,
     rid: u64,
-    row: Option<&'a Row>,
-    rows: &mut Vec<(u64, &'a Row)>,
+    row: Option<&Row>,
+    part: &mut Partial,
 ) -> Result<(), NoMemory>
-    ensures { OnOk result
-        (group.lent_rows rows.new.items ≡ group.lent_rows rows.old.items ++ numbered rid (option_copied row.entry)) }
+    requires fits { MayAsk asking.now (option_copied row) }
+    requires few { group.IsPartOfFew asking.now part.old }
+    ensures { OnOk result (GoesOnBy asking.now part.old (numbered rid (option_copied row.entry)) part.new) }
 {
-    if let Some(row) = row {
-        rows.push((rid, row))?;
+    match row {
+        Some(row) => part.take_shared(alloc, asking, rid, row),
+        None => Ok(()),
     }
-    Ok(())
 }
 
-/// The rows that there are, each with its number. They stay where they are.
-fn numbered_rows<'a>(
+/// What the rows that there are give, of row numbers from the first on.
+fn part_of_slots(
     alloc: Global,
+    asking: &Asking<'_>,
     first: u64,
-    slots: &[Option<&'a Row>],
-) -> Result<Vec<(u64, &'a Row)>, NoMemory>
+    slots: &[Option<&Row>],
+) -> Result<Partial, NoMemory>
     requires within { first + length slots.now < 2 ^ 64 }
-    ensures { IfOk result (λ rows. group.lent_rows rows.items ≡ numbered_from first (lent slots.now)) }
+    requires fits { AllByRecursion (MayAsk asking.now) (lent slots.now) }
+    ensures { IfOk result (λ part. part ≡ group.partial asking.now (numbered_from first (lent slots.now))) }
 {
-    let mut rows = Vec::with_capacity(alloc, slots.len())?;
+    let mut part = Partial::new(alloc, asking)?;
     for (i, slot) in slots.iter().enumerate() {
-        put_numbered(first + i as u64, *slot, &mut rows)?;
+        take_row(alloc, asking, first + i as u64, *slot, &mut part)?;
     }
-    Ok(rows)
+    Ok(part)
 }
 
-/// The rows that a scan takes at so many row numbers from the first on, each with its number. They stay where they are.
-fn taken_rows<'a>(
+/// What rows that were fetched give, where these are of all row numbers from the first on, in order.
+fn part_in_place(
     alloc: Global,
-    face: Face<'a>,
-    held: &'a [Option<Row>],
-    fetched: &'a [(u64, Option<Row>)],
-    view: &'a View,
+    asking: &Asking<'_>,
+    first: u64,
+    fetched: &[(u64, Option<Row>)],
+) -> Result<Option<Partial>, NoMemory>
+    requires within { first + length fetched.now < 2 ^ 64 }
+    requires fits { AllByRecursion (λ row. MayAsk asking.now row.1) fetched.now }
+    ensures { IfOk result (λ part. ForSome part (λ part.
+        part ≡ group.partial asking.now (numbered_from first (with_fetched first (unit_rows None first (length fetched.now)) fetched.now)))) }
+{
+    let mut part = Partial::new(alloc, asking)?;
+    for (i, (rid, row)) in fetched.iter().enumerate() {
+        if *rid != first + i as u64 {
+            return Ok(None);
+        }
+        take_row(alloc, asking, *rid, row.as_ref(), &mut part)?;
+    }
+    Ok(Some(part))
+}
+
+/// What an extent without a unit gives, where each of its row numbers was fetched and the view has changed none of them: nothing
+/// is laid out.
+fn fetched_part(
+    alloc: Global,
+    face: Face<'_>,
+    asking: &Asking<'_>,
+    fetched: &[(u64, Option<Row>)],
+    view: &View,
     first: u64,
     count: u64,
-) -> Result<Vec<(u64, &'a Row)>, NoMemory>
+) -> Result<Option<Partial>, NoMemory>
     requires within { first + count < 2 ^ 64 }
-    requires held { AreRowsOf face held.now }
-    ensures { IfOk result (λ rows.
-        group.lent_rows rows.items ≡ present (taken_row (unit_of face.entry) fetched.now view.now) first count) }
+    requires fits { AllByRecursion (λ row. MayAsk asking.now row.1) fetched.now }
+    ensures { IfOk result (λ part. ForSome part (λ part.
+        part ≡ group.partial asking.now (present (taken_row (unit_of face.entry) fetched.now view.now) first count))) }
 {
-    let slots = gather(alloc, face, held, fetched, view, first, count)?;
-    numbered_rows(alloc, first, slots.as_slice())
+    match face {
+        Face::Whole(_) => Ok(None),
+        Face::Bare => {
+            if fetched.len() as u64 != count {
+                return Ok(None);
+            }
+            if has_own(view, first, count) {
+                Ok(None)
+            } else {
+                part_in_place(alloc, asking, first, fetched)
+            }
+        }
+    }
+}
+
+/// What the rows that a scan takes at so many row numbers from the first on give, laid out by row number.
+fn laid_part(
+    alloc: Global,
+    face: Face<'_>,
+    asking: &Asking<'_>,
+    fetched: &[(u64, Option<Row>)],
+    view: &View,
+    first: u64,
+    count: u64,
+) -> Result<Partial, NoMemory>
+    requires within { first + count < 2 ^ 64 }
+    requires fits { MayScan asking.now (unit_of face) fetched.now view.now.own }
+    ensures { IfOk result (λ part.
+        part ≡ group.partial asking.now (present (taken_row (unit_of face.entry) fetched.now view.now) first count)) }
+{
+    let held = rows_of(alloc, face)?;
+    let slots = gather(alloc, face, &held, fetched, view, first, count)?;
+    part_of_slots(alloc, asking, first, slots.as_slice())
 }
 
 /// What an extent gives to a query: the partial answer over exactly the rows of that extent that the view sees.
 ///
-/// It costs reading back the rows of the unit, two passes over the row numbers of the extent, one over what was fetched, and
-/// those of the row numbers that the view's own changes are to. The condition is asked once of each row; besides the unit's, only
-/// the rows that a query without groups keeps are copied.
+/// Without a unit, and where the view changed no row of the extent itself, it goes once over what was fetched. Else it costs
+/// reading back the rows of the unit, two passes over the row numbers of the extent, one over what was fetched, and those of the
+/// row numbers that the view's own changes are to. What the query asks is worked out once, the condition is asked once of each
+/// row, and besides the unit's, only the rows that a query without groups keeps are copied.
 pub fn part(
     alloc: Global,
     face: Face<'_>,
@@ -97,7 +156,9 @@ pub fn part(
     let rows = view.rows;
     let first = extent * view.per;
     let count = view.per.min(rows - first);
-    let held = rows_of(alloc, face)?;
-    let rows = taken_rows(alloc, face, &held, fetched, view, first, count)?;
-    Partial::of_lent(alloc, bound, rows.as_slice())
+    let asking = Asking::of(alloc, bound)?;
+    match fetched_part(alloc, face, &asking, fetched, view, first, count)? {
+        Some(part) => Ok(part),
+        None => laid_part(alloc, face, &asking, fetched, view, first, count),
+    }
 }

@@ -1,5 +1,6 @@
-ghost use Rattle.std.specs.Prelude.{◌≡◌, ◌+◌, ◌<◌, ◌^◌, length, None, IfOk};
-ghost use Rattle.std.specs.Option.{ForSome, option_copied};
+ghost use Rattle.std.specs.Prelude.{◌≡◌, ◌+◌, ◌<◌, ◌^◌, List, Option, false, length, IfOk};
+ghost use Rattle.im_history.specs.Rows.{Row as AnyRow};
+ghost use Rattle.std.specs.Option.{option_copied};
 ghost use Rattle.im_scan.specs.Faces.{unit_of};
 ghost use Rattle.im_unit.specs.Holding as holding;
 ghost use Rattle.im_scan.specs.Parts.{row_in_unit};
@@ -111,61 +112,16 @@ fn overlaid<'a>(
     Ok(slots)
 }
 
-/// The rows that were fetched, where these are of all row numbers from the first on, in order.
-fn in_place<'a>(
-    alloc: Global,
-    fetched: &'a [(u64, Option<Row>)],
-    first: u64,
-) -> Result<Option<Vec<Option<&'a Row>>>, NoMemory>
-    requires { first + length fetched.now < 2 ^ 64 }
-    ensures { IfOk result (λ slots. ForSome slots (λ slots.
-        lent slots.items ≡ with_fetched first (unit_rows None first (length fetched.now)) fetched.now)) }
-{
-    let mut slots = Vec::with_capacity(alloc, fetched.len())?;
-    for (i, (rid, row)) in fetched.iter().enumerate() {
-        if *rid != first + i as u64 {
-            return Ok(None);
-        }
-        slots.push(row.as_ref())?;
-    }
-    Ok(Some(slots))
-}
-
-/// The rows that were fetched of an extent without a unit. Where each row number was fetched, in order, nothing is laid below
-/// them.
-fn bare_rows<'a>(
-    alloc: Global,
-    fetched: &'a [(u64, Option<Row>)],
-    first: u64,
-    count: u64,
-) -> Result<Vec<Option<&'a Row>>, NoMemory>
+/// Whether the view's own changes are to any of so many row numbers from the first on.
+///
+/// It costs a search.
+pub fn has_own(view: &View, first: u64, count: u64) -> bool
     requires { first + count < 2 ^ 64 }
-    ensures { IfOk result (λ slots. lent slots.items ≡ with_fetched first (unit_rows None first count) fetched.now) }
+    ensures { result ≡ false → (slots : List (Option AnyRow)) → length slots ≡ count → with_changes view.now.table first slots view.now.own ≡ slots }
 {
-    if fetched.len() as u64 == count {
-        if let Some(slots) = in_place(alloc, fetched, first)? {
-            return Ok(slots);
-        }
-    }
-    overlaid(alloc, Face::Bare, &[], fetched, first, count)
-}
-
-/// The rows before the changes of the view's own: what was fetched, else what the face shows.
-fn committed_rows<'a>(
-    alloc: Global,
-    face: Face<'a>,
-    held: &'a [Option<Row>],
-    fetched: &'a [(u64, Option<Row>)],
-    first: u64,
-    count: u64,
-) -> Result<Vec<Option<&'a Row>>, NoMemory>
-    requires within { first + count < 2 ^ 64 }
-    requires held { AreRowsOf face held.now }
-    ensures { IfOk result (λ slots. lent slots.items ≡ with_fetched first (unit_rows (unit_of face.entry) first count) fetched.now) }
-{
-    match face {
-        Face::Whole(_) => overlaid(alloc, face, held, fetched, first, count),
-        Face::Bare => bare_rows(alloc, fetched, first, count),
+    match view.own.between(view.table, first, count).next() {
+        Some(_) => true,
+        None => false,
     }
 }
 
@@ -185,7 +141,7 @@ pub fn gather<'a>(
     requires held { AreRowsOf face held.now }
     ensures { IfOk result (λ slots. lent slots.items ≡ gathered (unit_of face.entry) fetched.now view.now first count) }
 {
-    let mut slots = committed_rows(alloc, face, held, fetched, first, count)?;
+    let mut slots = overlaid(alloc, face, held, fetched, first, count)?;
     put_own(slots.as_mut_slice(), first, view);
     Ok(slots)
 }

@@ -4,31 +4,19 @@ use Rattle.std.specs.Global.{Vec}
 use Rattle.std.specs.List.{AllByRecursion}
 use Rattle.std.specs.Option.{ForSome}
 use Rattle.std.specs.declared.cmp.Ordering.{Ordering}
-use denote.Ref.{Bor}
 use Rattle.im_values.specs.declared.value.Value.{Value}
 use Rattle.im_syntax.specs.declared.bound.Bound.{Bound}
 use Rattle.im_syntax.specs.declared.item.ItemOf.{ItemOf}
 use Rattle.im_group.specs.declared.asked.Asked.{Asked}
 use Rattle.im_group.specs.Tallies.{Tallied, wanted, asked_in, row_taken, HasRoom, CanJoin}
-use Rattle.im_group.specs.Partials.{Numbered, Groups, key_order, kept, keyed, held, with_tallies}
+use Rattle.im_group.specs.Partials.{Groups, key_order, keyed, held, with_tallies}
 use Rattle.im_group.specs.declared.cell.Cell.{Cell}
 use Rattle.im_group.specs.Answers.{group_cell}
 use Rattle.im_group.specs.inner.Steps.{tallies_at, placed, so_far}
 
--- the values of the rows that a query keeps, without their numbers
-abbrev pub kept_values : Bound → List Numbered → List (List Value)
-kept_values bound rows = map (λ r. r.1) (kept bound rows)
-
 -- what a query asks of the columns of each group
 abbrev pub asked_by : Bound → List Asked
 asked_by bound = asked_in (wanted bound)
-
--- a key that a row lends, and the groups under such keys
-abbrev pub lent_key : List (Bor Value) → List Value
-lent_key key = map (λ v. v.now) key
-
-abbrev pub lent : List (Vec (Bor Value) × Tallied) → List (List Value × Tallied)
-lent es = keyed (λ k. lent_key k.items) es
 
 -- the groups under keys of their own, in the order in which they are held, and as a map
 abbrev pub own : List (Vec Value × Tallied) → List (List Value × Tallied)

@@ -1,12 +1,13 @@
 -- One step of the loops over tallies and groups.
-use Rattle.std.specs.Prelude.{◌≡◌, ℕ, ◌+◌, nat_lt, List, [], ◌∷◌, ◌++◌, length, set, get_or, map, Option, None, Some, if◌then◌else◌}
+use Rattle.std.specs.Prelude.{◌≡◌, ℕ, ◌+◌, nat_lt, Bool, false, List, [], ◌∷◌, ◌++◌, length, set, get_or, map, slice_get, Option, None, Some, if◌then◌else◌}
 use Rattle.std.specs.FinMap as map_of
+use Rattle.std.specs.Option.{option_map_or}
 use Rattle.im_values.specs.declared.value.Value.{Value}
 use Rattle.im_group.specs.declared.asked.Asked.{Asked}
 use Rattle.im_syntax.specs.declared.bound.Bound.{Bound}
 use Rattle.im_group.specs.Sums.{SumsOf, joined}
 use Rattle.im_group.specs.Tallies.{Tallied, wanted, asked_in, tallied, row_taken}
-use Rattle.im_group.specs.Partials.{key_order, is_key, key_of, keeps, groups_of}
+use Rattle.im_group.specs.Partials.{Numbered, key_order, is_key, key_of, keeps, groups_of}
 
 -- a summary joined to that at a place, unless the place is past the end
 abbrev pub joined_at : List SumsOf → ℕ → SumsOf → List SumsOf
@@ -18,6 +19,10 @@ next_place count place = if nat_lt place count then place + 1 else place
 -- what groups have at a key
 abbrev pub tallies_at : List (List Value × Tallied) → List Value → Option Tallied
 tallies_at groups key = map_of.find key_order key groups
+
+-- the group at a place has this key
+abbrev pub stands_at : List (List Value × Tallied) → List Value → ℕ → Bool
+stands_at groups key place = option_map_or (λ g. is_key key g.0) (slice_get groups place) false
 
 -- groups, with new tallies at one key
 abbrev pub placed : List (List Value × Tallied) → List Value → Tallied → List (List Value × Tallied)
@@ -37,9 +42,9 @@ with_row bound groups row =
     (row_taken (asked_in (wanted bound)) (so_far (asked_in (wanted bound)) (tallies_at groups (key_of bound.groups row))) row)
     else groups
 
--- what a group has taken, once one row more has come
-abbrev pub with_kept : Bound → Tallied → List Value → Tallied
-with_kept bound ts row = if keeps bound.filter row then row_taken (asked_in (wanted bound)) ts row else ts
+-- the kept rows, once one row more has come
+abbrev pub with_kept : Bound → List Numbered → Numbered → List Numbered
+with_kept bound rows row = if keeps bound.filter row.1 then rows ++ row ∷ [] else rows
 
 -- the one group of a query without GROUP BY
 abbrev pub one_group : Tallied → List (List Value × Tallied)

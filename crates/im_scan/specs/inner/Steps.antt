@@ -1,14 +1,15 @@
 -- One step of the loops of a scan.
 use Rattle.std.specs.Prelude.{◌≡◌, ℕ, ◌+◌, ◌-◌, ◌==◌, nat_lt, List, [], ◌∷◌, ◌++◌, map, fold, slice_set, Option, Some, None, if◌then◌else◌}
-use Rattle.std.specs.List.{range_with_len}
-use Rattle.std.specs.Option.{option_copied}
+use Rattle.std.specs.List.{AllByRecursion, range_with_len}
+use Rattle.std.specs.Option.{ForSome, option_copied}
 use denote.Ref.{Bor}
 use Rattle.im_history.specs.declared.change.Change.{Change}
 use Rattle.im_history.specs.declared.view.View.{View}
 use Rattle.im_history.specs.Rows.{Row}
 use Rattle.im_history.specs.Units.{Content}
-use Rattle.im_group.specs.Partials.{Numbered}
-use Rattle.im_scan.specs.Parts.{row_in_unit}
+use Rattle.im_syntax.specs.declared.bound.Bound.{Bound}
+use Rattle.im_group.specs.Partials.{Numbered, Parts, partial}
+use Rattle.im_scan.specs.Parts.{MayAsk, row_in_unit}
 use Rattle.im_scan.specs.declared.faces.Face.{Face}
 use Rattle.im_scan.specs.declared.faces.Face.TheVariants.{Whole, Bare}
 
@@ -55,3 +56,13 @@ numbered rid (Some row) = (rid, row) ∷ []
 abbrev pub numbered_from : ℕ → List (Option Row) → List Numbered
 numbered_from first [] = []
 numbered_from first (slot ∷ slots) = numbered first slot ++ numbered_from (first + 1) slots
+
+-- the part of some rows goes on to the part of these and of those behind them
+pub record GoesOnBy (bound : Bound) (old : Parts) (more : List Numbered) (new : Parts) : Type 0 where
+  pub goes : (rows : List Numbered) → old ≡ partial bound rows → new ≡ partial bound (rows ++ more)
+
+-- a query may be asked of what the unit has, of what was fetched and of what the own changes put
+pub record MayScan (bound : Bound) (unit : Option Content) (fetched : List (ℕ × Option Row)) (own : List Change) : Type 0 where
+  pub unit_fits : ForSome unit (λ content. AllByRecursion (MayAsk bound) content.rows)
+  pub fetched_fits : AllByRecursion (λ f. MayAsk bound f.1) fetched
+  pub own_fits : AllByRecursion (λ change. MayAsk bound change.row) own

@@ -15,8 +15,8 @@ all_hold-test_holds-requires t c =
     let fits = subst (TestsFit row) (sym whole) c.requires in
     (omega arith, test_fits row terms c.loop-test.test-index c.test-item.result c.loop-test-test.true c.test-item.is fits)
 
-pub some_hold-all_hold-requires : goal.some_hold-all_hold-requires
-some_hold-all_hold-requires t c =
+pub holds-all_hold-requires : goal.holds-all_hold-requires
+holds-all_hold-requires t c =
     let row = c.args.row.now in
     let lists = c.lists-tests-items.result.now in
     let whole = c.lists-tests-items.ensures in

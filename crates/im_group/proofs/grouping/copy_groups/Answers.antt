@@ -16,7 +16,7 @@ put_new-requires c =
     let distinct = subst (λ es. IsDistinct (λ x y. pointwise same_value x.items y.items) (map (λ g. g.0) es)) whole c.len.ensures.unique in
     let none = not_before (λ x y. pointwise same_value x.items y.items) (λ k. k.items) (λ x y. keys_tie x.items y.items)
     (map (λ e. (e.0.now, e.1.now)) c.loop-key.yielded) (c.in-Some.key.now, c.in-Some.tallies.now) c.next.new.self distinct in
-    let key = c.in_ok-copy_key.ensures ∙ c.as_slice.ensures.value in
+    let key = c.in_ok-copied.ensures ∙ c.as_slice.ensures.value in
     (λ i. tallies_at ((c.loop-key.invariant ∙ sym (keyed-map (λ k. k.items) (λ e. (e.0.now, e.1.now)) c.loop-key.yielded)) i) (key i)) ∙ none
 
 pub returns : goal.returns

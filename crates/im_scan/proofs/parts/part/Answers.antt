@@ -1,51 +1,55 @@
-use Rattle.std.proofs.Common.{◌≡◌, ◌*◌, ◌∙◌, ap, sym, subst, arith}
-use Rattle.std.specs.List.{AllByRecursion}
+use Rattle.std.proofs.Common.{◌≡◌, ℕ, ◌*◌, ◌∙◌, List, Option, ap, sym, subst, arith}
+use Rattle.im_syntax.specs.declared.bound.Bound.{Bound}
+use Rattle.im_history.specs.declared.view.View.{View}
+use Rattle.im_history.specs.History.{History}
+use Rattle.im_history.specs.Serving.{rows_in}
+use Rattle.im_history.specs.Units.{Content}
+use Rattle.im_scan.specs.Pinned.{IsPinned, seen_in}
+use Rattle.im_scan.specs.inner.Steps.{MayScan}
 use Rattle.std.proofs.lemmas.Result.{IfOk-weaker}
-use Rattle.im_group.specs.Partials.{Numbered, lent_rows, partial}
-use Rattle.im_history.specs.Rows.{present}
+use Rattle.im_group.specs.Partials.{Parts, partial}
+use Rattle.im_history.specs.Rows.{Row, present}
 use Rattle.im_scan.specs.Faces.{unit_of}
 use Rattle.im_scan.specs.Parts.{taken_row, taken_rows}
-use Rattle.im_syntax.specs.BoundFits.{BoundFits}
-use Rattle.im_scan.proofs.FitLemmas.{MayScan}
-use Rattle.im_scan.proofs.PartLemmas.{begins, taken-may}
+use Rattle.im_scan.proofs.PartLemmas.{begins}
 use Rattle.im_scan.proofs.PinLemmas.{taken-rows_seen}
 use Rattle.im_scan.proofs.parts.part.Goals as goal
 
 pub overflow_mul-first : goal.overflow_mul-first
 overflow_mul-first c = let first = begins c.args.view.now c.args.extent c.requires.cut c.requires.within in omega (arith, first)
 
-pub taken_rows-requires-clause-within : goal.taken_rows-requires-clause-within
-taken_rows-requires-clause-within c =
+pub fetched_part-requires-clause-within : goal.fetched_part-requires-clause-within
+fetched_part-requires-clause-within c =
     let first = begins c.args.view.now c.args.extent c.requires.cut c.requires.within in
     omega (arith, first, c.min-count.ensures)
 
-pub of_lent-requires : goal.of_lent-requires
-of_lent-requires c =
+pub laid_part-requires-clause-fits : goal.laid_part-requires-clause-fits
+laid_part-requires-clause-fits c =
     let may : MayScan c.args.bound.now (unit_of c.args.face) c.args.fetched.now c.args.view.now.own = record
     { unit_fits = c.requires.unit_fits; fetched_fits = c.requires.fetched_fits; own_fits = c.requires.own_fits } in
-    record {
-      fits =
-          subst (AllByRecursion (λ (r : Numbered). BoundFits r.1 c.args.bound.now))
-          (sym (ap lent_rows c.as_slice.ensures.value ∙ c.in_ok-rows.ensures))
-          (taken-may c.args.bound.now (unit_of c.args.face) c.args.fetched.now c.args.view.now (c.args.extent * c.args.view.now.per)
-          c.min-count.result may);
-    }
+    subst (λ b. MayScan b (unit_of c.args.face) c.args.fetched.now c.args.view.now.own) (sym c.in_ok-asking.ensures) may
 
-pub returns : goal.returns
-returns c =
-    let rows : lent_rows c.as_slice.result.now ≡ taken_rows (unit_of c.args.face) c.args.fetched.now c.args.view.now c.args.extent =
-    ap lent_rows c.as_slice.ensures.value
-    ∙ (c.in_ok-rows.ensures
-    ∙ ap (present (taken_row (unit_of c.args.face) c.args.fetched.now c.args.view.now) (c.args.extent * c.args.view.now.per))
-    c.min-count.ensures) in
-    record {
-      taken = IfOk-weaker c.of_lent.result _ _ (λ answer is. is ∙ ap (partial c.args.bound.now) rows) c.of_lent.ensures;
-      seen = IfOk-weaker c.of_lent.result _ _
-          (λ answer is history unit shows pinned.
-          is
-          ∙ (ap (partial c.args.bound.now) rows
-          ∙ ap (partial c.args.bound.now)
-          (ap (λ shown. taken_rows shown c.args.fetched.now c.args.view.now c.args.extent) shows
-          ∙ taken-rows_seen history c.args.view.now c.args.extent unit c.args.fetched.now pinned)))
-          c.of_lent.ensures;
-    }
+-- the part of the rows that are taken is that of the rows that are seen
+seen : (asking bound : Bound) (view : View) (extent count : ℕ) (fetched : List (ℕ × Option Row)) (shown : Option Content) (answer : Parts)
+    → answer ≡ partial asking (present (taken_row shown fetched view) (extent * view.per) count) → asking ≡ bound → count ≡ rows_in view extent
+    → (history : History) (unit : Option Content) → shown ≡ unit → IsPinned history view extent unit fetched
+    → answer ≡ partial bound (seen_in history view extent)
+seen asking bound view extent count fetched shown answer is same long history unit shows pinned =
+    is
+    ∙ (ap (λ (b : Bound). partial b (present (taken_row shown fetched view) (extent * view.per) count)) same
+    ∙ (ap (λ (n : ℕ). partial bound (present (taken_row shown fetched view) (extent * view.per) n)) long
+    ∙ ap (partial bound)
+    (ap (λ (u : Option Content). taken_rows u fetched view extent) shows ∙ taken-rows_seen history view extent unit fetched pinned)))
+
+pub returns-in-Some-clause-seen : goal.returns-in-Some-clause-seen
+returns-in-Some-clause-seen c history unit shows pinned =
+    seen c.in_ok-asking.asking c.args.bound.now c.args.view.now c.args.extent c.min-count.result c.args.fetched.now (unit_of c.args.face) c.in-Some.part
+    (c.in_ok-part.ensures c.in-Some.part c.in-Some.is) c.in_ok-asking.ensures c.min-count.ensures history unit shows pinned
+
+pub returns-clause-seen : goal.returns-clause-seen
+returns-clause-seen c =
+    IfOk-weaker c.laid_part.result _ _
+    (λ answer is history unit shows pinned.
+    seen c.in_ok-asking.asking c.args.bound.now c.args.view.now c.args.extent c.min-count.result c.args.fetched.now (unit_of c.args.face) answer
+    is c.in_ok-asking.ensures c.min-count.ensures history unit shows pinned)
+    c.laid_part.ensures

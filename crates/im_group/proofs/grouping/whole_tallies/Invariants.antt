@@ -1,7 +1,0 @@
-use Rattle.std.proofs.Common.{map, take}
-use Rattle.im_group.specs.Partials.{kept, lent_rows}
-use Rattle.im_group.specs.inner.Steps.{GroupsAre, one_group}
-use Rattle.im_group.proofs.grouping.whole_tallies.Given as goal
-
-abbrev pub invariant-loop-row : goal.invariant-loop-row
-invariant-loop-row l = GroupsAre l.bound (map (λ r. r.1) (kept l.bound (lent_rows (take l.row-index l.rows)))) (one_group l.tallies)

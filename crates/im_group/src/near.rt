@@ -1,0 +1,57 @@
+ghost use Rattle.std.specs.Prelude.{◌≡◌, ◌<◌, true, length};
+ghost use Rattle.std.specs.List.{AllByRecursion};
+ghost use Rattle.std.specs.Option.{ForSome};
+ghost use Rattle.im_group.specs.inner.Holding.{own};
+ghost use Rattle.im_group.specs.inner.Steps.{stands_at};
+ghost use Rattle.im_group.specs.Partials as spec;
+
+use crate::grouping::Groups;
+use im_values::Value;
+
+/// Where there are so few groups, their keys are compared one by one before a key is looked up.
+const FEW: usize = 8;
+
+/// Whether a row has this key. Nothing is copied or hashed.
+fn has_key(columns: &[u32], row: &[Value], key: &[Value]) -> bool
+    requires { AllByRecursion (λ column. column < length row.now) columns.now }
+    ensures { result ≡ spec.is_key (spec.key_of columns.now row.now) key.now }
+{
+    if columns.len() != key.len() {
+        return false;
+    }
+    for (i, column) in columns.iter().enumerate() {
+        if row[*column as usize] != key[i] {
+            return false;
+        }
+    }
+    true
+}
+
+/// Whether the group at a place has the key of a row.
+fn is_at(columns: &[u32], row: &[Value], groups: &Groups, place: usize) -> bool
+    requires { AllByRecursion (λ column. column < length row.now) columns.now }
+    ensures { result ≡ stands_at (own groups.now.entries) (spec.key_of columns.now row.now) place }
+{
+    match groups.get_index(place) {
+        Some((key, _)) => has_key(columns, row, key.as_slice()),
+        None => false,
+    }
+}
+
+/// Where the group of the key of a row stands, if it is that of the last row or one of few. It takes no memory.
+pub fn near(columns: &[u32], row: &[Value], groups: &Groups, last: usize) -> Option<usize>
+    requires { AllByRecursion (λ column. column < length row.now) columns.now }
+    ensures { ForSome result (λ place. stands_at (own groups.now.entries) (spec.key_of columns.now row.now) place ≡ true) }
+{
+    if is_at(columns, row, groups, last) {
+        return Some(last);
+    }
+    if groups.len() <= FEW {
+        for place in 0..groups.len() {
+            if is_at(columns, row, groups, place) {
+                return Some(place);
+            }
+        }
+    }
+    None
+}
