@@ -1,7 +1,7 @@
 -- Bits of one word.
-use Rattle.std.proofs.Common.{◌≡◌, ℕ, zero, suc, ◌+◌, ◌-◌, ◌*◌, ◌/◌, ◌%◌, ◌^◌, ◌<◌, ◌≤◌, ◌==◌, ◌&&◌, ◌||◌, not, Bool, true, false, cond, min, max, List, [], ◌∷◌, ◌++◌, length, take, drop, map, get_or, nat_lt, nat_le, bit_and, bit_or, ⊎_elim, sym, refl, ap, ◌∙◌, arith, eq-eqb, pow_pos, lt_of_lt_of_le, zero-add, add-zero, mul_assoc, add_comm, pow-suc}
+use Rattle.std.proofs.Common.{◌≡◌, ℕ, ◌+◌, ◌-◌, ◌*◌, ◌/◌, ◌%◌, ◌^◌, ◌<◌, ◌≤◌, ◌==◌, ◌&&◌, ◌||◌, not, Bool, true, false, cond, min, max, List, [], ◌∷◌, ◌++◌, length, get_or, nat_lt, nat_le, bit_and, bit_or, ⊎_elim, sym, refl, ap, ◌∙◌, arith, eq-eqb, pow_pos, lt_of_lt_of_le, mul_assoc, add_comm, pow-suc}
 use Rattle.std.proofs.Math.Nat.{pow-le-pow_right}
-use Rattle.std.specs.Int.{bit_at, bit_not}
+use Rattle.std.specs.Int.{bit_at}
 use lib.Lanes.{mask_l}
 use mir.Syntax.{w64}
 use mir.Val.{bool_byte}
@@ -133,24 +133,24 @@ set-range low high i below most some inside =
     let bottom : 18446744073709551615 * 2 ^ low % 18446744073709551616 ≡ 2 ^ 64 - 2 ^ low = ones_shl 64 low (omega arith) in
     rw (top, bottom) (set-and (2 ^ high - 1) (2 ^ 64 - 2 ^ low) i
     ∙ ⊎_elim
-        (λ (under : i < low).
-        let none = set-of (2 ^ 64 - 2 ^ low) i false (bit_at_mask_below low 64 i under) in
-        let out = lt-leb low i under in
-        rw (none, out) (and-false (is_set (2 ^ high - 1) i)))
-        (λ (over : low ≤ i).
-        let one = set-of (2 ^ 64 - 2 ^ low) i true (bit_at_mask_inside low 64 i over inside) in
-        let out = le-leb low i over in
-        ⊎_elim
-            (λ (h : i < high).
-            let two = set-of (2 ^ high - 1) i true (bit_at_ones high i h) in
-            let in_end = lt-ltb i high h in
-            rw (one, two, out, in_end) refl)
-            (λ (h : high ≤ i).
-            let two = set-of (2 ^ high - 1) i false (bit_at_ones_above high i h) in
-            let in_end = le-ltb i high h in
-            rw (one, two, out, in_end) refl)
-            (cases_lt i high))
-        (cases_lt i low))
+    (λ (under : i < low).
+    let none = set-of (2 ^ 64 - 2 ^ low) i false (bit_at_mask_below low 64 i under) in
+    let out = lt-leb low i under in
+    rw (none, out) (and-false (is_set (2 ^ high - 1) i)))
+    (λ (over : low ≤ i).
+    let one = set-of (2 ^ 64 - 2 ^ low) i true (bit_at_mask_inside low 64 i over inside) in
+    let out = le-leb low i over in
+    ⊎_elim
+    (λ (h : i < high).
+    let two = set-of (2 ^ high - 1) i true (bit_at_ones high i h) in
+    let in_end = lt-ltb i high h in
+    rw (one, two, out, in_end) refl)
+    (λ (h : high ≤ i).
+    let two = set-of (2 ^ high - 1) i false (bit_at_ones_above high i h) in
+    let in_end = le-ltb i high h in
+    rw (one, two, out, in_end) refl)
+    (cases_lt i high))
+    (cases_lt i low))
 
 -- a range of positions, counted from the first of a word
 pub within-moved : (first from end i : ℕ) → i < 64 → first < end → is_within (from - first) (min (end - first) 64) i ≡ is_within from end (first + i)

@@ -1,8 +1,7 @@
 -- What those need who make words of their own, or go over chosen positions.
-use Rattle.std.proofs.Common.{◌≡◌, ℕ, ◌+◌, ◌*◌, ◌^◌, ◌<◌, ◌≤◌, Bool, true, false, cond, List, ◌∷◌, [], ◌++◌, length, take, get_or, map}
+use Rattle.std.proofs.Common.{◌≡◌, ◌||◌, ℕ, ◌+◌, ◌*◌, ◌^◌, ◌<◌, ◌≤◌, Bool, false, cond, List, ◌∷◌, [], ◌++◌, length, take, get_or}
 use Rattle.std.specs.Int.{div_ceil}
-use Rattle.im_lanes.specs.Masks.{is_set, bits_in, word_of, word_at, words_of, joined}
-use Rattle.im_lanes.proofs.BitLemmas as bit
+use Rattle.im_lanes.specs.Masks.{is_set, bits_in, word_of, word_at, words_of, joined, filled, is_within}
 use Rattle.im_lanes.proofs.MaskLemmas as mask
 
 -- a word below 2^64 with the bits of a mask at a place is the word of the mask there
@@ -54,3 +53,11 @@ length-joined = mask.length-joined
 pub get_or-joined : (f : Bool → Bool → Bool) → f false false ≡ false → (xs ys : List Bool) (i : ℕ) → length xs ≡ length ys →
     get_or (joined f xs ys) i false ≡ f (get_or xs i false) (get_or ys i false)
 get_or-joined = mask.get_or-joined
+
+-- a filled mask, by number and position by position
+pub length-filled : (from end : ℕ) (m : List Bool) → from ≤ end → end ≤ length m → length (filled from end m) ≡ length m
+length-filled = mask.length-filled
+
+pub get_or-filled : (from end k : ℕ) (m : List Bool) → from ≤ end → end ≤ length m →
+    get_or (filled from end m) k false ≡ (is_within from end k || get_or m k false)
+get_or-filled = mask.get_or-filled

@@ -1,12 +1,12 @@
 -- Words of bits, and the lists of truth values that they hold.
-use Rattle.std.proofs.Common.{All, min, count_by, filter, ◌≡◌, ℕ, zero, suc, ◌+◌, ◌-◌, ◌*◌, ◌/◌, ◌%◌, ◌^◌, ◌<◌, ◌≤◌, ◌==◌, ◌&&◌, ◌||◌, ◌⊎◌, not, bit_and, bit_or, set, replicate, nat_lt, nat_le, Bool, true, false, cond, List, [], ◌∷◌, ◌++◌, length, take, drop, map, get_or, ⊎_elim, sym, refl, ap, ◌∙◌, arith, add_comm, get_or-drop, get_or-take, length-take, length-take-le, length-drop, length-append, eq-eqb, div-add-mod', mul_comm, add-mul, add-one, pow_pos, lt_of_lt_of_le, lt_of_le_of_lt, subst}
+use Rattle.std.proofs.Common.{All, min, count_by, filter, ◌≡◌, ℕ, zero, suc, ◌+◌, ◌-◌, ◌*◌, ◌/◌, ◌%◌, ◌^◌, ◌<◌, ◌≤◌, ◌==◌, ◌&&◌, ◌||◌, not, bit_and, bit_or, set, replicate, nat_lt, nat_le, Bool, true, false, cond, List, [], ◌∷◌, ◌++◌, length, take, drop, map, get_or, ⊎_elim, sym, refl, ap, ◌∙◌, arith, get_or-drop, get_or-take, length-take, length-take-le, length-drop, length-append, eq-eqb, div-add-mod', pow_pos, lt_of_lt_of_le, lt_of_le_of_lt, subst}
 use Rattle.std.proofs.Math.Nat.{pow-le-pow_right}
-use Rattle.std.specs.Int.{div_ceil, bit_at}
+use Rattle.std.specs.Int.{div_ceil}
 use Rattle.std.proofs.lemmas.Grind.{div_ceil_times}
 use Rattle.std.proofs.lemmas.List.{take-take, drop-take, take-append-drop, map-id, get_or-replicate, length-replicate, length-map, get_or-map, get_or_append_left, get_or-append_right, same_lists, get_or_default, get_or_past, get_or_read, get_or-set_same, get_or-set_other, set_past, take_more, take_all}
-use Rattle.std.proofs.lemmas.List.FromFn.{length-map-range_with_len, get_or-map-range_with_len, take-map-range_with_len, map-range_with_len_more}
-use Rattle.std.proofs.lemmas.Bool.{cases_lt, cases_eq, lt-ltb, le-ltb, lt-leb, le-leb, cases_Bool, ne_eqb, eqb-true, eqb-false}
-use Rattle.std.proofs.lemmas.Nat.{mod_below, shr_split, div_below, le-div, div-mul-add, mod-mul-add, one_shl, pow_below}
+use Rattle.std.proofs.lemmas.List.FromFn.{length-map-range_with_len, get_or-map-range_with_len}
+use Rattle.std.proofs.lemmas.Bool.{cases_lt, cases_eq, lt-ltb, le-ltb, lt-leb, le-leb, ne_eqb}
+use Rattle.std.proofs.lemmas.Nat.{mod_below, shr_split, div_below, div-mul-add, mod-mul-add, one_shl, pow_below}
 use Rattle.std.proofs.lemmas.Nat.Bits.{same_from_bits_below, bit_at-zero}
 use lib.Lanes.{mask_l}
 use Rattle.std.proofs.lemmas.List.Sums.{length-filter, count_by-le-length}
@@ -380,13 +380,13 @@ get_or-filled from end k mask order within =
     (λ (h : from ≤ k).
     get_or-append_right (take from mask) (replicate (end - from) true ++ drop end mask) from k false front h
     ∙ ⊎_elim (λ (g : k < end).
-      get_or_append_left (replicate (end - from) true) (drop end mask) false (k - from) (omega (arith, length-replicate (end - from) true, g, h))
-      ∙ (get_or-replicate (end - from) (k - from) true false (omega (arith, g, h)) ∙ rw (le-leb from k h, lt-ltb k end g) refl))
-      (λ (g : end ≤ k).
-      get_or-append_right (replicate (end - from) true) (drop end mask) (end - from) (k - from) false (length-replicate (end - from) true) (omega (arith, g, h))
-      ∙ (get_or-drop end mask (k - from - (end - from)) false ∙ (ap (λ j. get_or mask j false) (let at : end + (k - from - (end - from)) ≡ k = omega (arith, g, h, order) in at)
-      ∙ rw (le-ltb k end g, and-false (nat_le from k)) refl)))
-      (cases_lt k end))
+    get_or_append_left (replicate (end - from) true) (drop end mask) false (k - from) (omega (arith, length-replicate (end - from) true, g, h))
+    ∙ (get_or-replicate (end - from) (k - from) true false (omega (arith, g, h)) ∙ rw (le-leb from k h, lt-ltb k end g) refl))
+    (λ (g : end ≤ k).
+    get_or-append_right (replicate (end - from) true) (drop end mask) (end - from) (k - from) false (length-replicate (end - from) true) (omega (arith, g, h))
+    ∙ (get_or-drop end mask (k - from - (end - from)) false ∙ (ap (λ j. get_or mask j false) (let at : end + (k - from - (end - from)) ≡ k = omega (arith, g, h, order) in at)
+    ∙ rw (le-ltb k end g, and-false (nat_le from k)) refl)))
+    (cases_lt k end))
     (cases_lt k from)
 
 -- a turned mask

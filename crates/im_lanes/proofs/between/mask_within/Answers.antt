@@ -1,4 +1,4 @@
-use Rattle.std.proofs.Common.{◌-◌, ◌<◌, arith, map, ap, replicate, false, sym, ◌∙◌}
+use Rattle.std.proofs.Common.{◌-◌, ◌<◌, arith, ap, replicate, false, ◌∙◌}
 use Rattle.im_lanes.specs.Masks.{is_between, is_within}
 use Rattle.im_lanes.proofs.MaskLemmas.{none-pass, map-same, within-none, within-between}
 use Rattle.im_lanes.proofs.between.mask_within.Goals as goal
@@ -14,4 +14,4 @@ returns c =
     let some : 0 < c.args.end = omega arith in
     c.in_ok-mask-2.ensures
     ∙ map-same (is_between c.args.low (c.args.end - 1)) (is_within c.args.low c.args.end) c.args.bits.now.codes
-        (λ x. within-between c.args.low c.args.end x some)
+    (λ x. within-between c.args.low c.args.end x some)

@@ -1,4 +1,4 @@
-use Rattle.std.proofs.Common.{◌≡◌, ◌<◌, ◌≤◌, ◌^◌, ◌*◌, map, length, ap, sym, ◌∙◌, arith}
+use Rattle.std.proofs.Common.{map, length, ap, sym, ◌∙◌, arith}
 use Rattle.std.specs.Int.{div_ceil}
 use Rattle.std.proofs.lemmas.List.{length-map}
 use Rattle.im_lanes.specs.Masks.{is_between}
@@ -21,7 +21,7 @@ loop-place-preserved c =
     let count = ap (λ n. div_ceil n 64) (c.len.ensures.len ∙ sym (length-map c.args.bits.now.codes (is_between c.args.low c.args.high))) in
     c.in_ok-push.ensures.items
     ∙ words-more mask c.loop-place.place c.loop-place.words.items c.word_between.result (omega (arith, c.loop-place-test.true, c.word_count-count.ensures, count))
-        c.loop-place.invariant c.word_between.ensures
+    c.loop-place.invariant c.word_between.ensures
 
 pub returns : goal.returns
 returns c =

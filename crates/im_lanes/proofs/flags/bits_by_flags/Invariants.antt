@@ -1,4 +1,4 @@
-use Rattle.std.proofs.Common.{◌≡◌, ◌^◌, ◌<◌, ℕ, false, get_or, take, map}
+use Rattle.std.proofs.Common.{◌≡◌, ℕ, false, get_or, take, map}
 use Rattle.im_lanes.specs.Masks.{word_of}
 use Rattle.im_lanes.proofs.flags.bits_by_flags.Given as goal
 

@@ -1,4 +1,4 @@
-use Rattle.std.proofs.Common.{◌≡◌, ◌-◌, ◌*◌, ℕ, Bool, false, get_or, min, length, ap, ◌∙◌}
+use Rattle.std.proofs.Common.{◌-◌, ◌*◌, ℕ, Bool, false, get_or, min, length, ap, ◌∙◌}
 use Rattle.im_lanes.proofs.MaskLemmas.{word-taken, taken-below}
 use Rattle.im_lanes.proofs.flags.word_by_flags.Goals as goal
 

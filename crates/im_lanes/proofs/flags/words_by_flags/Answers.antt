@@ -1,4 +1,4 @@
-use Rattle.std.proofs.Common.{◌≡◌, ℕ, get_or, false, ◌<◌, ◌≤◌, ◌^◌, ◌*◌, map, length, ap, sym, ◌∙◌, arith}
+use Rattle.std.proofs.Common.{ℕ, get_or, false, map, length, ap, sym, ◌∙◌, arith}
 use Rattle.std.specs.Int.{div_ceil}
 use Rattle.std.proofs.lemmas.List.{length-map}
 use Rattle.im_lanes.proofs.MaskLemmas.{words-more, words-all, place-begins}
@@ -20,7 +20,7 @@ loop-place-preserved c =
     let count = ap (λ n. div_ceil n 64) (c.len.ensures.len ∙ sym (length-map c.args.bits.now.codes (λ (code : ℕ). get_or c.args.flags.now code false))) in
     c.in_ok-push.ensures.items
     ∙ words-more mask c.loop-place.place c.loop-place.words.items c.word_by_flags.result (omega (arith, c.loop-place-test.true, c.word_count-count.ensures, count))
-        c.loop-place.invariant c.word_by_flags.ensures
+    c.loop-place.invariant c.word_by_flags.ensures
 
 pub returns : goal.returns
 returns c =

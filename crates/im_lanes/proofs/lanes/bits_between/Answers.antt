@@ -12,4 +12,4 @@ returns c =
     bitmask_splat w32 nat_le _ 64 (c.args.high - c.args.low) (length-zip2 _ c.args.codes _ long ∙ long) (omega arith)
     ∙ (ap (λ xs. mask_l (map (λ x. nat_le x (c.args.high - c.args.low)) xs)) taken
     ∙ lanes-between _ c.args.low c.args.high c.args.codes c.fits-codes.1
-        (λ code small. one-compare c.args.low c.args.high code c.requires c.ranges.high.fits small))
+    (λ code small. one-compare c.args.low c.args.high code c.requires c.ranges.high.fits small))

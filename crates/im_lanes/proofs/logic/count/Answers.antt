@@ -1,4 +1,4 @@
-use Rattle.std.proofs.Common.{◌≡◌, ◌+◌, ◌*◌, ◌≤◌, Bool, take, count_by, length, length-take, ap, sym, ◌∙◌, arith}
+use Rattle.std.proofs.Common.{◌+◌, ◌*◌, ◌≤◌, take, length, length-take, ◌∙◌, arith}
 use Rattle.im_lanes.proofs.MaskLemmas.{count-more, count-all, count-few}
 use Rattle.im_lanes.proofs.logic.count.Goals as goal
 

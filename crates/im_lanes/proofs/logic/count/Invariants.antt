@@ -1,4 +1,4 @@
-use Rattle.std.proofs.Common.{◌≡◌, ◌*◌, ◌≤◌, count_by, take}
+use Rattle.std.proofs.Common.{◌≡◌, ◌*◌, count_by, take}
 use Rattle.im_lanes.proofs.logic.count.Given as goal
 
 abbrev pub invariant-loop-place : goal.invariant-loop-place

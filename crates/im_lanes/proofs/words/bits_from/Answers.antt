@@ -1,4 +1,4 @@
-use Rattle.std.proofs.Common.{◌≡◌, ◌-◌, ◌<◌, ◌≤◌, min, ◌∙◌, arith}
+use Rattle.std.proofs.Common.{◌-◌, min, ◌∙◌, arith}
 use Rattle.im_lanes.proofs.BitLemmas.{set-range, within-moved}
 use Rattle.im_lanes.proofs.words.bits_from.Goals as goal
 

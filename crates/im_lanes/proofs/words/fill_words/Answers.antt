@@ -1,4 +1,4 @@
-use Rattle.std.proofs.Common.{◌≡◌, ℕ, ◌*◌, ◌<◌, ◌≤◌, ◌⊎◌, ◌/◌, length, refl, get_or, ⊎_elim, ap, sym, ◌∙◌, arith}
+use Rattle.std.proofs.Common.{◌*◌, ◌<◌, ◌≤◌, ◌/◌, length, refl, ⊎_elim, ◌∙◌, arith}
 use Rattle.std.proofs.lemmas.Grind.{div_ceil_times}
 use Rattle.std.proofs.lemmas.Bool.{cases_lt}
 use Rattle.im_lanes.proofs.BitLemmas.{or-below}
@@ -18,10 +18,10 @@ loop-place-preserved c =
     let inside : c.loop-place.place < length c.loop-place.words =
     omega (arith, few, c.requires.within, c.loop-place-test.true, c.div_ceil-place-end.ensures, c.loop-place.auto.words) in
     record {
-  small = small-set c.loop-place.words c.loop-place.place _ c.loop-place.invariant.small (or-below _ _ (c.loop-place.invariant.small c.loop-place.place) c.bits_from.type_inv);
-  done = λ k h. filled-step c.args.words.now c.loop-place.words c.args.from c.args.end c.loop-place.place c.bits_from.result inside c.loop-place.invariant.done c.loop-place.invariant.rest c.bits_from.ensures k h;
-  rest = λ k h. later-stand c.args.words.now c.loop-place.words c.loop-place.place _ k c.loop-place.invariant.rest h;
-}
+      small = small-set c.loop-place.words c.loop-place.place _ c.loop-place.invariant.small (or-below _ _ (c.loop-place.invariant.small c.loop-place.place) c.bits_from.type_inv);
+      done = λ k h. filled-step c.args.words.now c.loop-place.words c.args.from c.args.end c.loop-place.place c.bits_from.result inside c.loop-place.invariant.done c.loop-place.invariant.rest c.bits_from.ensures k h;
+      rest = λ k h. later-stand c.args.words.now c.loop-place.words c.loop-place.place _ k c.loop-place.invariant.rest h;
+    }
 
 pub returns : goal.returns
 returns c = record {

@@ -1,4 +1,4 @@
-use Rattle.std.proofs.Common.{◌≡◌, ℕ, ◌*◌, ◌^◌, ◌<◌, ◌≤◌, ◌||◌, length, slice_index}
+use Rattle.std.proofs.Common.{◌≡◌, ℕ, ◌*◌, ◌^◌, ◌<◌, ◌≤◌, ◌||◌, slice_index}
 use Rattle.im_lanes.specs.Masks.{bit_in, is_within}
 use Rattle.im_lanes.proofs.words.fill_words.Given as goal
 

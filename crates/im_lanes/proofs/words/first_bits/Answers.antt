@@ -1,4 +1,4 @@
-use Rattle.std.proofs.Common.{◌≡◌, ◌*◌, ◌%◌, ◌^◌, ◌<◌, sym, arith, mod-eq_of_lt, lt_of_lt_of_le}
+use Rattle.std.proofs.Common.{◌≡◌, ◌*◌, ◌%◌, ◌^◌, sym, arith, mod-eq_of_lt, lt_of_lt_of_le}
 use Rattle.std.proofs.Math.Nat.{pow-le-pow_right}
 use Rattle.std.proofs.lemmas.Nat.{and_mask, one_shl}
 use Rattle.im_lanes.proofs.words.first_bits.Goals as goal

@@ -1,4 +1,4 @@
-use Rattle.std.proofs.Common.{◌≡◌, ℕ, ◌-◌, ◌*◌, ◌%◌, ◌^◌, ◌+◌, ◌<◌, ◌≤◌, ◌≢◌, get_or, length, ap, sym, ◌∙◌, arith, set, get_or-set_other}
+use Rattle.std.proofs.Common.{◌-◌, ◌*◌, ◌%◌, ◌^◌, ◌<◌, ◌≢◌, length, ap, ◌∙◌, arith, get_or-set_other}
 use Rattle.im_lanes.proofs.MaskLemmas.{turned-step, later-stand, small-set}
 use Rattle.im_lanes.proofs.words.not_words.Goals as goal
 

@@ -1,4 +1,4 @@
-use Rattle.std.proofs.Common.{◌≡◌, ℕ, ◌<◌, ◌≤◌, length, slice_index, bit_or}
+use Rattle.std.proofs.Common.{◌≡◌, ℕ, ◌<◌, ◌≤◌, slice_index, bit_or}
 use Rattle.im_lanes.proofs.words.or_words.Given as goal
 
 abbrev pub invariant-loop-i : goal.invariant-loop-i

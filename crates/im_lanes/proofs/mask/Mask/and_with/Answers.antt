@@ -1,4 +1,4 @@
-use Rattle.std.proofs.Common.{◌≡◌, ◌&&◌, bit_and, List, ℕ, length, refl, ap, subst, sym, ◌∙◌, arith}
+use Rattle.std.proofs.Common.{◌≡◌, ◌&&◌, bit_and, List, ℕ, length, refl, ap, subst, sym, ◌∙◌}
 use Rattle.std.specs.Int.{div_ceil}
 use Rattle.std.proofs.lemmas.List.{with_items_is}
 use Rattle.im_lanes.specs.Masks.{bits_in, words_of}

@@ -1,4 +1,4 @@
-use Rattle.std.proofs.Common.{◌<◌, length, arith, sym, ap, ◌∙◌}
+use Rattle.std.proofs.Common.{length, arith, sym, ap, ◌∙◌}
 use Rattle.im_lanes.proofs.MaskLemmas.{length-bits_in, word-inside, bit-read}
 use Rattle.im_lanes.proofs.mask.Mask.get.Goals as goal
 

@@ -1,9 +1,7 @@
-use Rattle.std.proofs.Common.{◌≡◌, ◌==◌, ◌&&◌, ◌||◌, ◌*◌, ◌<◌, not, nat_lt, true, false, map, set, cond, List, ℕ, length, get_or, refl, ap, subst, sym, ◌∙◌, arith}
-use Rattle.std.specs.Int.{div_ceil}
-use Rattle.std.proofs.lemmas.Grind.{div_ceil_times}
-use Rattle.std.proofs.lemmas.List.{with_items_is, length-set, length-map}
-use Rattle.im_lanes.specs.Masks.{bit_in, bits_in, words_of, is_within, filled}
-use Rattle.im_lanes.proofs.MaskLemmas.{Holds, have-holds, small-whole, bit_in-whole, count-of, length-of, word-inside, get_or-put, chosen-is, dropped-is, length-filled, get_or-filled, get_or-turned}
+use Rattle.std.proofs.Common.{◌≡◌, ◌&&◌, not, nat_lt, false, map, List, ℕ, length, get_or, ap, subst, sym, ◌∙◌}
+use Rattle.std.proofs.lemmas.List.{with_items_is, length-map}
+use Rattle.im_lanes.specs.Masks.{bit_in, bits_in, words_of}
+use Rattle.im_lanes.proofs.MaskLemmas.{Holds, have-holds, small-whole, bit_in-whole, count-of, length-of, get_or-turned}
 use Rattle.im_lanes.proofs.mask.Mask.negate.Goals as goal
 
 pub not_words-requires-clause-count : goal.not_words-requires-clause-count
