@@ -1,2 +1,2 @@
 mod Chains
-mod Within
+mod WithinLemmas

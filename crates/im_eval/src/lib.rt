@@ -10,4 +10,4 @@
 
 mod truth;
 
-pub use truth::holds;
+pub use truth::{holds, within};

@@ -35,8 +35,8 @@ fn between(value: &Value, low: &Value, high: &Value) -> Truth
     compare(value, Cmp::Ge, low).and(compare(value, Cmp::Le, high))
 }
 
-/// IN without a walk through its values: a look-up, and whether NULL is one of them.
-fn within(value: &Value, choices: &Choices) -> Truth
+/// The truth of IN, without a walk through its values: a look-up, and whether NULL is one of them.
+pub fn within(value: &Value, choices: &Choices) -> Truth
     ensures { result ≡ spec.within_truth value.now choices.now }
 {
     if choices.is_empty() {

@@ -1,7 +1,7 @@
 use Rattle.std.proofs.Common.{refl, sym, ◌∙◌}
 use Rattle.im_syntax.specs.Choices.{has}
 use Rattle.im_values.specs.declared.value.Value.TheVariants.{Null}
-use Rattle.im_eval.proofs.Within.{within_looked, within_null}
+use Rattle.im_eval.proofs.WithinLemmas.{within_looked, within_null}
 use Rattle.im_eval.proofs.truth.within.Goals as goal
 
 pub returns-in-Null : goal.returns-in-Null

@@ -1,0 +1,83 @@
+ghost use Rattle.std.specs.Prelude.{◌≡◌};
+ghost use Rattle.im_eval.specs.Holds as holds;
+ghost use Rattle.im_codepred.specs.Asked as spec;
+
+use im_eval::within;
+use im_syntax::Choices;
+use im_values::{Cmp, Truth, Value, compare};
+
+/// Which truth is looked for: that a test holds, or that it fails. Of a test that is Unknown it is neither.
+#[derive(Clone, Copy)]
+pub enum Wanted {
+    Held,
+    Failed,
+}
+
+/// What a test asks of each value of its column.
+pub enum Asked<'a> {
+    Compare(Cmp, &'a Value),
+    IsNull,
+    Between(&'a Value, &'a Value),
+    Within(&'a Choices),
+}
+
+impl Wanted {
+    /// What is wanted behind a NOT.
+    pub fn swapped(self) -> Wanted
+        ensures { result ≡ spec.swapped self }
+    {
+        match self {
+            Wanted::Held => Wanted::Failed,
+            Wanted::Failed => Wanted::Held,
+        }
+    }
+
+    /// The same where no NOT is written.
+    pub fn turned(self, negated: bool) -> Wanted
+        ensures { result ≡ spec.turned negated self }
+    {
+        if negated { self.swapped() } else { self }
+    }
+
+    /// Whether a truth is the one that is wanted.
+    pub fn met(self, truth: Truth) -> bool
+        ensures { result ≡ spec.met self truth }
+    {
+        match self {
+            Wanted::Held => matches!(truth, Truth::Yes),
+            Wanted::Failed => matches!(truth, Truth::No),
+        }
+    }
+}
+
+/// Whether a value has the truth that is wanted.
+pub fn asks(wanted: Wanted, asked: &Asked, value: &Value) -> bool
+    ensures { result ≡ spec.is_met wanted asked.now value.now }
+{
+    wanted.met(truth(asked, value))
+}
+
+/// The truth of what is asked, of a value.
+fn truth(asked: &Asked, value: &Value) -> Truth
+    ensures { result ≡ spec.truth_of asked.now value.now }
+{
+    match asked {
+        Asked::Compare(cmp, other) => compare(value, *cmp, other),
+        Asked::IsNull => null_truth(value),
+        Asked::Between(low, high) => compare(value, Cmp::Ge, low).and(compare(
+            value,
+            Cmp::Le,
+            high,
+        )),
+        Asked::Within(choices) => within(value, choices),
+    }
+}
+
+fn null_truth(value: &Value) -> Truth
+    ensures { result ≡ holds.null_truth value.now }
+{
+    match value {
+        Value::Null => Truth::Yes,
+        _ => Truth::No,
+    }
+}
