@@ -9,6 +9,8 @@
 #[cfg(test)]
 mod generated;
 #[cfg(test)]
+mod inserts;
+#[cfg(test)]
 mod readers;
 #[cfg(test)]
 mod syntax;
