@@ -14,6 +14,7 @@ pub enum Wanted {
 }
 
 /// What a test asks of each value of its column.
+#[derive(Clone, Copy)]
 pub enum Asked<'a> {
     Compare(Cmp, &'a Value),
     IsNull,
