@@ -127,6 +127,37 @@ fn play_lines<R: Wait, H: Reach<ColumnUnit>, G: Gate, K: Sink, L: Ledger>(
     Ok(writer.flush()?)
 }
 
+/// Plays a script over a store in which nothing has happened, with sessions and a background of its own, and writes the text of
+/// its replies that are shown.
+fn play_over<R: Wait, H: Reach<ColumnUnit>, G: Gate, K: Sink, L: Ledger>(
+    outside: &Outside<R, G>,
+    reach: &mut H,
+    shown: Shown,
+    script: &[u8],
+    sink: &mut K,
+    steps: &mut Steps<L>,
+) -> Result<(), Stop>
+    requires empty { H.known reach.old ≡ nothing_in (H.known reach.old).limits.area }
+    ensures ok { OnOk result (Writes (IsScriptPlayed shown (H.known reach.old).limits.area script.now steps.old steps.new)
+        (K.taken sink.old) (K.taken sink.new)) }
+    ensures err { OnErr result (WritesPart (IsScriptPlayed shown (H.known reach.old).limits.area script.now steps.old steps.new)
+        (K.taken sink.old) (K.taken sink.new)) }
+    ensures cause { IsErrOf result Stop.WriteFault → Rose (K.faults sink.old) (K.faults sink.new) }
+    ensures later { K.faults sink.old ≤ K.faults sink.new }
+{
+    let mut waiting = Waiting::with_room(outside.alloc, PIECE)?;
+    let mut players = Players::new(outside.alloc)?;
+    let mut writer = Writer {
+        alloc: outside.alloc,
+        sink,
+        waiting: &mut waiting,
+        shown,
+    };
+    let played = play_lines(outside, reach, &mut players, script, &mut writer, steps);
+    drop(players);
+    played
+}
+
 /// Plays a script, over a store, sessions and a background of its own, and writes the text of its replies that are shown. The column units of
 /// the store may take `area` bytes together.
 pub fn play_script<R: Wait, G: Gate, K: Sink, L: Ledger>(
@@ -143,23 +174,7 @@ pub fn play_script<R: Wait, G: Gate, K: Sink, L: Ledger>(
     ensures later { K.faults sink.old ≤ K.faults sink.new }
 {
     let mut store = empty_store(outside.alloc, area)?;
-    let mut players = Players::new(outside.alloc)?;
-    let mut waiting = Waiting::with_room(outside.alloc, PIECE)?;
-    let mut writer = Writer {
-        alloc: outside.alloc,
-        sink,
-        waiting: &mut waiting,
-        shown,
-    };
-    let played = play_lines(
-        outside,
-        &mut store,
-        &mut players,
-        script,
-        &mut writer,
-        steps,
-    );
-    drop(players);
+    let played = play_over(outside, &mut store, shown, script, sink, steps);
     drop(store);
     played
 }

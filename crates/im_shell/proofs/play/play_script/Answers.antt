@@ -5,9 +5,3 @@ use Rattle.im_shell.proofs.play.play_script.Goals as goal
 
 pub returns-in_err-store-clause-err : goal.returns-in_err-store-clause-err
 returns-in_err-store-clause-err g c = OnErr-always _ (WritesPart-nil _ _ _ _ _ _ _ refl refl)
-
-pub returns-in_err-players-clause-err : goal.returns-in_err-players-clause-err
-returns-in_err-players-clause-err g c = OnErr-always _ (WritesPart-nil _ _ _ _ _ _ _ refl refl)
-
-pub returns-in_err-waiting-clause-err : goal.returns-in_err-waiting-clause-err
-returns-in_err-waiting-clause-err g c = OnErr-always _ (WritesPart-nil _ _ _ _ _ _ _ refl refl)
