@@ -1,18 +1,16 @@
 -- A query may be asked of each row that a scan takes.
-use Rattle.std.proofs.Common.{◌≡◌, ℕ, zero, suc, ◌+◌, ◌-◌, ◌<◌, ◌==◌, ◌&&◌, Bool, true, false, if◌then◌else◌, List, [], ◌∷◌, ◌++◌, length, get_or, map, Option, Some, None, refl, sym, subst, arith}
+use Rattle.std.proofs.Common.{◌≡◌, ℕ, zero, suc, ◌+◌, ◌-◌, ◌<◌, ◌==◌, ◌&&◌, Bool, true, false, if◌then◌else◌, List, [], ◌∷◌, length, get_or, map, Option, Some, None, refl, sym, subst, arith}
 use Rattle.std.specs.Prelude.{nat_lt}
 use Rattle.std.specs.List.{AllByRecursion, fold}
 use Rattle.std.specs.Option.{ForSome, option_copied}
 use denote.Ref.{Bor}
 use Rattle.im_syntax.specs.declared.bound.Bound.{Bound}
-use Rattle.im_syntax.specs.BoundFits.{BoundFits}
 use Rattle.im_history.specs.declared.change.Change.{Change}
 use Rattle.im_history.specs.declared.view.View.{View}
 use Rattle.im_history.specs.Rows.{Row, row_after}
 use Rattle.im_history.specs.Units.{Content}
-use Rattle.im_group.specs.Partials.{Numbered}
 use Rattle.im_scan.specs.Parts.{MayAsk, row_in_unit, fetched_after, taken_row}
-use Rattle.im_scan.specs.inner.Steps.{MayScan, numbered, numbered_from}
+use Rattle.im_scan.specs.inner.Steps.{MayScan}
 use Rattle.im_scan.proofs.SlotLemmas.{AreTaken}
 
 no_row : (bound : Bound) → MayAsk bound None

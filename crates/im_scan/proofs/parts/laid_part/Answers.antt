@@ -1,8 +1,7 @@
 use Rattle.std.proofs.Common.{◌∙◌, ap}
 use Rattle.std.proofs.lemmas.Result.{IfOk-weaker}
-use Rattle.im_group.specs.Partials.{partial}
 use Rattle.im_scan.specs.Faces.{unit_of}
-use Rattle.im_scan.specs.inner.Steps.{lent, numbered_from}
+use Rattle.im_scan.specs.inner.Steps.{lent}
 use Rattle.im_scan.proofs.PartLemmas.{AreGathered, slots-within, slots-may, slots-part}
 use Rattle.im_scan.proofs.parts.laid_part.Goals as goal
 

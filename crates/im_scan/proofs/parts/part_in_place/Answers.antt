@@ -1,7 +1,7 @@
-use Rattle.std.proofs.Common.{◌≡◌, Option, Some, List, ℕ, take, length, sym, ap, subst, ◌∙◌, arith}
+use Rattle.std.proofs.Common.{◌≡◌, Option, Some, List, ℕ, take, sym, ap, subst, ◌∙◌, arith}
 use Rattle.std.proofs.lemmas.List.{length-map, length-take-le, take_all}
 use Rattle.im_history.specs.Rows.{Row}
-use Rattle.im_group.specs.Partials.{Parts, partial}
+use Rattle.im_group.specs.Partials.{partial}
 use Rattle.im_scan.specs.Parts.{MayAsk}
 use Rattle.im_scan.specs.inner.Steps.{numbered_from}
 use Rattle.im_scan.proofs.InPlace.{IsInPlace, in-place, in-place-more, rows_of}

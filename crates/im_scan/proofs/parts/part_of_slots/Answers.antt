@@ -1,6 +1,6 @@
-use Rattle.std.proofs.Common.{◌≡◌, take, length, refl, ap, ◌∙◌, arith}
+use Rattle.std.proofs.Common.{take, refl, ap, ◌∙◌, arith}
 use Rattle.std.specs.Option.{option_copied}
-use Rattle.std.proofs.lemmas.List.{length-map, length-take-le, take_all}
+use Rattle.std.proofs.lemmas.List.{length-map, length-take-le}
 use Rattle.im_group.specs.Partials.{partial}
 use Rattle.im_scan.specs.inner.Steps.{lent, numbered_from}
 use Rattle.im_scan.proofs.SlotLemmas.{numbered-more}

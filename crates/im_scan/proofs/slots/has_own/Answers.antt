@@ -1,4 +1,4 @@
-use Rattle.std.proofs.Common.{subst, sym}
+use Rattle.std.proofs.Common.{subst}
 use Rattle.im_history.specs.Last.{AreLast}
 use Rattle.im_scan.proofs.SlotLemmas.{own-none}
 use Rattle.im_scan.proofs.slots.has_own.Goals as goal
