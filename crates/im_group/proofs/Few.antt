@@ -7,7 +7,7 @@ use Rattle.im_values.specs.Order.{is_null}
 use Rattle.im_syntax.specs.BoundFits.{value_at}
 use Rattle.im_group.specs.declared.asked.Asked.{Asked}
 use Rattle.im_group.specs.Sums.{column_of, present, sums_of}
-use Rattle.im_group.specs.Tallies.{Tallied, tallied, HasRoom, CanJoin, CanJoinEach}
+use Rattle.im_group.specs.Tallies.{tallied, HasRoom, CanJoin, CanJoinEach}
 
 pub shorter : {A : Type 0} (p : A → Bool) (xs : List A) → length (filter p xs) ≤ length xs
 shorter p [] = omega arith

@@ -16,7 +16,7 @@ use Rattle.im_values.specs.Order.{order, is_null}
 use Rattle.im_syntax.specs.BoundFits.{value_at}
 use Rattle.im_group.specs.declared.asked.Asked.{Asked}
 use Rattle.im_group.specs.Sums.{number, column_of, present, total, lesser, greater, sums_of, no_sums, taken, joined}
-use Rattle.im_group.specs.Tallies.{Tallied, tallied, row_taken, all_joined}
+use Rattle.im_group.specs.Tallies.{tallied, row_taken, all_joined}
 use Rattle.im_values.proofs.ForCallers.{order_total}
 
 -- ---- one row more

@@ -1,10 +1,10 @@
 -- What a part becomes by one row more.
-use Rattle.std.proofs.Common.{◌≡◌, ◌+◌, ◌<◌, ◌^◌, Bool, true, false, cond, List, [], ◌∷◌, ◌++◌, length, map, sym, ap, ◌∙◌, subst, arith}
+use Rattle.std.proofs.Common.{◌≡◌, Bool, true, false, cond, List, [], ◌∷◌, ◌++◌, map, sym, ap, ◌∙◌, subst, arith}
 use Rattle.std.specs.FinMap as map_of
 use Rattle.im_values.specs.declared.value.Value.{Value}
 use Rattle.im_syntax.specs.declared.bound.Bound.{Bound}
 use Rattle.im_group.specs.Tallies.{Tallied, wanted, asked_in, HasRoom}
-use Rattle.im_group.specs.Partials.{Numbered, Groups, Parts, key_of, keeps, kept, keyed, held, groups_of, partial, IsPartOfFew}
+use Rattle.im_group.specs.Partials.{Numbered, Groups, Parts, key_of, kept, keyed, held, groups_of, partial, IsPartOfFew}
 use Rattle.im_group.specs.inner.Steps.{tallies_at, so_far, first_groups, with_kept, with_row, GroupsAre}
 use Rattle.im_group.proofs.Orders.{key_total}
 use Rattle.im_group.proofs.GroupSteps.{few_so_far, with_row-push, first-are, values-push, kept-push, few_kept, held_are}

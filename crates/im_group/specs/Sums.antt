@@ -1,5 +1,5 @@
 -- What is kept of the values of one column, and how an aggregate is read off it.
-use Rattle.std.specs.Prelude.{◌≡◌, ℕ, ◌+◌, ◌*◌, ◌^◌, ◌==◌, Bool, true, false, not, List, length, map, filter, fold, ℤ, pos, neg_ℤ, ◌≤ℤ◌, ◌+ℤ◌, if◌then◌else◌}
+use Rattle.std.specs.Prelude.{ℕ, ◌+◌, ◌*◌, ◌^◌, ◌==◌, Bool, true, false, not, List, length, map, filter, fold, ℤ, pos, neg_ℤ, ◌≤ℤ◌, ◌+ℤ◌, if◌then◌else◌}
 use Rattle.std.specs.Ordering.{is_lt}
 use Rattle.im_values.specs.declared.value.Value.{Value}
 use Rattle.im_values.specs.declared.value.Value.TheVariants.{Int, Text, Null}

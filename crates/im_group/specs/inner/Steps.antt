@@ -1,5 +1,5 @@
 -- One step of the loops over tallies and groups.
-use Rattle.std.specs.Prelude.{◌≡◌, ℕ, ◌+◌, nat_lt, Bool, false, List, [], ◌∷◌, ◌++◌, length, set, get_or, map, slice_get, Option, None, Some, if◌then◌else◌}
+use Rattle.std.specs.Prelude.{◌≡◌, ℕ, ◌+◌, nat_lt, Bool, false, List, [], ◌∷◌, ◌++◌, length, set, get_or, slice_get, Option, None, Some, if◌then◌else◌}
 use Rattle.std.specs.FinMap as map_of
 use Rattle.std.specs.Option.{option_map_or}
 use Rattle.im_values.specs.declared.value.Value.{Value}

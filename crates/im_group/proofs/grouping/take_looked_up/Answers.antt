@@ -1,7 +1,7 @@
-use Rattle.std.proofs.Common.{None, sym, ap, ◌∙◌}
+use Rattle.std.proofs.Common.{sym, ap, ◌∙◌}
 use Rattle.std.proofs.lemmas.Result.{on_ok_weaker}
 use Rattle.im_group.specs.Tallies.{row_taken}
-use Rattle.im_group.specs.Partials.{key_of, keyed}
+use Rattle.im_group.specs.Partials.{keyed}
 use Rattle.im_group.specs.inner.Steps.{placed, so_far, tallies_at, stands_at}
 use Rattle.indexmap.proofs.MapLemmas.{Found-position}
 use Rattle.im_group.proofs.Agreement.{keys_tie}

@@ -1,4 +1,4 @@
-use Rattle.std.proofs.Common.{List, Bool, sym, ap, subst, ◌∙◌}
+use Rattle.std.proofs.Common.{Bool, sym, ap, subst, ◌∙◌}
 use Rattle.std.specs.Global.{Vec}
 use Rattle.std.proofs.lemmas.Result.{on_ok_weaker}
 use Rattle.std.specs.Cmp.Lexicographic.{pointwise}

@@ -1,4 +1,4 @@
-use Rattle.std.proofs.Common.{Bool, List, Vec, Global, is_lt, rules, of_calls}
+use Rattle.std.proofs.Common.{Bool, Vec, Global, is_lt, rules, of_calls}
 use Rattle.std.proofs.lemmas.Fn.{always_returns_same}
 use Rattle.std.proofs.lemmas.List.Sorted.{ranks_by}
 use Rattle.im_values.specs.declared.value.Value.{Value}

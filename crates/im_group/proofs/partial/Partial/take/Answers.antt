@@ -1,7 +1,6 @@
 use Rattle.std.proofs.Common.{sym, ap, ◌∙◌}
 use Rattle.std.specs.FinMap as map_of
 use Rattle.std.proofs.lemmas.Result.{on_ok_weaker}
-use Rattle.im_values.specs.declared.value.Value.{Value}
 use Rattle.im_group.specs.Partials.{Numbered, Groups, Parts, keyed, held}
 use Rattle.im_group.specs.inner.Steps.{with_row}
 use Rattle.im_group.proofs.TakingLaws.{can_take, takes-group}
