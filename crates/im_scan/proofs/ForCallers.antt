@@ -19,6 +19,9 @@ use Rattle.im_history.proofs.RowLaws.{rows-append}
 use Rattle.im_history.specs.Serving.{not_newer, serving, serving_content, rows_in, fetched_by, fetched_in, shown_all}
 use Rattle.im_group.specs.Partials.{Numbered, Parts, partial, merged, CanMerge}
 use Rattle.im_group.proofs.ForCallers.{merged-partial, CanMerge-partial}
+use Rattle.im_scan.specs.declared.faces.Face.{Face}
+use Rattle.im_scan.specs.declared.faces.Face.TheVariants.{Whole, Edges, Bare}
+use Rattle.im_scan.specs.Faces.{Shows, unit_of}
 use Rattle.im_scan.specs.Parts.{MayAsk}
 use Rattle.im_scan.specs.Pinned.{Serves, IsPinned, seen_in, seen_to, seen_all}
 use Rattle.im_scan.proofs.PinLemmas.{pinned-read, present-same}
@@ -89,6 +92,17 @@ fetched-may bound h view extent (Some content) fetched pinned may =
     rw (pinned-read h view extent (Some content) fetched pinned)
     (each-fetched bound (rows h view.table view.scn) (stale h view.table extent content.scn view.scn)
     (may.each view.scn))
+
+-- what holds of a unit holds of the one whose rows a face shows
+pub shown-may : (face : Face) (unit : Option Content) (bound : Bound) (P : Content → Type 0) → Shows face unit bound → ForSome unit P →
+    ForSome (unit_of face) P
+shown-may (Whole whole) (Some content) bound P shows holds shown is =
+    let here : whole.now ≡ shown = cc in
+    let same : shown ≡ content = sym here ∙ shows.0 in
+    rw same (holds content refl)
+shown-may (Whole whole) None bound P shows holds shown is = absurd shows
+shown-may (Edges edges) unit bound P shows holds shown is = absurd cc
+shown-may Bare unit bound P shows holds shown is = absurd cc
 
 -- ---- later histories
 

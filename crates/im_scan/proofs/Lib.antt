@@ -3,5 +3,6 @@ mod InPlace
 mod FitLemmas
 mod PartLemmas
 mod PinLemmas
+mod PrunedLemmas
 pub mod ForCallers
 pub mod MergeLemmas

@@ -1,23 +1,33 @@
 -- What a scan reads of an extent's column unit, and how it was served the extent.
-use Rattle.std.specs.Prelude.{◌≡◌, ℕ, List, length, Option, Some, None}
+use Rattle.std.specs.Prelude.{◌≡◌, ℕ, true, false, List, length, Option, Some, None}
+use Rattle.im_values.specs.declared.value.Value.{Value}
+use Rattle.im_syntax.specs.Condition.{CondOf}
 use Rattle.im_syntax.specs.declared.bound.Bound.{Bound}
 use Rattle.im_history.specs.Rows.{Row}
 use Rattle.im_history.specs.Units.{Content}
+use Rattle.im_replies.specs.Mixes.{by_unit, edges_of, is_pruned}
 use Rattle.im_scan.specs.declared.faces.Face.{Face}
-use Rattle.im_scan.specs.declared.faces.Face.TheVariants.{Whole, Bare}
+use Rattle.im_scan.specs.declared.faces.Face.TheVariants.{Whole, Edges, Bare}
 use Rattle.im_replies.specs.declared.served.How.{How}
-use Rattle.im_replies.specs.declared.served.How.TheVariants.{Unit as ByUnit, Blocks}
+use Rattle.im_replies.specs.declared.served.How.TheVariants.{Blocks}
 
--- the unit that a face shows
+-- the unit whose rows a face shows
 abbrev pub unit_of : Face → Option Content
 unit_of (Whole unit) = Some unit.now
+unit_of (Edges edges) = None
 unit_of Bare = None
 
--- a face shows what a scan for a query is to read of this unit, if there is one: all of it, whatever the query asks
+-- a face shows what a scan for a query is to read of this unit, if there is one: all of it, or, where the unit is pruned, the bounds of
+-- its columns alone
 abbrev pub Shows : Face → Option Content → Bound → Type 0
-Shows face unit bound = unit_of face ≡ unit
+Shows (Whole whole) (Some content) bound = (whole.now ≡ content) × (is_pruned content bound.filter ≡ false)
+Shows (Whole whole) None bound = ⊥
+Shows (Edges edges) (Some content) bound = (edges.now ≡ edges_of content) × (is_pruned content bound.filter ≡ true)
+Shows (Edges edges) None bound = ⊥
+Shows Bare (Some content) bound = ⊥
+Shows Bare None bound = Unit {0}
 
--- how a scan is served: by the unit at its SCN, and by the blocks for so many rows, or by the blocks alone
-abbrev pub how_of : Option Content → List (ℕ × Option Row) → How
-how_of None fetched = Blocks
-how_of (Some content) fetched = ByUnit content.scn (length fetched)
+-- how a scan is served: by the unit at its SCN, pruned or not, and by the blocks for so many rows, or by the blocks alone
+abbrev pub how_of : Option Content → List (ℕ × Option Row) → Option (CondOf ℕ Value) → How
+how_of None fetched filter = Blocks
+how_of (Some content) fetched filter = by_unit (is_pruned content filter) content.scn (length fetched)

@@ -94,7 +94,7 @@ fn fetched_part(
         part ≡ group.partial asking.now (present (taken_row (unit_of face.entry) fetched.now view.now) first count))) }
 {
     match face {
-        Face::Whole(_) => Ok(None),
+        Face::Whole(_) | Face::Edges(_) => Ok(None),
         Face::Bare => {
             if fetched.len() as u64 != count {
                 return Ok(None);
@@ -131,9 +131,9 @@ fn laid_part(
 /// What an extent gives to a query: the partial answer over exactly the rows of that extent that the view sees.
 ///
 /// Without a unit, and where the view changed no row of the extent itself, it goes once over what was fetched. Else it costs
-/// reading back the rows of the unit, two passes over the row numbers of the extent, one over what was fetched, and those of the
-/// row numbers that the view's own changes are to. What the query asks is worked out once, the condition is asked once of each
-/// row, and besides the unit's, only the rows that a query without groups keeps are copied.
+/// reading back the rows of the unit, unless that is pruned, two passes over the row numbers of the extent, one over what was
+/// fetched, and those of the row numbers that the view's own changes are to. What the query asks is worked out once, the condition
+/// is asked once of each row, and besides the unit's, only the rows that a query without groups keeps are copied.
 pub fn part(
     alloc: Global,
     face: Face<'_>,

@@ -12,13 +12,13 @@ use im_unit::ColumnUnit;
 use im_values::{NoMemory, Row};
 use std::alloc::Global;
 
-/// The rows that a unit holds, read back from its columns. Without a unit there is none.
+/// The rows that a unit holds, read back from its columns. Without a unit there is none, and of a pruned one none is read.
 pub fn rows_of(alloc: Global, face: Face<'_>) -> Result<Vec<Option<Row>>, NoMemory>
     ensures { IfOk result (λ rows. AreRowsOf face.entry rows.items) }
 {
     match face {
         Face::Whole(unit) => unit.rows(alloc),
-        Face::Bare => Ok(Vec::new(alloc)),
+        Face::Edges(_) | Face::Bare => Ok(Vec::new(alloc)),
     }
 }
 
@@ -40,7 +40,7 @@ fn shown<'a>(face: Face<'a>, held: &'a [Option<Row>], rid: u64) -> Option<&'a Ro
 {
     match face {
         Face::Whole(unit) => row_of(unit, held, rid),
-        Face::Bare => None,
+        Face::Edges(_) | Face::Bare => None,
     }
 }
 

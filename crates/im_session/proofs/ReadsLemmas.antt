@@ -1,10 +1,12 @@
 -- The rows that scans read from the blocks, counted.
-use Rattle.std.proofs.Common.{◌≡◌, ℕ, suc, ◌+◌, ◌*◌, ◌≤◌, true, List, [], ◌∷◌, ◌++◌, length, Option, Some, None, refl, sym, ap, ◌∙◌, arith, append-nil, append_assoc, length-append}
+use Rattle.std.proofs.Common.{◌≡◌, ℕ, suc, ◌+◌, ◌*◌, ◌≤◌, Bool, true, false, List, [], ◌∷◌, ◌++◌, length, Option, Some, None, refl, sym, ap, ◌∙◌, arith, append-nil, append_assoc, length-append}
 use Rattle.std.specs.List.{AllByRecursion, range_with_len}
 use Rattle.std.specs.Option.{option_map}
 use Rattle.std.proofs.lemmas.List.{length-map}
 use Rattle.std.proofs.lemmas.List.FromFn.{length-range_with_len}
 use Rattle.std.proofs.lemmas.List.Sums.{sum-map, sum_by_push}
+use Rattle.im_values.specs.declared.value.Value.{Value}
+use Rattle.im_syntax.specs.Condition.{CondOf}
 use Rattle.im_core.specs.Answers.{cursor_view}
 use Rattle.im_history.specs.declared.entry.What.{What}
 use Rattle.im_history.specs.declared.view.View.{View}
@@ -14,7 +16,7 @@ use Rattle.im_history.specs.Units.{content_at}
 use Rattle.im_reach.specs.Sides.{Added, Found, Known, speaks}
 use Rattle.im_replies.specs.declared.reply.Reply.{Reply}
 use Rattle.im_replies.specs.declared.served.Served.{Served}
-use Rattle.im_replies.specs.Mixes.{reads}
+use Rattle.im_replies.specs.Mixes.{by_unit, is_pruned, reads}
 use Rattle.im_scan.specs.Faces.{how_of}
 use Rattle.im_session.specs.inner.Scans.{IsScan, Longer, Went}
 use Rattle.im_session.specs.Reads.{AreRead, IsCounted, IsMoment, IsSpan, Lacked, Left, Marked, Next, Nothing, Own, Reading, Span, Unread, reads_of, rows_read}
@@ -157,16 +159,23 @@ fetched-length h view extent = length-map (read_in h view extent) _
 
 -- ---- what marks tell of
 
--- an extent that is served so
-pub reads-read : (h : History) (view : View) (extent : ℕ)
-    → reads view extent (how_of (serving_content h view extent) (fetched_in h view extent)) ≡ length (read_in h view extent)
-reads-read h view extent = by (serving h view extent)
+-- an extent that is served so, pruned or not
+reads-unit : (view : View) (extent : ℕ) (pruned : Bool) (unit_scn stale : ℕ) → reads view extent (by_unit pruned unit_scn stale) ≡ stale
+reads-unit view extent true unit_scn stale = refl
+reads-unit view extent false unit_scn stale = refl
+
+pub reads-read : (h : History) (view : View) (extent : ℕ) (filter : Option (CondOf ℕ Value))
+    → reads view extent (how_of (serving_content h view extent) (fetched_in h view extent) filter) ≡ length (read_in h view extent)
+reads-read h view extent filter = by (serving h view extent)
   where
     by : (unit : Option ℕ)
-        → reads view extent (how_of (option_map (content_at h view.table extent) unit) (shown_all view (fetched_by h view extent unit)))
+        → reads view extent (how_of (option_map (content_at h view.table extent) unit) (shown_all view (fetched_by h view extent unit)) filter)
         ≡ length (fetched_by h view extent unit)
     by None = sym (length-map (range_with_len (extent * view.per) (rows_in view extent)) _ ∙ length-range_with_len (extent * view.per) (rows_in view extent))
-    by (Some unit_scn) = length-map (fetched_by h view extent (Some unit_scn)) _
+    by (Some unit_scn) =
+        reads-unit view extent (is_pruned (content_at h view.table extent unit_scn) filter) unit_scn
+        (length (shown_all view (fetched_by h view extent (Some unit_scn))))
+        ∙ length-map (fetched_by h view extent (Some unit_scn)) _
 
 -- one mark more
 reads_of-push : (view : View) (marks : List Served) (mark : Served)

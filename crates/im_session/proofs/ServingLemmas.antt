@@ -21,7 +21,7 @@ use Rattle.im_reach.specs.Sides.{Known, speaks}
 use Rattle.im_replies.specs.declared.served.How.{How}
 use Rattle.im_replies.specs.declared.served.How.TheVariants.{Unit as ByUnit}
 use Rattle.im_replies.specs.declared.served.Served.{Served}
-use Rattle.im_replies.specs.Mixes.{mix, mix_by, reads}
+use Rattle.im_replies.specs.Mixes.{by_unit, is_pruned, mix, mix_by, reads}
 use Rattle.im_scan.specs.Faces.{how_of}
 use Rattle.im_scan.specs.Parts.{MayAsk}
 use Rattle.im_scan.specs.Pinned.{IsPinned, seen_all, seen_in, seen_to}
@@ -92,34 +92,36 @@ may-read who cursor extent place bound view unit fetched old new mine scan asks 
 
 -- how it was served
 pub how-read : (h : History) (view : View) (extent : ℕ) (filter : Option (CondOf ℕ Value))
-    → how_of (serving_content h view extent) (fetched_in h view extent) ≡ mix h view extent filter
+    → how_of (serving_content h view extent) (fetched_in h view extent) filter ≡ mix h view extent filter
 how-read h view extent filter = by (serving h view extent)
   where
     by : (unit : Option ℕ)
-        → how_of (option_map (content_at h view.table extent) unit) (shown_all view (fetched_by h view extent unit)) ≡ mix_by h view extent unit
+        → how_of (option_map (content_at h view.table extent) unit) (shown_all view (fetched_by h view extent unit)) filter
+        ≡ mix_by h view extent filter unit
     by None = refl
     by (Some unit_scn) =
-        ap (ByUnit unit_scn)
+        ap (by_unit (is_pruned (content_at h view.table extent unit_scn) filter) unit_scn)
         (length-map (fetched_by h view extent (Some unit_scn)) _ ∙ length-map (stale h view.table extent unit_scn view.scn) _)
 
 pub mark-read : (h : History) (view : View) (extent place : ℕ) (filter : Option (CondOf ℕ Value)) (unit : Option Content)
     (fetched : List (ℕ × Option Row)) (mark : Served) → IsRead h view extent place unit fetched
-    → mark ≡ record { place = place; extent = extent; how = how_of unit fetched } → mark ≡ mark_at h view filter extent
+    → mark ≡ record { place = place; extent = extent; how = how_of unit fetched filter } → mark ≡ mark_at h view filter extent
 mark-read h view extent place filter unit fetched mark read is =
     is
     ∙ rw (read.place_is, read.unit_is, read.fetched_is)
     (ap (λ (how : How). record { place = length h; extent = extent; how = how }) (how-read h view extent filter))
 
 -- and so many rows were read from the blocks for it
-pub rows-read : (h : History) (view : View) (extent place : ℕ) (unit : Option Content) (fetched : List (ℕ × Option Row))
-    → IsRead h view extent place unit fetched → reads view extent (how_of unit fetched) ≡ length fetched
-rows-read h view extent place unit fetched read =
-    rw (read.unit_is, read.fetched_is) (reads-read h view extent ∙ sym (fetched-length h view extent))
+pub rows-read : (h : History) (view : View) (extent place : ℕ) (filter : Option (CondOf ℕ Value)) (unit : Option Content)
+    (fetched : List (ℕ × Option Row)) → IsRead h view extent place unit fetched → reads view extent (how_of unit fetched filter) ≡ length fetched
+rows-read h view extent place filter unit fetched read =
+    rw (read.unit_is, read.fetched_is) (reads-read h view extent filter ∙ sym (fetched-length h view extent))
 
-pub rows-mark : (h : History) (view : View) (extent place before after : ℕ) (unit : Option Content) (fetched : List (ℕ × Option Row)) (mark : Served)
-    → IsRead h view extent place unit fetched → mark ≡ record { place = place; extent = extent; how = how_of unit fetched }
+pub rows-mark : (h : History) (view : View) (extent place before after : ℕ) (filter : Option (CondOf ℕ Value)) (unit : Option Content)
+    (fetched : List (ℕ × Option Row)) (mark : Served)
+    → IsRead h view extent place unit fetched → mark ≡ record { place = place; extent = extent; how = how_of unit fetched filter }
     → after ≤ before + length fetched → after ≤ before + reads view extent mark.how
-rows-mark h view extent place before after unit fetched mark read is few = rw (is, rows-read h view extent place unit fetched read) few
+rows-mark h view extent place before after filter unit fetched mark read is few = rw (is, rows-read h view extent place filter unit fetched read) few
 
 -- ---- parts
 

@@ -80,7 +80,7 @@ fn read<R: Wait, H: Reach<ColumnUnit>, G: Gate, L: Ledger>(
 
 /// How an extent that was read is served. It takes no memory.
 fn mark(pin: &Pin<ColumnUnit>, extent: u64, bound: &Bound) -> Served
-    ensures { result ≡ record { place = pin.now.place; extent = extent; how = how_of (option_map arc_value pin.now.unit) pin.now.fetched } }
+    ensures { result ≡ record { place = pin.now.place; extent = extent; how = how_of (option_map arc_value pin.now.unit) pin.now.fetched bound.now.filter } }
 {
     Served {
         place: pin.place,

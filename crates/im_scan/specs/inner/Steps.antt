@@ -11,11 +11,12 @@ use Rattle.im_syntax.specs.declared.bound.Bound.{Bound}
 use Rattle.im_group.specs.Partials.{Numbered, Parts, partial}
 use Rattle.im_scan.specs.Parts.{MayAsk, row_in_unit}
 use Rattle.im_scan.specs.declared.faces.Face.{Face}
-use Rattle.im_scan.specs.declared.faces.Face.TheVariants.{Whole, Bare}
+use Rattle.im_scan.specs.declared.faces.Face.TheVariants.{Whole, Edges, Bare}
 
--- rows are those that the unit of a face holds; where it has none, nothing is read of them
+-- rows are those that the unit of a face holds; where it shows none, nothing is read of them
 abbrev pub AreRowsOf : Face → List (Option Row) → Type 0
 AreRowsOf (Whole unit) rows = rows ≡ unit.now.rows
+AreRowsOf (Edges edges) rows = Unit {0}
 AreRowsOf Bare rows = Unit {0}
 
 -- rows that are lent, or none

@@ -9,10 +9,11 @@ use Rattle.im_scan.specs.inner.Steps.{MayScan}
 use Rattle.std.proofs.lemmas.Result.{IfOk-weaker}
 use Rattle.im_group.specs.Partials.{Parts, partial}
 use Rattle.im_history.specs.Rows.{Row, present}
-use Rattle.im_scan.specs.Faces.{unit_of}
-use Rattle.im_scan.specs.Parts.{taken_row, taken_rows}
+use Rattle.im_scan.specs.Faces.{Shows, unit_of}
+use Rattle.im_scan.specs.declared.faces.Face.{Face}
+use Rattle.im_scan.specs.Parts.{taken_row}
 use Rattle.im_scan.proofs.PartLemmas.{begins}
-use Rattle.im_scan.proofs.PinLemmas.{taken-rows_seen}
+use Rattle.im_scan.proofs.PrunedLemmas.{part-seen}
 use Rattle.im_scan.proofs.parts.part.Goals as goal
 
 pub overflow_mul-first : goal.overflow_mul-first
@@ -30,26 +31,25 @@ laid_part-requires-clause-fits c =
     subst (λ b. MayScan b (unit_of c.args.face) c.args.fetched.now c.args.view.now.own) (sym c.in_ok-asking.ensures) may
 
 -- the part of the rows that are taken is that of the rows that are seen
-seen : (asking bound : Bound) (view : View) (extent count : ℕ) (fetched : List (ℕ × Option Row)) (shown : Option Content) (answer : Parts)
-    → answer ≡ partial asking (present (taken_row shown fetched view) (extent * view.per) count) → asking ≡ bound → count ≡ rows_in view extent
-    → (history : History) (unit : Option Content) → shown ≡ unit → IsPinned history view extent unit fetched
+seen : (asking bound : Bound) (view : View) (extent count : ℕ) (fetched : List (ℕ × Option Row)) (face : Face) (answer : Parts)
+    → answer ≡ partial asking (present (taken_row (unit_of face) fetched view) (extent * view.per) count) → asking ≡ bound → count ≡ rows_in view extent
+    → (history : History) (unit : Option Content) → Shows face unit bound → IsPinned history view extent unit fetched
     → answer ≡ partial bound (seen_in history view extent)
-seen asking bound view extent count fetched shown answer is same long history unit shows pinned =
+seen asking bound view extent count fetched face answer is same long history unit shows pinned =
     is
-    ∙ (ap (λ (b : Bound). partial b (present (taken_row shown fetched view) (extent * view.per) count)) same
-    ∙ (ap (λ (n : ℕ). partial bound (present (taken_row shown fetched view) (extent * view.per) n)) long
-    ∙ ap (partial bound)
-    (ap (λ (u : Option Content). taken_rows u fetched view extent) shows ∙ taken-rows_seen history view extent unit fetched pinned)))
+    ∙ (ap (λ (b : Bound). partial b (present (taken_row (unit_of face) fetched view) (extent * view.per) count)) same
+    ∙ (ap (λ (n : ℕ). partial bound (present (taken_row (unit_of face) fetched view) (extent * view.per) n)) long
+    ∙ part-seen history view extent unit fetched face bound shows pinned))
 
 pub returns-in-Some-clause-seen : goal.returns-in-Some-clause-seen
 returns-in-Some-clause-seen c history unit shows pinned =
-    seen c.in_ok-asking.asking c.args.bound.now c.args.view.now c.args.extent c.min-count.result c.args.fetched.now (unit_of c.args.face) c.in-Some.part
+    seen c.in_ok-asking.asking c.args.bound.now c.args.view.now c.args.extent c.min-count.result c.args.fetched.now c.args.face c.in-Some.part
     (c.in_ok-part.ensures c.in-Some.part c.in-Some.is) c.in_ok-asking.ensures c.min-count.ensures history unit shows pinned
 
 pub returns-clause-seen : goal.returns-clause-seen
 returns-clause-seen c =
     IfOk-weaker c.laid_part.result _ _
     (λ answer is history unit shows pinned.
-    seen c.in_ok-asking.asking c.args.bound.now c.args.view.now c.args.extent c.min-count.result c.args.fetched.now (unit_of c.args.face) answer
+    seen c.in_ok-asking.asking c.args.bound.now c.args.view.now c.args.extent c.min-count.result c.args.fetched.now c.args.face answer
     is c.in_ok-asking.ensures c.min-count.ensures history unit shows pinned)
     c.laid_part.ensures

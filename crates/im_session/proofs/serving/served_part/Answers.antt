@@ -1,10 +1,11 @@
 use Rattle.std.proofs.Common.{◌≡◌, ◌∙◌, ap, sym, subst}
 use Rattle.std.specs.Arc.{arc_value}
 use Rattle.std.specs.List.{AllByRecursion}
-use Rattle.std.specs.Option.{ForSome, option_map}
+use Rattle.std.specs.Option.{option_map}
 use Rattle.im_group.specs.Partials.{partial}
 use Rattle.im_scan.specs.Parts.{MayAsk}
 use Rattle.im_scan.specs.Pinned.{seen_in}
+use Rattle.im_scan.proofs.ForCallers.{shown-may}
 use Rattle.im_session.specs.declared.serving.Wanted.{Wanted}
 use Rattle.im_session.specs.inner.Serving.{wanted_of}
 use Rattle.im_session.proofs.ServingLemmas.{mark-read, may-read, rows-mark, seen_in-went}
@@ -17,7 +18,8 @@ part-made-requires-clause-unit_fits g c =
     (g.H.Reach.known c.args.reach.now) (g.H.Reach.known c.read.new.reach) c.requires.speaks c.requires.kept.scan
     c.requires.kept.sound.asks c.in_ok-pin.ensures.went
     c.in_ok-pin.ensures.lawful c.in_ok-pin.ensures.read in
-    subst (λ unit. ForSome unit (λ content. AllByRecursion (MayAsk c.args.cursor.now.bound) content.rows)) (sym c.face.ensures) may.unit_fits
+    shown-may c.face.result (option_map arc_value c.in_ok-pin.pin.unit) c.args.cursor.now.bound
+    (λ content. AllByRecursion (MayAsk c.args.cursor.now.bound) content.rows) c.face.ensures may.unit_fits
 
 pub part-made-requires-clause-fetched_fits : goal.part-made-requires-clause-fetched_fits
 part-made-requires-clause-fetched_fits g c =
@@ -56,11 +58,11 @@ returns-in_ok-part-in-Marks-clause-mark g c =
 pub returns-in_ok-part-in-Parts-clause-rows : goal.returns-in_ok-part-in-Parts-clause-rows
 returns-in_ok-part-in-Parts-clause-rows g c =
     rows-mark (g.H.Reach.known c.read.new.reach).log c.args.cursor.now.view c.args.extent c.in_ok-pin.pin.place c.args.steps.now c.read.new.steps
-    (option_map arc_value c.in_ok-pin.pin.unit) c.in_ok-pin.pin.fetched c.mark-mark.result c.in_ok-pin.ensures.read c.mark-mark.ensures
+    c.args.cursor.now.bound.filter (option_map arc_value c.in_ok-pin.pin.unit) c.in_ok-pin.pin.fetched c.mark-mark.result c.in_ok-pin.ensures.read c.mark-mark.ensures
     c.in_ok-pin.ensures.rows
 
 pub returns-in_ok-part-in-Marks-clause-rows : goal.returns-in_ok-part-in-Marks-clause-rows
 returns-in_ok-part-in-Marks-clause-rows g c =
     rows-mark (g.H.Reach.known c.read.new.reach).log c.args.cursor.now.view c.args.extent c.in_ok-pin.pin.place c.args.steps.now c.read.new.steps
-    (option_map arc_value c.in_ok-pin.pin.unit) c.in_ok-pin.pin.fetched c.mark-mark.result c.in_ok-pin.ensures.read c.mark-mark.ensures
+    c.args.cursor.now.bound.filter (option_map arc_value c.in_ok-pin.pin.unit) c.in_ok-pin.pin.fetched c.mark-mark.result c.in_ok-pin.ensures.read c.mark-mark.ensures
     c.in_ok-pin.ensures.rows
