@@ -3,6 +3,7 @@ pub mod AreaLaws
 pub mod BuildLaws
 pub mod ContentLaws
 pub mod ExtentLaws
+pub mod FetchedLaws
 pub mod FitLaws
 pub mod GivenLaws
 pub mod GridLaws

@@ -3,6 +3,7 @@ pub mod Commits
 pub mod Contents
 pub mod Cursors
 pub mod Extents
+pub mod Fetched
 pub mod Grid
 pub mod History
 pub mod Kinds

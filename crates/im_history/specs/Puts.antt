@@ -1,5 +1,6 @@
 -- Changes that put rows, and changes that are lent.
 use Rattle.std.specs.Prelude.{ℕ, ◌+◌, List, [], ◌∷◌, Some}
+use Rattle.std.specs.List.{flat_map}
 use Rattle.std.specs.Option.{option_copied}
 use Rattle.im_values.specs.declared.value.Value.{Value}
 use Rattle.im_history.specs.declared.change.Change.{Change}
@@ -13,3 +14,7 @@ put_from table first (row ∷ rows) = record { table = table; rid = first; row =
 -- a change that is lent
 abbrev pub lent_change : LentChange → Change
 lent_change lent = record { table = lent.table; rid = lent.rid; row = option_copied lent.row }
+
+-- the changes of several writes, one behind another
+abbrev pub all_changes : List (List Change) → List Change
+all_changes writes = flat_map (λ changes. changes) writes

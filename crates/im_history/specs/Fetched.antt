@@ -1,0 +1,25 @@
+-- What is read of row numbers, in pieces.
+use Rattle.std.specs.Prelude.{ℕ, ◌+◌, ◌^◌, ◌≤◌, List, [], ◌∷◌, length, Option, Some}
+use Rattle.std.specs.List.{flat_map}
+use Rattle.im_values.specs.declared.value.Value.{Value}
+use Rattle.im_history.specs.declared.fetched.Piece.{Piece}
+use Rattle.im_history.specs.declared.fetched.Piece.TheVariants.{Run, One}
+
+-- rows from a row number on, each with its own
+abbrev pub run_from : ℕ → List (List Value) → List (ℕ × Option (List Value))
+run_from first [] = []
+run_from first (row ∷ rows) = (first, Some row) ∷ run_from (first + 1) rows
+
+-- the row numbers of a piece, each with its row or none
+abbrev pub in_piece : Piece → List (ℕ × Option (List Value))
+in_piece (Run first rows) = run_from first rows
+in_piece (One rid row) = (rid, row) ∷ []
+
+-- those of all pieces, one behind another
+abbrev pub in_pieces : List Piece → List (ℕ × Option (List Value))
+in_pieces pieces = flat_map in_piece pieces
+
+-- the row numbers of a piece are numbers of 64 bits
+abbrev pub HasNumbers : Piece → Type 0
+HasNumbers (Run first rows) = first + length rows ≤ 2 ^ 63
+HasNumbers (One rid row) = Unit {0}
