@@ -49,7 +49,7 @@ fn rows_of(alloc: Global, fetched: Fetched) -> Result<Vec<Option<Row>>, NoMemory
     ensures short { IfOk result (λ rows. AreShort rows.items) }
 {
     let mut rows = Vec::new(alloc);
-    for (_, row) in fetched.into_items() {
+    for row in fetched.into_rows(alloc)? {
         if !has_one_number(&row) {
             return Err(NoMemory);
         }

@@ -1,3 +1,4 @@
+mod EnterLemmas
 mod ExtentLemmas
 pub mod ForCallers
 mod HandingLemmas

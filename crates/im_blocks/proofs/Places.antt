@@ -16,6 +16,12 @@ pub push-here : {X : Type 0} (xs : List X) (x : X) → slice_get (xs ++ x ∷ []
 push-here [] x = refl
 push-here (y ∷ ys) x = push-here ys x
 
+-- and the others stand where they stood
+pub push-before : {X : Type 0} (xs : List X) (x : X) (j : ℕ) (y : X) → slice_get xs j ≡ Some y → slice_get (xs ++ x ∷ []) j ≡ Some y
+push-before [] x j y is = absurd (cc is)
+push-before (z ∷ zs) x zero y is = is
+push-before (z ∷ zs) x (suc j) y is = push-before zs x j y is
+
 -- what is seen stays, where the new item shows what the old one did
 pub set-seen : {X Y : Type 0} (f : Option X → Y) (xs : List X) (k j : ℕ) (x y : X) → slice_get xs k ≡ Some x → f (Some y) ≡ f (Some x)
     → f (slice_get (set xs k y) j) ≡ f (slice_get xs j)
@@ -49,3 +55,7 @@ take-next (x ∷ xs) zero d within = refl
 take-next (x ∷ xs) (suc i) d within =
     let next : suc i + 1 ≡ suc (i + 1) = omega arith in
     ap (λ (n : ℕ). take n (x ∷ xs)) next ∙ ap (λ l. x ∷ l) (take-next xs i d (omega (arith, within)))
+
+-- and where the next one was read
+pub take-got : {X : Type 0} (xs : List X) (i : ℕ) (x : X) → slice_get xs i ≡ Some x → take (i + 1) xs ≡ take i xs ++ x ∷ []
+take-got xs i x is = take-next xs i x (below xs i x is) ∙ ap (λ (y : _). take i xs ++ y ∷ []) (got xs i x x is)

@@ -1,20 +1,102 @@
--- A row that is put into a run.
-use Rattle.std.proofs.Common.{◌≡◌, ℕ, suc, ◌+◌, ◌-◌, ◌<◌, ◌≤◌, ◌==◌, ◌&&◌, Bool, true, false, List, [], ◌∷◌, ◌++◌, length, nat_le, nat_lt, Option, Some, None, if◌then◌else◌, refl, sym, ap, ◌∙◌, ⊎_elim, arith}
+-- Row numbers in a run, and a run that is put behind others.
+use Prim.Native.Nat.{suc}
+use Rattle.std.proofs.Common.{◌≡◌, ℕ, ◌+◌, ◌-◌, ◌<◌, ◌≤◌, ◌==◌, Bool, true, false, List, [], ◌∷◌, ◌++◌, length, nat_le, nat_lt, Option, Some, None, if◌then◌else◌, refl, sym, ap, ◌∙◌, ⊎_elim, arith}
 use Rattle.std.specs.Prelude.{slice_get}
-use Rattle.std.proofs.lemmas.Bool.{cases_eq, cases_lt, eq-eqb, ne_eqb}
+use Rattle.std.proofs.lemmas.Bool.{cases_Bool, cases_lt, eq-eqb}
 use Rattle.std.proofs.lemmas.Bool.Decides.{nat_tests}
-use Rattle.im_values.specs.declared.value.Value.{Value}
+use Rattle.im_tables.proofs.Tests.{and-true, eq-true}
 use Rattle.im_versions.specs.declared.version.Version.{Version}
 use Rattle.im_blocks.specs.declared.run.Run.{Run}
-use Rattle.im_blocks.specs.Chains.{only, run_versions}
-use Rattle.im_blocks.specs.Runs.{IsLonger, holds, in_rows, rows_in, version_in}
-use Rattle.im_blocks.specs.inner.Puts.{IsLastLonger, IsPut}
-use Rattle.im_blocks.proofs.Places.{push-here, push-seen, set-here, set-seen}
+use Rattle.im_blocks.specs.Chains.{newest_scn, only, run_at, run_versions}
+use Rattle.im_blocks.specs.Runs.{holds, in_rows, is_in, version_in}
+use Rattle.im_blocks.proofs.Places.{push-before, push-here, push-seen}
 
--- what rows at row numbers of a table show at one of them
-abbrev shown : ℕ → ℕ → ℕ → List (List Value) → ℕ → ℕ → List Version
-shown table first scn rows t r =
-    if (table == t) && in_rows first (length rows) r then record { scn = scn; row = slice_get rows (r - first) } ∷ [] else []
+-- ---- row numbers
+
+-- a row number that lies in so many is one of them
+pub record LiesIn (first count r : ℕ) : Type 0 where
+  pub from : first ≤ r
+  pub to : r < first + count
+
+pub in_rows-true : (first count r : ℕ) → in_rows first count r ≡ true → LiesIn first count r
+in_rows-true first count r is =
+    let both = and-true (nat_le first r) (nat_lt (r - first) count) is in
+    let low = both.0 in
+    let high = both.1 in
+    record { from = grind (arith, nat_tests, low); to = grind (arith, nat_tests, low, high) }
+
+pub in_rows-from : (first count r : ℕ) → first ≤ r → r < first + count → in_rows first count r ≡ true
+in_rows-from first count r from to =
+    let low : nat_le first r ≡ true = grind (arith, nat_tests) in
+    let high : nat_lt (r - first) count ≡ true = grind (arith, nat_tests) in
+    rw (low, high) refl
+
+pub in_rows-below : (first count r : ℕ) → r < first → in_rows first count r ≡ false
+in_rows-below first count r below =
+    let low : nat_le first r ≡ false = grind (arith, nat_tests) in
+    rw low refl
+
+pub in_rows-past : (first count r : ℕ) → first + count ≤ r → in_rows first count r ≡ false
+in_rows-past first count r past =
+    let low : nat_le first r ≡ true = grind (arith, nat_tests) in
+    let high : nat_lt (r - first) count ≡ false = grind (arith, nat_tests) in
+    rw (low, high) refl
+
+-- behind the first, those of one fewer from the next on
+pub in_rows-next : (first count r : ℕ) → first < r → in_rows (first + 1) count r ≡ in_rows first (suc count) r
+in_rows-next first count r later =
+    ⊎_elim
+    (λ (to : r < first + suc count).
+    in_rows-from (first + 1) count r (omega (arith, later)) (omega (arith, to)) ∙ sym (in_rows-from first (suc count) r (omega (arith, later)) to))
+    (λ (past : first + suc count ≤ r).
+    in_rows-past (first + 1) count r (omega (arith, past)) ∙ sym (in_rows-past first (suc count) r past))
+    (cases_lt r (first + suc count))
+
+pub is_in-true : (table first count t r : ℕ) → is_in table first count t r ≡ true → (table ≡ t) × (in_rows first count r ≡ true)
+is_in-true table first count t r is =
+    let both = and-true (table == t) (in_rows first count r) is in
+    (eq-true table t both.0, both.1)
+
+-- none lies in none
+pub not_in_none : (table first t r : ℕ) → is_in table first 0 t r ≡ false
+not_in_none table first t r =
+    ⊎_elim
+    (λ (is : is_in table first 0 t r ≡ true).
+    let lies = in_rows-true first 0 r ((is_in-true table first 0 t r is).1) in
+    let from = lies.from in
+    let to = lies.to in
+    absurd (omega (arith, from, to)))
+    (λ (no : is_in table first 0 t r ≡ false). no)
+    (cases_Bool (is_in table first 0 t r))
+
+pub is_in-from : (table first count r : ℕ) → in_rows first count r ≡ true → is_in table first count table r ≡ true
+is_in-from table first count r is = rw (eq-eqb table table refl, is) refl
+
+-- one row number alone
+pub is_in-one : (table rid t r : ℕ) → (t ≡ table → r ≡ rid → ⊥) → is_in table rid 1 t r ≡ false
+is_in-one table rid t r apart =
+    ⊎_elim
+    (λ (is : is_in table rid 1 t r ≡ true).
+    let both = is_in-true table rid 1 t r is in
+    let lies = in_rows-true rid 1 r both.1 in
+    let from = lies.from in
+    let to = lies.to in
+    absurd (apart (sym both.0) (omega (arith, from, to))))
+    (λ (no : is_in table rid 1 t r ≡ false). no)
+    (cases_Bool (is_in table rid 1 t r))
+
+pub is_in-same : (table rid t r : ℕ) → is_in table rid 1 t r ≡ true → (t ≡ table) × (r ≡ rid)
+is_in-same table rid t r is =
+    let both = is_in-true table rid 1 t r is in
+    let lies = in_rows-true rid 1 r both.1 in
+    let from = lies.from in
+    let to = lies.to in
+    (sym both.0, omega (arith, from, to))
+
+pub is_in-here : (table rid : ℕ) → is_in table rid 1 table rid ≡ true
+is_in-here table rid = is_in-from table rid 1 rid (in_rows-from rid 1 rid (omega arith) (omega arith))
+
+-- ---- a run behind others
 
 -- what a run shows
 abbrev seen_in : ℕ → ℕ → Option Run → List Version
@@ -24,100 +106,53 @@ shows_by : (b : Bool) (r : ℕ) (run : Run) → run_versions r (if b then Some r
 shows_by true r run = refl
 shows_by false r run = refl
 
-shows : (t r : ℕ) (run : Run) → seen_in t r (Some run) ≡ shown run.table run.first run.scn (rows_in run.rows) t r
+shows : (t r : ℕ) (run : Run) → seen_in t r (Some run) ≡ (if holds run t r then version_in run r ∷ [] else [])
 shows t r run = shows_by (holds run t r) r run
 
-lt_suc : (d n : ℕ) → nat_lt (suc d) (suc n) ≡ nat_lt d n
-lt_suc d n =
-    ⊎_elim
-    (λ (below : d < n).
-    let one : nat_lt (suc d) (suc n) ≡ true = grind (arith, nat_tests) in
-    let other : nat_lt d n ≡ true = grind (arith, nat_tests) in
-    one ∙ sym other)
-    (λ (from : n ≤ d).
-    let one : nat_lt (suc d) (suc n) ≡ false = grind (arith, nat_tests) in
-    let other : nat_lt d n ≡ false = grind (arith, nat_tests) in
-    one ∙ sym other)
-    (cases_lt d n)
+-- it shows the rows that it has
+pub run-here : (runs : List Run) (run : Run) (t r : ℕ) → holds run t r ≡ true →
+    run_versions r (run_at (runs ++ run ∷ []) (length runs) t r) ≡ version_in run r ∷ []
+run-here runs run t r is =
+    ap (seen_in t r) (push-here runs run) ∙ (shows t r run ∙ ap (λ (b : Bool). if b then version_in run r ∷ [] else []) is)
 
--- rows with one more in front show the same everywhere else
-front_same : (table rid scn : ℕ) (row : List Value) (rows : List (List Value)) (t r : ℕ) → (t ≡ table → r ≡ rid → ⊥) →
-    shown table rid scn (row ∷ rows) t r ≡ shown table (rid + 1) scn rows t r
-front_same table rid scn row rows t r apart =
-    ⊎_elim
-    (λ (is : t ≡ table).
-    ⊎_elim
-    (λ (below : r < rid).
-    let low : nat_le rid r ≡ false = grind (arith, nat_tests) in
-    let lower : nat_le (rid + 1) r ≡ false = grind (arith, nat_tests) in
-    let here : (table == t) ≡ true = eq-eqb table t (sym is) in
-    rw (low, lower, here) refl)
-    (λ (from : rid ≤ r).
-    let other : r ≡ rid → ⊥ = apart is in
-    let past : rid < r = grind (arith, other, from) in
-    let high : nat_le rid r ≡ true = grind (arith, nat_tests) in
-    let higher : nat_le (rid + 1) r ≡ true = grind (arith, nat_tests) in
-    let next : r - rid ≡ suc (r - (rid + 1)) = omega (arith, past) in
-    let here : (table == t) ≡ true = eq-eqb table t (sym is) in
-    rw (high, higher, next, here)
-    (ap (λ (b : Bool). if b then record { scn = scn; row = slice_get rows (r - (rid + 1)) } ∷ [] else []) (lt_suc (r - (rid + 1)) (length rows))))
-    (cases_lt r rid))
-    (λ (no : t ≡ table → ⊥).
-    let else_where : (table == t) ≡ false = ne_eqb table t (λ e. no (sym e)) in
-    rw else_where refl)
-    (cases_eq t table)
+-- each other row is shown as before
+pub run-others : (runs : List Run) (run : Run) (k t r : ℕ) → holds run t r ≡ false →
+    run_versions r (run_at (runs ++ run ∷ []) k t r) ≡ run_versions r (run_at runs k t r)
+run-others runs run k t r is =
+    push-seen (seen_in t r) runs run k (shows t r run ∙ ap (λ (b : Bool). if b then version_in run r ∷ [] else []) is)
 
--- no rows show nothing
-none_shown_by : (a b : Bool) (version : Version) → (if a && (b && false) then version ∷ [] else []) ≡ []
-none_shown_by true true version = refl
-none_shown_by true false version = refl
-none_shown_by false b version = refl
+-- and so is each row that another run has a version of
+pub run-kept : (runs : List Run) (run : Run) (k t r scn : ℕ) → 0 < scn → newest_scn (run_versions r (run_at runs k t r)) ≡ scn →
+    run_versions r (run_at (runs ++ run ∷ []) k t r) ≡ run_versions r (run_at runs k t r)
+run-kept runs run k t r scn some newest = by (slice_get runs k) refl
+  where
+    by : (o : Option Run) → slice_get runs k ≡ o → run_versions r (run_at (runs ++ run ∷ []) k t r) ≡ run_versions r (run_at runs k t r)
+    by (Some x) is = ap (seen_in t r) (push-before runs run k x is ∙ sym is)
+    by None is =
+        let none : newest_scn (run_versions r (run_at runs k t r)) ≡ 0 = ap (λ (o : Option Run). newest_scn (seen_in t r o)) is in
+        absurd (omega (arith, some, newest, none))
 
-none_shown : (table first scn t r : ℕ) → shown table first scn [] t r ≡ []
-none_shown table first scn t r =
-    let none : nat_lt (r - first) 0 ≡ false = grind (arith, nat_tests) in
-    rw none (none_shown_by (table == t) (nat_le first r) (record { scn = scn; row = None }))
+-- the run of a number shows the rows that it has
+pub run-shown : (runs : List Run) (run : Run) (k t r : ℕ) → slice_get runs k ≡ Some run → holds run t r ≡ true →
+    run_versions r (run_at runs k t r) ≡ version_in run r ∷ []
+run-shown runs run k t r at is =
+    ap (seen_in t r) at ∙ (shows t r run ∙ ap (λ (b : Bool). if b then version_in run r ∷ [] else []) is)
 
--- the first row is shown at its row number
-front_here : (table rid scn : ℕ) (row : List Value) (rows : List (List Value)) →
-    shown table rid scn (row ∷ rows) table rid ≡ record { scn = scn; row = Some row } ∷ []
-front_here table rid scn row rows =
-    let first : rid - rid ≡ 0 = omega arith in
-    let from : nat_le rid rid ≡ true = grind (arith, nat_tests) in
-    let some : nat_lt 0 (suc (length rows)) ≡ true = grind (arith, nat_tests) in
-    rw (eq-eqb table table refl, from, first)
-    (ap (λ (b : Bool). if b then record { scn = scn; row = Some row } ∷ [] else []) some)
+-- a run that was found
+pub record HoldsRun (runs : List Run) (number t r : ℕ) (run : Run) : Type 0 where
+  pub at : slice_get runs number ≡ Some run
+  pub own : holds run t r ≡ true
 
-longer_shows : (was is : Run) (table rid scn : ℕ) (row : List Value) (t r : ℕ) → IsLonger was is table rid scn row →
-    seen_in t r (Some is) ≡ shown table rid scn (row ∷ rows_in was.rows) t r
-longer_shows was is table rid scn row t r longer =
-    shows t r is ∙ rw (longer.table_is, longer.first_is, longer.scn_is, longer.rows_are) refl
+pub found_run : (runs : List Run) (number t r : ℕ) (run : Run) → run_at runs number t r ≡ Some run → HoldsRun runs number t r run
+found_run runs number t r run found = by (slice_get runs number) refl
+  where
+    same : (x : Run) → slice_get runs number ≡ Some x → (own : Bool) → holds x t r ≡ own → HoldsRun runs number t r run
+    same x is true own =
+        let equal : x ≡ run = cc (ap (λ (o : Option Run). only (λ (y : Run). holds y t r) o) is, ap (λ (c : Bool). if c then Some x else None) own, found) in
+        record { at = is ∙ ap Some equal; own = ap (λ (y : Run). holds y t r) (sym equal) ∙ own }
+    same x is false own =
+        absurd (cc (ap (λ (o : Option Run). only (λ (y : Run). holds y t r) o) is, ap (λ (c : Bool). if c then Some x else None) own, found))
 
-was_shows : (was is : Run) (table rid scn : ℕ) (row : List Value) (t r : ℕ) → IsLonger was is table rid scn row →
-    seen_in t r (Some was) ≡ shown table (rid + 1) scn (rows_in was.rows) t r
-was_shows was is table rid scn row t r longer =
-    shows t r was ∙ rw (longer.table_was, longer.first_was, longer.scn_was) refl
-
--- the last run is longer: the row is put
-pub IsPut-longer : (old new : List Run) (number table rid scn : ℕ) (row : List Value) → IsLastLonger old new table rid scn row
-    → number ≡ length old - 1 → IsPut old new number table rid scn row
-IsPut-longer old new number table rid scn row last at =
-    rw (last.now, at) (record {
-      here = ap (seen_in table rid) (set-here old (length old - 1) last.was last.is last.at)
-          ∙ (longer_shows last.was last.is table rid scn row table rid last.longer ∙ front_here table rid scn row (rows_in last.was.rows));
-      others = λ k t r apart. set-seen (seen_in t r) old (length old - 1) k last.was last.is last.at
-          (longer_shows last.was last.is table rid scn row t r last.longer
-          ∙ (front_same table rid scn row (rows_in last.was.rows) t r apart ∙ sym (was_shows last.was last.is table rid scn row t r last.longer)));
-    })
-
--- a run of one row is new: the row is put
-pub IsPut-new : (old : List Run) (run : Run) (number table rid scn : ℕ) (row : List Value) → run.table ≡ table → run.first ≡ rid → run.scn ≡ scn
-    → rows_in run.rows ≡ row ∷ [] → number ≡ length old → IsPut old (old ++ run ∷ []) number table rid scn row
-IsPut-new old run number table rid scn row table_is first_is scn_is rows_are at =
-    let is : (t r : ℕ) → seen_in t r (Some run) ≡ shown table rid scn (row ∷ []) t r =
-    λ t r. shows t r run ∙ rw (table_is, first_is, scn_is, rows_are) refl in
-    rw at (record {
-      here = ap (seen_in table rid) (push-here old run) ∙ (is table rid ∙ front_here table rid scn row []);
-      others = λ k t r apart. push-seen (seen_in t r) old run k
-          (is t r ∙ (front_same table rid scn row [] t r apart ∙ none_shown table (rid + 1) scn t r));
-    })
+    by : (o : Option Run) → slice_get runs number ≡ o → HoldsRun runs number t r run
+    by None is = absurd (cc (ap (λ (o : Option Run). only (λ (y : Run). holds y t r) o) is, found))
+    by (Some x) is = same x is (holds x t r) refl

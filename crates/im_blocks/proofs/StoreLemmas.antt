@@ -1,12 +1,12 @@
 -- The versions of all rows, where a slot, a run or a chain changes.
 use Prim.Native.Nat.{zero, suc}
-use Rattle.std.proofs.Common.{◌≡◌, ℕ, ◌+◌, ◌<◌, ◌≤◌, ◌==◌, ◌&&◌, Bool, true, false, List, [], ◌∷◌, ◌++◌, set, Option, Some, None, if◌then◌else◌, refl, sym, ap, ◌∙◌, subst, ⊎_elim, arith, le_refl}
+use Rattle.std.proofs.Common.{◌≡◌, ℕ, ◌+◌, ◌-◌, ◌<◌, ◌≤◌, ◌==◌, ◌&&◌, ◌⊎◌, inl, Bool, true, false, List, [], ◌∷◌, ◌++◌, length, set, Option, Some, None, if◌then◌else◌, refl, sym, ap, ◌∙◌, subst, ⊎_elim, arith, le_refl}
 use Rattle.std.specs.Prelude.{slice_get}
 use Rattle.std.specs.Option.{is_some}
 use Rattle.std.proofs.lemmas.Bool.{cases_eq, eq-eqb, ne_eqb, true≢false}
-use Rattle.im_tables.specs.Table.{HasCell, IsGrown, with_cell}
+use Rattle.im_tables.specs.Table.{HasCell, IsGrown, row_of, with_cell}
 use Rattle.im_tables.proofs.Tests.{and-true, eq-true}
-use Rattle.im_tables.proofs.ForCallers.{HasCell-grown, HasCell-with_cell, cell_at-with_cell_other, cell_at-with_cell_same, same_cell}
+use Rattle.im_tables.proofs.ForCallers.{HasCell-grown, HasCell-with_cell, cell_at-past, cell_at-with_cell_other, cell_at-with_cell_same, same_cell}
 use Rattle.im_values.specs.declared.value.Value.{Value}
 use Rattle.im_versions.specs.declared.version.Version.{Version}
 use Rattle.im_blocks.specs.declared.run.Run.{Run}
@@ -16,9 +16,12 @@ use Rattle.im_blocks.specs.declared.touched.Touched.{Touched}
 use Rattle.im_blocks.specs.Chains.{AllVersions, IsReady, chain_at, chain_spare, chain_versions, is_of, newest_scn, only, run_at, run_versions, slot_at, spare_in, versions_at, versions_in}
 use Rattle.im_blocks.specs.Chains.IsReady.{HasChain, IsBlank}
 use Rattle.im_blocks.specs.Transitions.{SameVersions}
-use Rattle.im_blocks.specs.inner.Handing.{HasTaken, IsOnly, versions_after}
-use Rattle.im_blocks.specs.inner.Puts.{IsChained, IsOneLonger, IsPut, IsRoomier}
+use Rattle.im_blocks.specs.Readied.{IsFree}
+use Rattle.im_blocks.specs.Runs.{holds, is_in, rows_in, version_in}
+use Rattle.im_blocks.specs.inner.Handing.{HasTaken, HasTakenRun, IsOnly, MayTakeRun, versions_after}
+use Rattle.im_blocks.specs.inner.Puts.{HasEntered, IsChained, IsOneLonger, IsRoomier}
 use Rattle.im_blocks.proofs.Places.{push-here, push-seen, set-here, set-seen}
+use Rattle.im_blocks.proofs.RunLemmas.{in_rows-from, in_rows-true, is_in-from, is_in-here, is_in-one, is_in-same, is_in-true, run-here, run-kept, run-others}
 
 -- ---- what stands in a slot
 
@@ -43,6 +46,7 @@ unfolding versions_at
 SameVersions-room b runs more same room = record {
   versions = λ t r. ap (λ (rs : List Run). versions_in rs b.chains t r (slot_at b t r)) same;
   ready = λ t r put ready. stays t r put ready;
+  cells = λ t r has. has;
   room = room;
 }
   where
@@ -57,6 +61,7 @@ unfolding versions_at
 SameVersions-grown b slots grown = record {
   versions = λ t r. ap (versions_in b.runs b.chains t r) (grown.cells t r);
   ready = λ t r put ready. stays t r put ready;
+  cells = λ t r has. HasCell-grown Empty b.slots slots t r grown has;
   room = le_refl _;
 }
   where
@@ -143,6 +148,7 @@ unfolding versions_at
 IsOnly-slot b t r room slot runs chains there same_runs same_chains enough = record {
   others = λ u v apart. ap (versions_in runs chains u v) (stays u v apart) ∙ same u v apart (slot_at b u v);
   ready = λ u v put apart ready. still u v put apart ready;
+  cells = λ u v has. HasCell-with_cell b.slots t r slot u v has;
   room = enough;
 }
   where
@@ -186,6 +192,7 @@ SameVersions-only old new t r others here ready room = record {
       (λ (is : (u ≡ t) × (v ≡ r)).
       subst (λ (k : ℕ). IsReady new k v put) (sym is.0) (subst (λ (k : ℕ). IsReady new t k put) (sym is.1) (ready put)))
       (λ (apart : u ≡ t → v ≡ r → ⊥). others.ready u v put apart was) (same_cell t r u v);
+  cells = others.cells;
   room = room;
 }
 
@@ -233,6 +240,7 @@ unfolding versions_at
 SameVersions-roomier b number was is at roomier = record {
   versions = λ t r. same t r (slot_at b t r);
   ready = λ t r put ready. still t r put ready;
+  cells = λ t r has. has;
   room = le_refl _;
 }
   where
@@ -288,6 +296,7 @@ HasTaken-chain b table rid number scn row was is slot found at own longer later 
   only = record {
     others = λ t r apart. same t r apart (slot_at b t r);
     ready = λ t r put apart ready. still t r put apart ready;
+    cells = λ t r has. has;
     room = omega arith;
   };
   versions = ap (versions_in b.runs chains table rid) slot
@@ -335,23 +344,111 @@ HasTaken-chain b table rid number scn row was is slot found at own longer later 
     still t r put apart (HasChain has) = HasChain (subst (λ (n : ℕ). 0 < n) (sym (spare t r apart (slot_at b t r))) has)
     still t r put apart (IsBlank some blank there) = IsBlank some blank there
 
--- ---- a row is put into a run
+-- ---- a run is put behind the others
 
-pub HasTaken-run : (b : AllVersions) (table rid number scn room : ℕ) (row : List Value) (runs : List Run) → HasCell b.slots table rid
-    → slot_at b table rid ≡ Empty → 0 < scn → b.room ≤ room + 1 → IsPut b.runs runs number table rid scn row
-    → HasTaken b (record { slots = with_cell table rid (InRun number) b.slots; runs = runs; chains = b.chains; room = room }) table rid scn (Some row)
+-- its row numbers have its versions, unless they have one of its commit
+pub HasTakenRun-put : (b : AllVersions) (run : Run) (slots : List (List Slot)) (room : ℕ) → 0 < run.scn
+    → ((t r : ℕ) → holds run t r ≡ true → (versions_at b t r ≡ []) ⊎ (newest_scn (versions_at b t r) ≡ run.scn))
+    → HasEntered b.runs b.chains (length b.runs) run b.slots slots → b.room ≤ room + 1
+    → HasTakenRun b (record { slots = slots; runs = b.runs ++ run ∷ []; chains = b.chains; room = room }) run.table run.first run.scn (rows_in run.rows)
 unfolding versions_at
-HasTaken-run b table rid number scn room row runs there blank some enough put = record {
-  only = IsOnly-slot b table rid room (InRun number) runs b.chains there put.others (λ k u v apart. refl) enough;
-  versions = ap (versions_in runs b.chains table rid) (slot_here b table rid room (InRun number) runs b.chains there)
-      ∙ (put.here ∙ sym (ap (versions_after scn (Some row)) none ∙ first));
+HasTakenRun-put b run slots room some free went enough = record {
+  here = λ t r is. shown_here t r is;
+  others = λ t r no. ap (versions_in runs b.chains t r) (went.others t r no) ∙ same t r no (slot_at b t r);
+  ready = λ t r put no ready. still t r put no ready;
+  cells = went.cells;
+  room = enough;
 }
   where
-    none : versions_at b table rid ≡ []
-    none = sym (in_slot b table rid Empty blank)
+    runs : List Run
+    runs = b.runs ++ run ∷ []
 
-    first : versions_after scn (Some row) [] ≡ record { scn = scn; row = Some row } ∷ []
-    first = rw (ne_eqb 0 scn (λ e. omega (arith, e, some))) refl
+    new : AllVersions
+    new = record { slots = slots; runs = runs; chains = b.chains; room = room }
+
+    same : (t r : ℕ) → holds run t r ≡ false → (s : Slot) → versions_in runs b.chains t r s ≡ versions_in b.runs b.chains t r s
+    same t r off Empty = refl
+    same t r off (InRun k) = run-others b.runs run k t r off
+    same t r off (InChain k) = refl
+
+    still : (t r : ℕ) (put : Bool) → holds run t r ≡ false → IsReady b t r put → IsReady new t r put
+    still t r put off (HasChain has) = HasChain (subst (λ (s : Slot). 0 < spare_in b.chains t r s) (sym (went.others t r off)) has)
+    still t r put off (IsBlank some blank there) = IsBlank some (went.others t r off ∙ blank) (went.cells t r there)
+
+    kept : (t r : ℕ) (s : Slot) → newest_scn (versions_in b.runs b.chains t r s) ≡ run.scn → versions_in runs b.chains t r s ≡ versions_in b.runs b.chains t r s
+    kept t r Empty newest = refl
+    kept t r (InRun k) newest = run-kept b.runs run k t r run.scn some newest
+    kept t r (InChain k) newest = refl
+
+    shown_here : (t r : ℕ) → holds run t r ≡ true
+        → versions_at new t r ≡ versions_after run.scn (slice_get (rows_in run.rows) (r - run.first)) (versions_at b t r)
+    shown_here t r is = by (newest_scn (versions_at b t r) == run.scn) refl
+      where
+        by : (c : Bool) → (newest_scn (versions_at b t r) == run.scn) ≡ c
+            → versions_at new t r ≡ versions_after run.scn (slice_get (rows_in run.rows) (r - run.first)) (versions_at b t r)
+        by true equal =
+            let slot : slot_at new t r ≡ slot_at b t r =
+            went.here t r is ∙ ap (λ (c : Bool). if c then slot_at b t r else InRun (length b.runs)) equal in
+            ap (versions_in runs b.chains t r) slot
+            ∙ (kept t r (slot_at b t r) (eq-true (newest_scn (versions_at b t r)) run.scn equal)
+            ∙ sym (ap (λ (c : Bool). if c then versions_at b t r else versions_at b t r ++ version_in run r ∷ []) equal))
+        by false differs =
+            let slot : slot_at new t r ≡ InRun (length b.runs) =
+            went.here t r is ∙ ap (λ (c : Bool). if c then slot_at b t r else InRun (length b.runs)) differs in
+            let none : versions_at b t r ≡ [] =
+            ⊎_elim (λ (none : versions_at b t r ≡ []). none)
+            (λ (equal : newest_scn (versions_at b t r) ≡ run.scn). absurd (true≢false (sym (eq-eqb _ _ equal) ∙ differs))) (free t r is) in
+            ap (versions_in runs b.chains t r) slot
+            ∙ (run-here b.runs run t r is
+            ∙ sym (ap (λ (c : Bool). if c then versions_at b t r else versions_at b t r ++ version_in run r ∷ []) differs
+            ∙ ap (λ (vs : List Version). vs ++ version_in run r ∷ []) none))
+
+-- what stands at a row number that is blank and has a slot
+pub record IsBlankCell (b : AllVersions) (table rid : ℕ) : Type 0 where
+  pub blank : slot_at b table rid ≡ Empty
+  pub there : HasCell b.slots table rid
+
+-- a row number that is ready and has no chain is blank
+pub ready_blank : (b : AllVersions) (table rid : ℕ) (put : Bool) → ((k : ℕ) → slot_at b table rid ≡ InChain k → ⊥) → IsReady b table rid put
+    → IsBlankCell b table rid
+ready_blank b table rid put none (HasChain has) = absurd (by (slot_at b table rid) refl has)
+  where
+    by : (s : Slot) → slot_at b table rid ≡ s → 0 < spare_in b.chains table rid s → ⊥
+    by Empty is some = omega (arith, some)
+    by (InRun k) is some = omega (arith, some)
+    by (InChain k) is some = none k is
+ready_blank b table rid put none (IsBlank some blank there) = record { blank = blank; there = there }
+
+-- a run of one row is put at a row number that has no version
+pub MayTakeRun-one : (b : AllVersions) (table rid scn : ℕ) → 0 < scn → slot_at b table rid ≡ Empty → HasCell b.slots table rid → 0 < b.room
+    → MayTakeRun b table rid 1 scn
+MayTakeRun-one b table rid scn some blank there room = record {
+  some = some;
+  any = omega arith;
+  cells = λ t r is.
+      let same = is_in-same table rid t r is in
+      subst (λ (k : ℕ). HasCell b.slots k r) (sym same.0) (subst (λ (k : ℕ). HasCell b.slots table k) (sym same.1) there);
+  free = λ t r is.
+      let same = is_in-same table rid t r is in
+      inl (ap (λ (k : ℕ). versions_at b k r) same.0 ∙ (ap (versions_at b table) same.1 ∙ sym (in_slot b table rid Empty blank)));
+  room = room;
+}
+
+-- and it has taken the row
+pub HasTaken-run : (old new : AllVersions) (table rid scn : ℕ) (row : List Value) → HasTakenRun old new table rid scn (row ∷ [])
+    → HasTaken old new table rid scn (Some row)
+HasTaken-run old new table rid scn row taken =
+    let first : rid - rid ≡ 0 = omega arith in
+    record {
+      only = record {
+        others = λ t r apart. taken.others t r (is_in-one table rid t r apart);
+        ready = λ t r put apart ready. taken.ready t r put (is_in-one table rid t r apart) ready;
+        cells = taken.cells;
+        room = taken.room;
+      };
+      versions = taken.here table rid (is_in-here table rid)
+          ∙ ap (λ (k : ℕ). versions_after scn (slice_get (row ∷ []) k) (versions_at old table rid)) first;
+    }
 
 -- a chain in its place has the room that it has
 pub spare-set : (chains : List Touched) (number t r : ℕ) (was is : Touched) (slot : Slot) → slot ≡ InChain number → slice_get chains number ≡ Some was
@@ -360,3 +457,46 @@ spare-set chains number t r was is slot named at own roomier =
     let owner : is_of is t r ≡ true = rw (roomier.table_is, roomier.rid_is) own in
     ap (spare_in (set chains number is) t r) named
     ∙ ap chain_spare (ap (seen_of t r) (set-here chains number was is at) ∙ shows_itself is t r owner)
+
+-- ---- row numbers without versions
+
+-- past the slots of a table there are none
+pub IsFree-past : (b : AllVersions) (table first count : ℕ) → length (row_of b.slots table) ≤ first → IsFree b table first count
+unfolding versions_at
+IsFree-past b table first count past = record {
+  each = λ t r is.
+      let both = is_in-true table first count t r is in
+      let lies = in_rows-true first count r both.1 in
+      let from = lies.from in
+      let long = ap (λ (k : ℕ). length (row_of b.slots k)) both.0 in
+      ap (versions_in b.runs b.chains t r) (cell_at-past Empty b.slots t r (omega (arith, past, from, long)));
+}
+
+-- each of so many has none
+pub IsFree-each : (b : AllVersions) (table first count rid : ℕ) → first + count ≤ rid → ((r : ℕ) → first ≤ r → r < rid → versions_at b table r ≡ [])
+    → IsFree b table first count
+IsFree-each b table first count rid all none = record {
+  each = λ t r is.
+      let both = is_in-true table first count t r is in
+      let lies = in_rows-true first count r both.1 in
+      let to = lies.to in
+      ap (λ (k : ℕ). versions_at b k r) (sym both.0) ∙ none r lies.from (omega (arith, to, all));
+}
+
+-- where the last of them has a slot, each has
+pub cells-to : (slots : List (List Slot)) (table first count last : ℕ) → first + count ≤ last + 1 → HasCell slots table last
+    → (t r : ℕ) → is_in table first count t r ≡ true → HasCell slots t r
+cells-to slots table first count last all has t r is =
+    let both = is_in-true table first count t r is in
+    let lies = in_rows-true first count r both.1 in
+    let to = lies.to in
+    let below = has.below in
+    let long = ap (λ (k : ℕ). length (row_of slots k)) both.0 in
+    record { below = omega (arith, all, to, below, long) }
+
+-- and they end in the table's slots
+pub cells-end : (slots : List (List Slot)) (table first count : ℕ) → 0 < count → ((t r : ℕ) → is_in table first count t r ≡ true → HasCell slots t r)
+    → HasCell slots table (first + count - 1)
+cells-end slots table first count some cells =
+    cells table (first + count - 1) (is_in-from table first count (first + count - 1)
+    (in_rows-from first count (first + count - 1) (omega (arith, some)) (omega (arith, some))))

@@ -1,19 +1,27 @@
 -- The versions of a row against the changes that made them.
-use Rattle.std.proofs.Common.{◌≡◌, ℕ, suc, ◌+◌, ◌-◌, ◌<◌, ◌≤◌, Bool, true, false, ◌||◌, List, [], ◌∷◌, ◌++◌, length, take, reverse, nat_le, Option, Some, None, is_some, if◌then◌else◌, refl, sym, ap, ◌∙◌, ⊎_elim, arith, le-leb, append_assoc, append-nil}
+use Rattle.std.proofs.Common.{◌≡◌, ℕ, suc, ◌+◌, ◌-◌, ◌<◌, ◌≤◌, Bool, true, false, ◌||◌, ◌==◌, ◌⊎◌, inl, inr, List, [], ◌∷◌, ◌++◌, length, take, reverse, nat_le, Option, Some, None, is_some, if◌then◌else◌, refl, sym, ap, ◌∙◌, ⊎_elim, arith, le-leb, append_assoc, append-nil}
 use Rattle.std.specs.List.{fold, flat_map, find}
+use Rattle.std.specs.Prelude.{slice_get}
 use Rattle.std.specs.Option.{option_map, option_or, option_to_list, unwrap_or}
 use Rattle.std.proofs.Math.Seq.{take-nil}
-use Rattle.std.proofs.lemmas.Bool.{cases_lt, lt-leb}
+use Rattle.std.proofs.lemmas.Bool.{cases_eq, cases_lt, eq-eqb, lt-leb, ne_eqb, true≢false}
+use Rattle.std.proofs.lemmas.Grind.{flat_map-append}
 use Rattle.std.proofs.lemmas.List.{reverse-append}
 use Rattle.std.proofs.lemmas.List.Folds.{find-append}
 use Rattle.std.proofs.lemmas.List.Sums.{fold-append}
+use Rattle.std.proofs.lemmas.Option.{slice_get-get_or}
 use Rattle.im_versions.specs.declared.version.Version.{Version}
-use Rattle.im_versions.specs.Versions.{row_at}
+use Rattle.im_versions.specs.Versions.{latest, row_at}
 use Rattle.im_versions.proofs.ForCallers.{row_at-push, latest-push}
 use Rattle.im_history.specs.declared.change.Change.{Change}
 use Rattle.im_history.specs.Rows.{Row, row_after}
 use Rattle.im_history.specs.Touched.{is_to, touches}
+use Rattle.im_history.specs.Puts.{put_from}
+use Rattle.im_blocks.specs.declared.ready.Ready.{Ready}
 use Rattle.im_blocks.specs.Chains.{newest_scn}
+use Rattle.im_blocks.specs.Readied.{changes_of, ready_changes}
+use Rattle.im_blocks.specs.Runs.{in_rows, is_in}
+use Rattle.im_blocks.proofs.RunLemmas.{in_rows-below, in_rows-from, in_rows-next, not_in_none}
 use Rattle.im_blocks.specs.VersionsOf.{last_change, version_by, versions_from}
 
 -- a change, where it is to the row
@@ -136,3 +144,104 @@ pub newest_scn-version_by : (versions : List Version) (scn : ℕ) (changes : Lis
 newest_scn-version_by versions scn changes table rid =
     newest_scn-version_of versions scn (last_change changes table rid)
     ∙ ap (λ (b : Bool). if b then scn else newest_scn versions) (sym (touches_last changes table rid))
+
+-- ---- changes that are ready
+
+pub ready_changes-push : (ready : List Ready) (one : Ready) → ready_changes (ready ++ one ∷ []) ≡ ready_changes ready ++ changes_of one
+ready_changes-push ready one =
+    flat_map-append changes_of ready (one ∷ []) ∙ ap (λ (last : List Change). ready_changes ready ++ last) (append-nil (changes_of one))
+
+-- the last change to a row is one of the later ones, or else of the first
+pub last_change-append : (first later : List Change) (table rid : ℕ) →
+    last_change (first ++ later) table rid ≡ option_or (last_change later table rid) (last_change first table rid)
+last_change-append first later table rid =
+    ap (find (is_to table rid)) (reverse-append first later) ∙ find-append (is_to table rid) (reverse later) (reverse first)
+
+pub or_none : (o : Option Change) → option_or o None ≡ o
+or_none None = refl
+or_none (Some x) = refl
+
+at_or_past : (first r : ℕ) → first ≤ r → (r ≡ first) ⊎ (first < r)
+at_or_past first r from =
+    ⊎_elim (λ (is : r ≡ first). inl is) (λ (no : r ≡ first → ⊥). inr (omega (arith, from, no))) (cases_eq r first)
+
+either_table : (table t : ℕ) → (table ≡ t → ⊥) ⊎ (table ≡ t)
+either_table table t = ⊎_elim (λ (is : table ≡ t). inr is) (λ (no : table ≡ t → ⊥). inl no) (cases_eq table t)
+
+-- the change that puts the row of a row number
+abbrev pub put_of : ℕ → ℕ → List Row → ℕ → Change
+put_of table first rows rid = record { table = table; rid = rid; row = slice_get rows (rid - first) }
+
+abbrev put_where : ℕ → ℕ → List Row → ℕ → ℕ → Option Change
+put_where table first rows t r = if is_in table first (length rows) t r then Some (put_of table first rows r) else None
+
+none_either : (b : Bool) (o : Option Change) → b ≡ false → (if b then o else None) ≡ None
+none_either false o is = refl
+none_either true o is = absurd (true≢false is)
+
+some_either : (b : Bool) (o : Option Change) → b ≡ true → (if b then o else None) ≡ o
+some_either true o is = refl
+some_either false o is = absurd (true≢false (sym is))
+
+-- of rows that are put at row numbers in a row each row number has its own
+pub last_change-put_from : (table first : ℕ) (rows : List Row) (t r : ℕ) → last_change (put_from table first rows) t r ≡ put_where table first rows t r
+last_change-put_from table first [] t r =
+    let none : is_in table first 0 t r ≡ false = not_in_none table first t r in
+    sym (none_either (is_in table first 0 t r) (Some (put_of table first [] r)) none)
+last_change-put_from table first (row ∷ rows) t r =
+    let change : Change = record { table = table; rid = first; row = Some row } in
+    last_change-cons change (put_from table (first + 1) rows) t r
+    ∙ (ap (λ (o : Option Change). option_or o (where_to t r change)) (last_change-put_from table (first + 1) rows t r)
+    ∙ ⊎_elim
+    (λ (other : table ≡ t → ⊥). elsewhere (ne_eqb table t other))
+    (λ (same : (table ≡ t)). ⊎_elim
+    (λ (below : r < first). before same below)
+    (λ (from : first ≤ r). ⊎_elim (λ (is : r ≡ first). here same is) (λ (later : first < r). behind same later) (at_or_past first r from))
+    (cases_lt r first))
+    (either_table table t))
+  where
+    n : ℕ
+    n = length rows
+
+    elsewhere : (table == t) ≡ false →
+        option_or (put_where table (first + 1) rows t r) (where_to t r (record { table = table; rid = first; row = Some row })) ≡ put_where table first (row ∷ rows) t r
+    elsewhere off = rw off refl
+
+    before : table ≡ t → r < first →
+        option_or (put_where table (first + 1) rows t r) (where_to t r (record { table = table; rid = first; row = Some row })) ≡ put_where table first (row ∷ rows) t r
+    before same below =
+        let one : in_rows (first + 1) n r ≡ false = in_rows-below (first + 1) n r (omega (arith, below)) in
+        let two : in_rows first (suc n) r ≡ false = in_rows-below first (suc n) r below in
+        let three : (first == r) ≡ false = ne_eqb first r (λ e. omega (arith, e, below)) in
+        let four : (table == t) ≡ true = eq-eqb table t same in
+        rw (four, one, two, three) refl
+
+    here : table ≡ t → r ≡ first →
+        option_or (put_where table (first + 1) rows t r) (where_to t r (record { table = table; rid = first; row = Some row })) ≡ put_where table first (row ∷ rows) t r
+    here same is =
+        let one : in_rows (first + 1) n r ≡ false = in_rows-below (first + 1) n r (omega (arith, is)) in
+        let two : in_rows first (suc n) r ≡ true = in_rows-from first (suc n) r (omega (arith, is)) (omega (arith, is)) in
+        let three : (first == r) ≡ true = eq-eqb first r (sym is) in
+        let four : (table == t) ≡ true = eq-eqb table t same in
+        let none : r - first ≡ 0 = omega (arith, is) in
+        rw (four, one, two, three, none) (ap (λ (k : ℕ). Some (record { table = table; rid = k; row = Some row })) (sym is))
+
+    behind : table ≡ t → first < r →
+        option_or (put_where table (first + 1) rows t r) (where_to t r (record { table = table; rid = first; row = Some row })) ≡ put_where table first (row ∷ rows) t r
+    behind same later =
+        let same_test : in_rows (first + 1) n r ≡ in_rows first (suc n) r = in_rows-next first n r later in
+        let three : (first == r) ≡ false = ne_eqb first r (λ e. omega (arith, e, later)) in
+        let four : (table == t) ≡ true = eq-eqb table t same in
+        let next : r - first ≡ suc (r - (first + 1)) = omega (arith, later) in
+        let row_is : slice_get rows (r - (first + 1)) ≡ slice_get (row ∷ rows) (r - first) = sym (ap (slice_get (row ∷ rows)) next) in
+        rw (four, three)
+        (or_none (if in_rows (first + 1) n r then Some (put_of table (first + 1) rows r) else None)
+        ∙ (ap (λ (b : Bool). if b then Some (put_of table (first + 1) rows r) else None) same_test
+        ∙ ap (λ (x : Option Row). if in_rows first (suc n) r then Some (record { table = table; rid = r; row = x }) else None) row_is))
+
+-- where there is no newest version there is none
+pub none_latest : (versions : List Version) → latest versions ≡ None → versions ≡ []
+none_latest [] none = refl
+none_latest (version ∷ versions) none =
+    let last = slice_get-get_or (version ∷ versions) (length (version ∷ versions) - 1) version (omega arith) in
+    absurd (true≢false (ap (λ (o : Option Version). is_some (option_map (λ (v : Version). v.scn) o)) (sym last) ∙ ap is_some none))

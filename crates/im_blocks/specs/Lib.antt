@@ -1,5 +1,6 @@
 pub mod Chains
 pub mod Kept
+pub mod Readied
 pub mod Runs
 pub mod Transitions
 pub mod VersionsOf

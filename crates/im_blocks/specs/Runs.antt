@@ -1,5 +1,5 @@
 -- The rows of a run, by row number.
-use Rattle.std.specs.Prelude.{◌≡◌, ℕ, ◌+◌, ◌-◌, ◌==◌, ◌&&◌, Bool, List, [], ◌∷◌, length, nat_le, nat_lt, slice_get}
+use Rattle.std.specs.Prelude.{ℕ, ◌-◌, ◌==◌, ◌&&◌, Bool, List, [], ◌∷◌, length, nat_le, nat_lt, slice_get}
 use Rattle.im_values.specs.declared.value.Value.{Value}
 use Rattle.im_versions.specs.declared.version.Version.{Version}
 use Rattle.im_blocks.specs.declared.run.Held.{Held}
@@ -15,20 +15,14 @@ rows_in (One row) = row ∷ []
 abbrev pub in_rows : ℕ → ℕ → ℕ → Bool
 in_rows first count rid = nat_le first rid && nat_lt (rid - first) count
 
+-- a row number of a table lies in so many of another from the first on
+abbrev pub is_in : ℕ → ℕ → ℕ → ℕ → ℕ → Bool
+is_in table first count t r = (table == t) && in_rows first count r
+
 -- a run has a row of this row number of a table
 abbrev pub holds : Run → ℕ → ℕ → Bool
-holds run table rid = (run.table == table) && in_rows run.first (length (rows_in run.rows)) rid
+holds run table rid = is_in run.table run.first (length (rows_in run.rows)) table rid
 
 -- the version that the commit of a run left of a row number in it
 abbrev pub version_in : Run → ℕ → Version
 version_in run rid = record { scn = run.scn; row = slice_get (rows_in run.rows) (rid - run.first) }
-
--- a run with one row more in front, of its own commit
-pub record IsLonger (old new : Run) (table rid scn : ℕ) (row : List Value) : Type 0 where
-  pub table_was : old.table ≡ table
-  pub table_is : new.table ≡ table
-  pub scn_was : old.scn ≡ scn
-  pub scn_is : new.scn ≡ scn
-  pub first_was : old.first ≡ rid + 1
-  pub first_is : new.first ≡ rid
-  pub rows_are : rows_in new.rows ≡ row ∷ rows_in old.rows

@@ -1,7 +1,6 @@
 -- What the calls do to all versions, row number by row number.
-use Rattle.std.specs.Prelude.{◌≡◌, ℕ, ◌<◌, ◌≤◌, Bool, List, ◌++◌, length}
-use Rattle.std.specs.List.{All}
-use Rattle.std.specs.Option.{is_some}
+use Rattle.std.specs.Prelude.{◌≡◌, ℕ, ◌<◌, ◌≤◌, Bool, List, ◌++◌}
+use Rattle.im_tables.specs.Table.{HasCell}
 use Rattle.im_history.specs.declared.change.Change.{Change}
 use Rattle.im_blocks.specs.Chains.{AllVersions, IsReady, versions_at, newest_scn}
 use Rattle.im_blocks.specs.VersionsOf.{version_by}
@@ -10,12 +9,8 @@ use Rattle.im_blocks.specs.VersionsOf.{version_by}
 pub record SameVersions (old new : AllVersions) : Type 0 where
   pub versions : (table rid : ℕ) → versions_at new table rid ≡ versions_at old table rid
   pub ready : (table rid : ℕ) (put : Bool) → IsReady old table rid put → IsReady new table rid put
+  pub cells : (table rid : ℕ) → HasCell old.slots table rid → HasCell new.slots table rid
   pub room : old.room ≤ new.room
-
--- each change has room for a version at its row
-pub record HasRoom (blocks : AllVersions) (changes : List Change) : Type 0 where
-  pub each : All (λ change. IsReady blocks change.table change.rid (is_some change.row)) changes
-  pub runs : length changes ≤ blocks.room
 
 -- the newest version of each row is of an earlier commit than this one
 pub record IsBefore (blocks : AllVersions) (scn : ℕ) : Type 0 where

@@ -1,2 +1,5 @@
 pub mod Handing
 pub mod Puts
+pub mod Readying
+pub mod Reading
+pub mod Seen

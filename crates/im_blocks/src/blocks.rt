@@ -1,23 +1,31 @@
-ghost use Rattle.std.specs.Prelude.{◌≡◌, ◌==◌, ◌+◌, ◌^◌, ◌<◌, ◌≤◌, [], length, is_some, option_copied, IfOk, OnOk};
+ghost use Rattle.std.specs.Prelude.{◌≡◌, ◌==◌, ◌+◌, ◌^◌, ◌<◌, ◌≤◌, [], ◌∷◌, All, true, length, is_some, option_copied, IfOk, OnOk};
 ghost use Rattle.im_blocks.specs.declared.slot.Slot.TheVariants as slots;
 ghost use Rattle.im_tables.specs.Table.{HasCell};
 ghost use Rattle.im_versions.specs.Versions.{row_at};
 ghost use Rattle.im_blocks.specs.Chains as seen;
-ghost use Rattle.im_blocks.specs.Chains.{IsReady, newest_scn, rows_among, rows_at, versions_at};
-ghost use Rattle.im_blocks.specs.inner.Handing.{MayTake, HasTaken};
-ghost use Rattle.im_blocks.specs.Transitions.{SameVersions, HasRoom, IsBefore, Applied};
+ghost use Rattle.im_blocks.specs.Chains.{IsReady, newest_scn, versions_at};
+ghost use Rattle.im_blocks.specs.Readied.{HasPlace, HasRoom, IsFree, IsReadyFor, ready_changes};
+ghost use Rattle.im_blocks.specs.Runs.{rows_in};
+ghost use Rattle.im_blocks.specs.Transitions.{SameVersions, IsBefore, Applied};
+ghost use Rattle.im_blocks.specs.inner.Handing.{MayTake, MayTakeRun, HasTaken, HasTakenRun};
+ghost use Rattle.im_blocks.specs.inner.Readying.{AreReady};
+ghost use Rattle.im_history.specs.Puts.{all_changes, put_from};
 
+use crate::entering::enter;
+use crate::ready::Ready;
 use crate::run::Run;
 use crate::slot::Slot;
 use crate::touched::Touched;
 use crate::{chains, runs};
-use im_history::Change;
+use im_history::{Change, Changes, LentPut};
 use im_tables::Cells;
-use im_values::{NoMemory, Row, Steps, Value};
+use im_values::{NoMemory, Row, Rows, Steps, Value};
 use im_versions::Chain;
 use std::alloc::Global;
 use std::marker::Model;
 use std::sync::ledger::Ledger;
+
+mod extents;
 
 /// The most runs: their numbers have 32 bits.
 const MOST_RUNS: usize = 1 << 32;
@@ -25,7 +33,7 @@ const MOST_RUNS: usize = 1 << 32;
 /// The versions of every row of every table.
 ///
 /// Contracts see where the versions of each row number are kept, and read them through `versions_at`. A row number takes 8
-/// bytes. Rows that one commit put at row numbers in a row, out of one block, share a run of 64 bytes; a row that was
+/// bytes. Rows that one commit put together at row numbers in a row share a run of 64 bytes; a row that was
 /// touched again, or taken away, has a chain of 80 bytes.
 #[derive(Drop)]
 pub struct Blocks {
@@ -61,30 +69,38 @@ impl Blocks {
         }
     }
 
-    /// Makes room for a version of each row that the changes touch.
+    /// Makes the changes of these pieces ready to be put in, in order, and makes room for them.
     ///
-    /// It costs one look-up for each change, and the chains that are new. After an error some of them may be there.
-    pub fn reserve(&mut self, changes: &[Change]) -> Result<(), NoMemory>
+    /// Rows that are put together at row numbers that have no version stay together, and are shared. It costs one look-up for
+    /// each row number below those that were ever used, and for each other change; and the chains that are new. After an error
+    /// some room may be there.
+    pub fn reserve(&mut self, pieces: &[Changes]) -> Result<Vec<Ready>, NoMemory>
         ensures same { SameVersions self.old self.new }
-        ensures room { OnOk result (HasRoom self.new changes.now) }
+        ensures ready { IfOk result (λ ready. IsReadyFor self.new ready.items (all_changes pieces.now)) }
     {
-        self.reserve_runs(changes.len())?;
-        for change in changes {
-            self.reserve_row(change.table, change.rid, change.row.is_some())?;
+        let mut ready = Vec::with_capacity(self.alloc, pieces.len())?;
+        for piece in pieces {
+            self.reserve_piece(&mut ready, piece)?;
         }
-        Ok(())
+        self.reserve_runs(ready.len())?;
+        Ok(ready)
     }
 
     /// Puts the changes of the commit with this SCN in: each row that they touch has one version more, with what the last
     /// change to it left. It takes no memory.
-    pub fn apply(&mut self, scn: u64, changes: Vec<Change>)
-        requires room { HasRoom self.old changes.items }
+    pub fn apply(&mut self, scn: u64, ready: Vec<Ready>)
+        requires room { HasRoom self.old ready.items }
         requires later { IsBefore self.old scn }
-        ensures { Applied self.old self.new scn changes.items }
+        ensures { Applied self.old self.new scn (ready_changes ready.items) }
     {
-        let mut left = changes;
-        while let Some(change) = left.pop() {
-            self.put(scn, change);
+        let mut left = ready;
+        while let Some(last) = left.pop() {
+            match last {
+                Ready::Run { table, first, rows } => {
+                    self.put_run(Run::of_rows(table, first, scn, rows));
+                }
+                Ready::One(change) => self.put(scn, change),
+            }
         }
     }
 
@@ -113,29 +129,6 @@ impl Blocks {
         }
     }
 
-    /// A copy of the row of a row number at an SCN, or of none. It is at most one step.
-    fn copy_at<L: Ledger>(
-        &self,
-        table: u32,
-        rid: u64,
-        scn: u64,
-        steps: &mut Steps<L>,
-    ) -> Result<Option<Row>, NoMemory>
-        ensures row { IfOk result (λ row. row ≡ row_at (versions_at self.now table rid) scn) }
-        ensures few { steps.new ≤ steps.old + 1 }
-    {
-        match self.slot(table, rid) {
-            Slot::Empty => Ok(None),
-            Slot::InRun(number) => {
-                steps.tick();
-                runs::row_at(self.alloc, self.run(number, table, rid), rid, scn)
-            }
-            Slot::InChain(number) => {
-                chains::row_at(self.alloc, self.touched(number, table, rid), scn, steps)
-            }
-        }
-    }
-
     /// The SCN of the newest version of a row, 0 where it has none.
     pub fn latest(&self, table: u32, rid: u64) -> u64
         ensures { result ≡ newest_scn (versions_at self.now table rid) }
@@ -145,50 +138,6 @@ impl Blocks {
             Slot::InRun(number) => runs::newest(self.run(number, table, rid)),
             Slot::InChain(number) => chains::newest(self.touched(number, table, rid)),
         }
-    }
-
-    /// So many row numbers from the first on, each with a copy of its row at an SCN.
-    ///
-    /// It costs one look-up and at most one step for each, and the copies.
-    pub fn extent_rows<L: Ledger>(
-        &self,
-        alloc: Global,
-        table: u32,
-        first: u64,
-        count: u64,
-        scn: u64,
-        steps: &mut Steps<L>,
-    ) -> Result<Vec<(u64, Option<Row>)>, NoMemory>
-        requires { first + count < 2 ^ 64 }
-        ensures rows { IfOk result (λ rows. rows.items ≡ rows_at self.now table first count scn) }
-        ensures few { steps.new ≤ steps.old + count }
-    {
-        let mut rows = Vec::with_capacity(alloc, count as usize)?;
-        for rid in first..first + count {
-            rows.push((rid, self.copy_at(table, rid, scn, steps)?))?;
-        }
-        Ok(rows)
-    }
-
-    /// These row numbers, each with a copy of its row at an SCN.
-    ///
-    /// It costs one look-up and at most one step for each, and the copies.
-    pub fn rows_of<L: Ledger>(
-        &self,
-        alloc: Global,
-        table: u32,
-        rids: &[u64],
-        scn: u64,
-        steps: &mut Steps<L>,
-    ) -> Result<Vec<(u64, Option<Row>)>, NoMemory>
-        ensures rows { IfOk result (λ rows. rows.items ≡ rows_among self.now table rids.now scn) }
-        ensures few { steps.new ≤ steps.old + length rids.now }
-    {
-        let mut rows = Vec::with_capacity(alloc, rids.len())?;
-        for rid in rids {
-            rows.push((*rid, self.copy_at(table, *rid, scn, steps)?))?;
-        }
-        Ok(rows)
     }
 
     /// Where the versions of a row number are kept.
@@ -202,24 +151,14 @@ impl Blocks {
     fn run(&self, number: u32, table: u32, rid: u64) -> Option<&Run>
         ensures { option_copied result ≡ seen.run_at self.now.runs number table rid }
     {
-        let run = self.runs.get(number as usize)?;
-        if run.holds(table, rid) {
-            Some(run)
-        } else {
-            None
-        }
+        runs::at(&self.runs, number, table, rid)
     }
 
     /// The chain of a number, if it is that of the row number.
     fn touched(&self, number: u32, table: u32, rid: u64) -> Option<&Touched>
         ensures { option_copied result ≡ seen.chain_at self.now.chains number table rid }
     {
-        let touched = self.chains.get(number as usize)?;
-        if touched.table == table && touched.rid == rid {
-            Some(touched)
-        } else {
-            None
-        }
+        chains::at(&self.chains, number, table, rid)
     }
 
     /// Whether the chain of a number is that of the row number.
@@ -243,6 +182,112 @@ impl Blocks {
         self.runs.reserve(count)?;
         self.room = count;
         Ok(())
+    }
+
+    /// Makes the changes of a piece ready, behind others.
+    fn reserve_piece(&mut self, ready: &mut Vec<Ready>, piece: &Changes) -> Result<(), NoMemory>
+        requires { All (HasPlace self.old) ready.old.items }
+        ensures same { SameVersions self.old self.new }
+        ensures more { OnOk result (AreReady self.new ready.old.items ready.new.items piece.now) }
+    {
+        match piece.as_put() {
+            Some(put) => self.reserve_put(ready, piece, put),
+            None => self.reserve_each(ready, piece),
+        }
+    }
+
+    /// Makes the changes of a piece that puts rows ready.
+    fn reserve_put(
+        &mut self,
+        ready: &mut Vec<Ready>,
+        piece: &Changes,
+        put: LentPut,
+    ) -> Result<(), NoMemory>
+        requires each { All (HasPlace self.old) ready.old.items }
+        requires put { piece.now ≡ put_from put.table put.first put.rows.now }
+        requires numbers { put.first + length put.rows.now ≤ 2 ^ 63 }
+        ensures same { SameVersions self.old self.new }
+        ensures more { OnOk result (AreReady self.new ready.old.items ready.new.items piece.now) }
+    {
+        if put.rows.is_empty() {
+            return Ok(());
+        }
+        if !self.is_free(put.table, put.first, put.rows.len() as u64) {
+            return self.reserve_each(ready, piece);
+        }
+        self.reserve_run(ready, put.table, put.first, put.rows)
+    }
+
+    /// Makes rows at row numbers that have no version ready.
+    fn reserve_run(
+        &mut self,
+        ready: &mut Vec<Ready>,
+        table: u32,
+        first: u64,
+        rows: &Rows,
+    ) -> Result<(), NoMemory>
+        requires each { All (HasPlace self.old) ready.old.items }
+        requires some { 0 < length rows.now }
+        requires numbers { first + length rows.now ≤ 2 ^ 63 }
+        requires free { IsFree self.old table first (length rows.now) }
+        ensures same { SameVersions self.old self.new }
+        ensures more { OnOk result (AreReady self.new ready.old.items ready.new.items (put_from table first rows.now)) }
+    {
+        self.slots.reserve(table, first + (rows.len() as u64 - 1))?;
+        let rows = rows.share()?;
+        ready.push(Ready::Run { table, first, rows })?;
+        Ok(())
+    }
+
+    /// Makes the changes of a piece ready one by one.
+    fn reserve_each(&mut self, ready: &mut Vec<Ready>, piece: &Changes) -> Result<(), NoMemory>
+        requires { All (HasPlace self.old) ready.old.items }
+        ensures same { SameVersions self.old self.new }
+        ensures more { OnOk result (AreReady self.new ready.old.items ready.new.items piece.now) }
+    {
+        for place in 0..piece.len() {
+            let change = piece.change(self.alloc, place)?;
+            self.reserve_one(ready, change)?;
+        }
+        Ok(())
+    }
+
+    /// Makes a change ready, behind others.
+    fn reserve_one(&mut self, ready: &mut Vec<Ready>, change: Change) -> Result<(), NoMemory>
+        requires { All (HasPlace self.old) ready.old.items }
+        ensures same { SameVersions self.old self.new }
+        ensures more { OnOk result (AreReady self.new ready.old.items ready.new.items (change ∷ [])) }
+    {
+        self.reserve_row(change.table, change.rid, change.row.is_some())?;
+        ready.push(Ready::One(change))?;
+        Ok(())
+    }
+
+    /// Whether so many row numbers from the first on have no version. It costs a look at each that has a slot.
+    fn is_free(&self, table: u32, first: u64, count: u64) -> bool
+        requires { first + count ≤ 2 ^ 63 }
+        ensures { result ≡ true → IsFree self.now table first count }
+    {
+        if self.slots.count(table) <= first {
+            return true;
+        }
+        for rid in first..first + count {
+            if !self.has_none(table, rid) {
+                return false;
+            }
+        }
+        true
+    }
+
+    /// Whether a row number has no version.
+    fn has_none(&self, table: u32, rid: u64) -> bool
+        ensures { result ≡ true → versions_at self.now table rid ≡ [] }
+    {
+        match self.slot(table, rid) {
+            Slot::Empty => true,
+            Slot::InRun(number) => self.run(number, table, rid).is_none(),
+            Slot::InChain(number) => chains::are_empty(self.touched(number, table, rid)),
+        }
     }
 
     /// Makes a row number ready to take a row, if one is put, or that there is none then.
@@ -307,7 +352,7 @@ impl Blocks {
         }
         match self.slot(table, rid) {
             Slot::InChain(number) => self.chains[number as usize].take(scn, row),
-            _ => self.put_row(table, rid, scn, row.unwrap()),
+            _ => self.put_run(Run::of_row(table, rid, scn, row.unwrap())),
         }
     }
 
@@ -318,16 +363,14 @@ impl Blocks {
         self.latest(table, rid) == scn
     }
 
-    /// Puts a row at a row number that is blank.
-    fn put_row(&mut self, table: u32, rid: u64, scn: u64, row: Row)
-        requires there { HasCell self.old.slots table rid }
-        requires blank { seen.slot_at self.old table rid ≡ slots.Empty }
-        requires some { 0 < scn }
-        requires room { 0 < self.old.room }
-        ensures { HasTaken self.old self.new table rid scn (Some row) }
+    /// Puts a run in: its row numbers are read from it, all but those that have a version of its commit.
+    fn put_run(&mut self, run: Run)
+        requires { MayTakeRun self.old run.table run.first (length (rows_in run.rows)) run.scn }
+        ensures { HasTakenRun self.old self.new run.table run.first run.scn (rows_in run.rows) }
     {
-        let number = runs::put(&mut self.runs, table, rid, scn, row);
+        let number = self.runs.len() as u32;
+        enter(&mut self.slots, &self.runs, &self.chains, number, &run);
+        self.runs.push_reserved(run);
         self.room -= 1;
-        *self.slots.cell_mut(table, rid) = Slot::InRun(number);
     }
 }

@@ -1,6 +1,6 @@
-ghost use Rattle.std.specs.Prelude.{◌≡◌, ◌+◌, ◌∷◌, ◌<◌, ◌≤◌, ◌++◌, [], length, option_copied, IfOk, OnOk, OnErr};
+ghost use Rattle.std.specs.Prelude.{◌≡◌, ◌+◌, ◌∷◌, ◌<◌, ◌≤◌, ◌++◌, [], length, option_copied, true, IfOk, OnOk, OnErr};
 ghost use Rattle.im_versions.specs.Versions as versions;
-ghost use Rattle.im_blocks.specs.Chains.{chain_versions, newest_scn};
+ghost use Rattle.im_blocks.specs.Chains.{chain_at, chain_versions, newest_scn};
 ghost use Rattle.im_blocks.specs.inner.Puts.{IsChained};
 
 use crate::touched::Touched;
@@ -8,6 +8,18 @@ use im_values::{NoMemory, Row, Steps, Value, clone_row};
 use im_versions::Chain;
 use std::alloc::Global;
 use std::sync::ledger::Ledger;
+
+/// The chain of a number, if it is that of the row number.
+pub fn at(chains: &[Touched], number: u32, table: u32, rid: u64) -> Option<&Touched>
+    ensures { option_copied result ≡ chain_at chains.now number table rid }
+{
+    let touched = chains.get(number as usize)?;
+    if touched.table == table && touched.rid == rid {
+        Some(touched)
+    } else {
+        None
+    }
+}
 
 /// The values of a row number at an SCN, by its chain. It is one step at most.
 pub fn values_at<'a, L: Ledger>(
@@ -47,6 +59,16 @@ pub fn newest(touched: Option<&Touched>) -> u64
     match touched {
         Some(touched) => touched.chain.latest().unwrap_or(0),
         None => 0,
+    }
+}
+
+/// Whether a row number has no version, by its chain.
+pub fn are_empty(touched: Option<&Touched>) -> bool
+    ensures { result ≡ true → chain_versions (option_copied touched.entry) ≡ [] }
+{
+    match touched {
+        Some(touched) => touched.chain.latest().is_none(),
+        None => true,
     }
 }
 

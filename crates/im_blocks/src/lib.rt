@@ -2,8 +2,9 @@
 //!
 //! Contracts see [`Blocks`] as where the versions of each row number are kept, the runs and the chains, and read them through
 //! one function, `versions_at` of `specs/Chains.antt`, which answers none past the ends. So growth is never seen.
-//! [`Blocks::reserve`] makes room for the changes of a commit and [`Blocks::apply`] puts them in without taking memory;
-//! `specs/Transitions.antt` says what each does to the versions. [`Blocks::at`] is the row at an SCN.
+//! [`Blocks::reserve`] makes the changes of a commit [`Ready`], with room for each (`specs/Readied.antt`), and
+//! [`Blocks::apply`] puts them in without taking memory; `specs/Transitions.antt` says what each does to the versions.
+//! [`Blocks::at`] is the row at an SCN.
 //!
 //! The main promise is `IsKept` of `specs/Kept.antt`: where the blocks keep a history, the row at each SCN is the row
 //! committed at that SCN. `proofs/ForCallers.antt` has its law for each kind of entry.
@@ -13,9 +14,12 @@
 
 mod blocks;
 mod chains;
+mod entering;
+mod ready;
 mod run;
 mod runs;
 mod slot;
 mod touched;
 
 pub use blocks::Blocks;
+pub use ready::Ready;

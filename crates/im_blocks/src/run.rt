@@ -1,4 +1,4 @@
-ghost use Rattle.std.specs.Prelude.{◌≡◌, ◌+◌, ◌-◌, [], ◌∷◌, length, option_copied, slice_get, true, false, IfOk};
+ghost use Rattle.std.specs.Prelude.{◌≡◌, ◌-◌, [], ◌∷◌, length, option_copied, slice_get, IfOk};
 ghost use Rattle.im_blocks.specs.Runs as runs;
 
 use im_values::{NoMemory, Row, Rows, Value, clone_row};
@@ -15,7 +15,7 @@ pub enum Held {
 
 /// Rows that one commit put at row numbers of a table, from a first one on.
 ///
-/// A run takes 64 bytes beside its values. A row of it that another commit touches is read from a chain then.
+/// A run takes 64 bytes beside its rows. A row of it that another commit touches is read from a chain then.
 #[derive(Drop)]
 pub struct Run {
     /// The table's number.
@@ -38,7 +38,20 @@ impl Run {
             table,
             first: rid,
             scn,
-            rows: hold(row),
+            rows: Held::One(row),
+        }
+    }
+
+    /// A run of these rows. It takes no memory.
+    pub fn of_rows(table: u32, first: u64, scn: u64, rows: Rows) -> Run
+        ensures place { (result.table ≡ table) × (result.first ≡ first) × (result.scn ≡ scn) }
+        ensures rows { runs.rows_in result.rows ≡ rows }
+    {
+        Run {
+            table,
+            first,
+            scn,
+            rows: Held::Many(rows),
         }
     }
 
@@ -50,7 +63,7 @@ impl Run {
     }
 
     /// How many rows it has.
-    fn count(&self) -> u64
+    pub fn count(&self) -> u64
         ensures { result ≡ length (runs.rows_in self.now.rows) }
     {
         match &self.rows {
@@ -85,42 +98,5 @@ impl Run {
             Held::Many(rows) => Ok(Some(rows.row(at as usize)?)),
             Held::One(row) => Ok(Some(clone_row(alloc, row)?)),
         }
-    }
-
-    /// Takes a row in front, where it is the one before the first row in the table, in the commit and in the block, and tells
-    /// whether it is. It takes no memory.
-    pub fn take_before(&mut self, table: u32, rid: u64, scn: u64, row: &Row) -> bool
-        ensures taken { result ≡ true → runs.IsLonger self.old self.new table rid scn row.now }
-        ensures not { result ≡ false → self.new ≡ self.old }
-    {
-        if self.table != table || self.scn != scn || self.first == 0 || self.first - 1 != rid {
-            return false;
-        }
-        if !put_before(&mut self.rows, row) {
-            return false;
-        }
-        self.first = rid;
-        true
-    }
-}
-
-/// One row, held.
-fn hold(row: Row) -> Held
-    ensures { runs.rows_in result ≡ row ∷ [] }
-{
-    match Rows::of_row(row) {
-        Ok(rows) => Held::Many(rows),
-        Err(row) => Held::One(row),
-    }
-}
-
-/// Puts a row before others, where it stands right before them in their block.
-fn put_before(rows: &mut Held, row: &Row) -> bool
-    ensures put { result ≡ true → runs.rows_in rows.new ≡ row.now ∷ runs.rows_in rows.old }
-    ensures not { result ≡ false → rows.new ≡ rows.old }
-{
-    match rows {
-        Held::Many(rows) => rows.put_before(row),
-        Held::One(_) => false,
     }
 }

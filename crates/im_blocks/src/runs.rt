@@ -1,12 +1,47 @@
-ghost use Rattle.std.specs.Prelude.{◌≡◌, ◌+◌, ◌-◌, ◌^◌, ◌<◌, ◌≤◌, [], ◌∷◌, ℕ, length, option_copied, vec_len, vec_capacity, true, false, IfOk, Some};
+ghost use Rattle.std.specs.Prelude.{◌≡◌, ℕ, option_copied, IfOk, IfSome};
 ghost use Rattle.im_versions.specs.Versions as versions;
 ghost use Rattle.im_blocks.specs.Chains.{newest_scn, run_at, run_versions};
-ghost use Rattle.im_blocks.specs.inner.Puts.{IsLastLonger, IsPut};
+ghost use Rattle.im_blocks.specs.inner.Seen.{AreSeen};
 
-use crate::run::Run;
-use im_values::{NoMemory, Row, Value};
+use crate::run::{Held, Run};
+use im_values::{NoMemory, Row, Rows, Value};
 use im_versions::Chain;
 use std::alloc::Global;
+
+/// The run of a number, if it holds the row number.
+pub fn at(runs: &[Run], number: u32, table: u32, rid: u64) -> Option<&Run>
+    ensures { option_copied result ≡ run_at runs.now number table rid }
+{
+    let run = runs.get(number as usize)?;
+    if run.holds(table, rid) {
+        Some(run)
+    } else {
+        None
+    }
+}
+
+/// Rows of a run, lent.
+#[derive(Clone, Copy)]
+pub struct LentRows<'a> {
+    /// The row number of the first of them.
+    pub first: u64,
+    /// The rows.
+    pub rows: &'a Rows,
+}
+
+/// The rows of a run of many, where it is of a commit at or below an SCN.
+pub fn rows_seen(run: Option<&Run>, scn: u64) -> Option<LentRows<'_>>
+    ensures { IfSome result (λ lent. AreSeen (option_copied run.entry) lent.first lent.rows.now scn) }
+{
+    let run = run?;
+    match &run.rows {
+        Held::Many(rows) if run.scn <= scn => Some(LentRows {
+            first: run.first,
+            rows,
+        }),
+        _ => None,
+    }
+}
 
 /// The values of a row number at an SCN, by its run.
 pub fn values_at(run: Option<&Run>, rid: u64, scn: u64) -> Option<&[Value]>
@@ -50,35 +85,4 @@ pub fn chain_of(alloc: Global, run: Option<&Run>, rid: u64) -> Result<Chain, NoM
     chain.reserve()?;
     chain.push(run.scn, run.row(alloc, rid)?);
     Ok(chain)
-}
-
-/// Puts a row in: into the last run, or into one of its own. It answers the run's number, and takes no memory.
-pub fn put(runs: &mut Vec<Run>, table: u32, rid: u64, scn: u64, row: Row) -> u32
-    requires room { vec_len runs.old < vec_capacity runs.old }
-    requires few { vec_len runs.old < 2 ^ 32 }
-    ensures put { IsPut runs.old.items runs.new.items result table rid scn row }
-    ensures len { vec_len runs.new ≤ vec_len runs.old + 1 }
-    ensures capacity { vec_capacity runs.new ≡ vec_capacity runs.old }
-{
-    let last = runs.len().saturating_sub(1);
-    if put_into_last(runs, table, rid, scn, &row) {
-        return last as u32;
-    }
-    let number = runs.len() as u32;
-    runs.push_reserved(Run::of_row(table, rid, scn, row));
-    number
-}
-
-/// Puts a row before those of the last run, where it belongs there, and tells whether it does.
-fn put_into_last(runs: &mut Vec<Run>, table: u32, rid: u64, scn: u64, row: &Row) -> bool
-    ensures put { result ≡ true → IsLastLonger runs.old.items runs.new.items table rid scn row.now }
-    ensures not { result ≡ false → runs.new.items ≡ runs.old.items }
-    ensures len { vec_len runs.new ≡ vec_len runs.old }
-    ensures capacity { vec_capacity runs.new ≡ vec_capacity runs.old }
-{
-    let len = runs.len();
-    if len == 0 {
-        return false;
-    }
-    runs[len - 1].take_before(table, rid, scn, row)
 }

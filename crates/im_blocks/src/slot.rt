@@ -1,4 +1,4 @@
-ghost use Rattle.std.specs.Prelude.{◌≡◌};
+ghost use Rattle.std.specs.Prelude.{◌≡◌, true};
 ghost use Rattle.im_blocks.specs.declared.slot.Slot.TheVariants as slot;
 
 use im_tables::Cell;
@@ -20,5 +20,17 @@ impl Cell for Slot {
 
     fn empty(_alloc: Global) -> Slot {
         Slot::Empty
+    }
+}
+
+impl Slot {
+    /// Whether it is in the run of this number.
+    pub fn is_in(&self, number: u32) -> bool
+        ensures { result ≡ true → self.now ≡ slot.InRun number }
+    {
+        match self {
+            Slot::InRun(own) => *own == number,
+            Slot::Empty | Slot::InChain(_) => false,
+        }
     }
 }

@@ -1,16 +1,14 @@
 -- Masks of a column, by its form.
-use Rattle.std.proofs.Common.{◌≡◌, ℕ, ◌+◌, ◌-◌, ◌*◌, ◌<◌, ◌≤◌, min, replicate, Bool, true, false, cond, List, [], ◌∷◌, ◌++◌, length, take, drop, map, get_or, All, ⊎_elim, sym, refl, ap, subst, ◌∙◌, arith, length-append, length-drop, get_or-drop}
+use Rattle.std.proofs.Common.{◌≡◌, ℕ, ◌+◌, ◌-◌, ◌*◌, ◌<◌, ◌≤◌, min, replicate, Bool, true, false, cond, List, [], ◌∷◌, ◌++◌, length, take, drop, map, get_or, ⊎_elim, sym, refl, ap, subst, ◌∙◌, arith, length-append, length-drop, get_or-drop}
 use Rattle.std.proofs.lemmas.Bool.{cases_lt, cases_Bool, lt-leb, le-leb, lt-ltb, le-ltb}
 use Rattle.std.proofs.lemmas.List.{length-replicate, length-map, get_or-map, get_or_read, map_more, take_all, take_rest, take-map, drop-map, drop-drop, drop_at, drop_more, drop_all, get_or_append_left, get_or-replicate, get_or_past, get_or_default, same_lists}
-use Rattle.std.proofs.lemmas.List.Elements.{All-head, All-tail}
 use Rattle.im_values.specs.declared.value.Value.{Value}
 use Rattle.im_values.specs.declared.value.Value.TheVariants.{Null}
-use Rattle.im_codes.specs.Dictionary.{values_at}
 use Rattle.im_codes.specs.declared.run.Run.{Run}
 use Rattle.im_codes.specs.Runs.{codes_from, AreFull}
 use Rattle.im_lanes.specs.Masks.{word_at, word_of, filled}
 use Rattle.im_lanes.proofs.ForCallers.{length-filled, get_or-filled}
-use Rattle.im_codepred.specs.inner.Walk.{AreWalked}
+use Rattle.im_codepred.specs.inner.Walk.{AreLeft, AreWalked}
 
 -- one flag more
 pub flags-more : (p : Value → Bool) (dict : List Value) (i : ℕ) (value : Value) (flags : List Bool) (flag : Bool) → i < length dict → value ≡ get_or dict i value →
@@ -21,20 +19,6 @@ flags-more p dict i value flags flag inside read is so_far =
 
 pub flags-all : (p : Value → Bool) (dict : List Value) (i : ℕ) (flags : List Bool) → length dict ≤ i → flags ≡ p Null ∷ map p (take i dict) → flags ≡ map p (Null ∷ dict)
 flags-all p dict i flags over so_far = so_far ∙ ap (λ l. p Null ∷ map p l) (take_all i dict over)
-
--- the flags of codes are those of their values
-pub flags-of-codes : (p : Value → Bool) (values : List Value) (flags : List Bool) (codes : List ℕ) → flags ≡ map p values → All (λ code. code < length values) codes →
-    map (λ code. get_or flags code false) codes ≡ map p (values_at values codes)
-flags-of-codes p values flags [] are inside = refl
-flags-of-codes p values flags (code ∷ codes) are inside =
-    let here = All-head (λ c. c < length values) code codes inside in
-    let rest = flags-of-codes p values flags codes are (All-tail (λ c. c < length values) code codes inside) in
-    let one : get_or flags code false ≡ p (get_or values code Null) = ap (λ l. get_or l code false) are ∙ get_or-map p values code Null false here in
-    rw (one, rest) refl
-
-pub flags-enough : (p : Value → Bool) (values : List Value) (flags : List Bool) (codes : List ℕ) → flags ≡ map p values → All (λ code. code < length values) codes →
-    All (λ code. code < length flags) codes
-flags-enough p values flags codes are inside = let long : length flags ≡ length values = ap length are ∙ length-map values p in rw long inside
 
 -- the values that a word is made of
 pub share-is : (values : List Value) (at end : ℕ) → end ≡ min (length values) (at + 64) → take (end - at) (drop at values) ≡ take 64 (drop at values)
@@ -55,12 +39,13 @@ word-of-share p values part place word are is =
 
 -- ---- runs
 
+pub left-begin : (codes : List ℕ) (runs : List Run) → codes_from 0 runs ≡ codes → AreFull 0 runs → AreLeft codes runs 0
+left-begin codes runs are full = record { left = sym are; full = full; inside = omega arith }
+
 pub walk-begin : (chosen : ℕ → Bool) (codes : List ℕ) (runs : List Run) (n : ℕ) (mask : List Bool) → codes_from 0 runs ≡ codes → AreFull 0 runs → n ≡ length codes →
     mask ≡ replicate n false → AreWalked chosen codes runs 0 mask
 walk-begin chosen codes runs n mask are full long is = record {
-  left = sym are;
-  full = full;
-  inside = omega arith;
+  at = left-begin codes runs are full;
   size = ap length is ∙ (length-replicate n false ∙ long);
   done = λ k below. absurd (omega (arith, below));
   later = λ k from.
@@ -75,9 +60,8 @@ pub record RunFits (codes : List ℕ) (begin : ℕ) (run : Run) : Type 0 where
   pub inside : run.end ≤ length codes
   pub same : (k : ℕ) → begin ≤ k → k < run.end → get_or codes k 0 ≡ run.code
 
-pub run-fits : (chosen : ℕ → Bool) (codes : List ℕ) (run : Run) (runs : List Run) (begin : ℕ) (mask : List Bool) → AreWalked chosen codes (run ∷ runs) begin mask →
-    RunFits codes begin run
-run-fits chosen codes run runs begin mask walked =
+pub run-fits : (codes : List ℕ) (run : Run) (runs : List Run) (begin : ℕ) → AreLeft codes (run ∷ runs) begin → RunFits codes begin run
+run-fits codes run runs begin walked =
     let some : begin < run.end = walked.full.0 in
     let part = replicate (run.end - begin) run.code in
     let size = length-replicate (run.end - begin) run.code in
@@ -93,23 +77,28 @@ run-fits chosen codes run runs begin mask walked =
           ∙ (get_or_append_left part (codes_from run.end runs) 0 (k - begin) (omega (arith, size, low)) ∙ get_or-replicate (run.end - begin) (k - begin) run.code 0 low)));
     }
 
-pub run-left : (chosen : ℕ → Bool) (codes : List ℕ) (run : Run) (runs : List Run) (begin : ℕ) (mask : List Bool) → AreWalked chosen codes (run ∷ runs) begin mask →
-    drop run.end codes ≡ codes_from run.end runs
-run-left chosen codes run runs begin mask walked =
-    let fits = run-fits chosen codes run runs begin mask walked in
+run-left : (codes : List ℕ) (run : Run) (runs : List Run) (begin : ℕ) → AreLeft codes (run ∷ runs) begin → drop run.end codes ≡ codes_from run.end runs
+run-left codes run runs begin walked =
+    let fits = run-fits codes run runs begin walked in
     let end : begin + (run.end - begin) ≡ run.end = omega (arith, fits.some) in
     ap (λ n. drop n codes) (sym end) ∙ (sym (drop-drop (run.end - begin) begin codes) ∙ (ap (drop (run.end - begin)) walked.left
     ∙ drop_at (replicate (run.end - begin) run.code) (codes_from run.end runs) (run.end - begin) (length-replicate (run.end - begin) run.code)))
+
+-- the runs behind the first
+pub left-next : (codes : List ℕ) (run : Run) (runs : List Run) (begin : ℕ) → AreLeft codes (run ∷ runs) begin → AreLeft codes runs run.end
+left-next codes run runs begin walked = record {
+  left = run-left codes run runs begin walked;
+  full = walked.full.1;
+  inside = (run-fits codes run runs begin walked).inside;
+}
 
 -- a run that is not chosen
 pub walk-past : (chosen : ℕ → Bool) (codes : List ℕ) (run : Run) (runs : List Run) (begin : ℕ) (mask : List Bool) → AreWalked chosen codes (run ∷ runs) begin mask →
     chosen run.code ≡ false → AreWalked chosen codes runs run.end mask
 walk-past chosen codes run runs begin mask walked no_one =
-    let fits = run-fits chosen codes run runs begin mask walked in
+    let fits = run-fits codes run runs begin walked.at in
     record {
-      left = run-left chosen codes run runs begin mask walked;
-      full = walked.full.1;
-      inside = fits.inside;
+      at = left-next codes run runs begin walked.at;
       size = walked.size;
       done = λ k below.
           ⊎_elim (λ (h : k < begin). walked.done k h)
@@ -122,13 +111,11 @@ walk-past chosen codes run runs begin mask walked no_one =
 pub walk-chosen : (chosen : ℕ → Bool) (codes : List ℕ) (run : Run) (runs : List Run) (begin : ℕ) (mask : List Bool) → AreWalked chosen codes (run ∷ runs) begin mask →
     chosen run.code ≡ true → AreWalked chosen codes runs run.end (filled begin run.end mask)
 walk-chosen chosen codes run runs begin mask walked each =
-    let fits = run-fits chosen codes run runs begin mask walked in
+    let fits = run-fits codes run runs begin walked.at in
     let order : begin ≤ run.end = omega (arith, fits.some) in
     let within : run.end ≤ length mask = omega (arith, fits.inside, walked.size) in
     record {
-      left = run-left chosen codes run runs begin mask walked;
-      full = walked.full.1;
-      inside = fits.inside;
+      at = left-next codes run runs begin walked.at;
       size = length-filled begin run.end mask order within ∙ walked.size;
       done = λ k below.
           get_or-filled begin run.end k mask order within
@@ -159,8 +146,8 @@ walk-next chosen codes runs i begin d mask inside walked =
 pub walk-end : (chosen : ℕ → Bool) (codes : List ℕ) (runs : List Run) (i begin : ℕ) (mask : List Bool) → length runs ≤ i →
     AreWalked chosen codes (drop i runs) begin mask → mask ≡ map chosen codes
 walk-end chosen codes runs i begin mask over walked =
-    let none = walked.left ∙ ap (codes_from begin) (drop_all i runs over) in
+    let none = walked.at.left ∙ ap (codes_from begin) (drop_all i runs over) in
     let all : length codes ≤ begin = omega (arith, ap length none, length-drop begin codes) in
     same_lists mask (map chosen codes) (walked.size ∙ sym (length-map codes chosen)) (λ k d h.
     let low : k < length codes = omega (arith, walked.size, h) in
-    get_or_default mask k d false h ∙ (walked.done k (omega (arith, all, low, walked.inside, h)) ∙ sym (get_or-map chosen codes k 0 d low)))
+    get_or_default mask k d false h ∙ (walked.done k (omega (arith, all, low, walked.at.inside, h)) ∙ sym (get_or-map chosen codes k 0 d low)))

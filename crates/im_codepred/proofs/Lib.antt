@@ -1,2 +1,10 @@
+mod BitsLemmas
 mod FormLemmas
+mod FoundLemmas
+mod GatherLemmas
+mod RowLemmas
 mod SelectionLemmas
+mod SpanLemmas
+mod TallyLemmas
+mod WholeLemmas
+mod CountLemmas

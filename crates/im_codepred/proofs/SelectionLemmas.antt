@@ -1,16 +1,14 @@
--- What is wanted of NOT, AND and OR, and the rows of columns.
-use Rattle.std.proofs.Common.{◌≡◌, ℕ, zero, suc, ◌+◌, ◌<◌, ◌≤◌, ◌&&◌, ◌||◌, Bool, true, false, List, [], ◌∷◌, length, map, drop, get_or, replicate, ap, sym, subst, refl, ◌∙◌, arith}
+-- What is wanted of NOT, AND and OR, and the rows that are asked.
+use Rattle.std.proofs.Common.{◌≡◌, ℕ, zero, suc, ◌+◌, ◌<◌, ◌≤◌, ◌&&◌, ◌||◌, Bool, true, false, List, [], ◌∷◌, All, length, map, drop, get_or, replicate, ap, sym, subst, refl, ◌∙◌, arith}
 use Rattle.std.specs.List.{range_with_len}
-use Rattle.std.proofs.lemmas.List.{length-map, get_or-map, get_or-replicate, length-replicate, drop_all, drop_more}
+use Rattle.std.proofs.lemmas.List.{length-map, get_or-map, get_or-replicate, length-replicate, drop_all, drop_more, get_or_default}
 use Rattle.std.proofs.lemmas.List.FromFn.{length-map-range_with_len, get_or-map-range_with_len, fill_by_all}
-use Rattle.im_values.specs.declared.comparison.Cmp.{Cmp}
 use Rattle.im_values.specs.declared.truth.Truth.{Truth}
 use Rattle.im_values.specs.declared.truth.Truth.TheVariants.{Yes, No, Unknown}
 use Rattle.im_values.specs.declared.value.Value.{Value}
 use Rattle.im_values.specs.declared.value.Value.TheVariants.{Null}
-use Rattle.im_values.specs.Order.{compare}
 use Rattle.im_values.specs.Truth as truth
-use Rattle.im_syntax.specs.Condition.{TermOf, comparison, null_test, between, within, ConjOf, conj_of, cond_of, and_term, or_conj}
+use Rattle.im_syntax.specs.Condition.{TermOf, null_test, between, within, ConjOf, conj_of, cond_of, and_term, or_conj}
 use Rattle.im_syntax.specs.BoundFits.{value_at, TestFits, TestsFit, FilterFits}
 use Rattle.im_eval.specs.Holds.{with_not, null_truth, between_truth, within_truth, truth_of_test, truth_of_tests, truth_of}
 use Rattle.im_lanes.specs.Masks.{joined}
@@ -18,8 +16,11 @@ use Rattle.im_lanes.proofs.ForCallers.{length-joined, get_or-joined}
 use Rattle.im_codepred.specs.declared.asked.Wanted.{Wanted}
 use Rattle.im_codepred.specs.declared.asked.Wanted.TheVariants.{Held, Failed}
 use Rattle.im_codepred.specs.Asked.{met, swapped, turned}
-use Rattle.im_codepred.specs.Selection.{AreLong, row_at, rows_met}
+use Rattle.im_codepred.specs.declared.slab.Slab.{Slab}
+use Rattle.im_codepred.specs.Selection.{AreLong, row_at}
 use Rattle.im_codepred.specs.inner.Parts.{part, AreJoined}
+use Rattle.im_codepred.specs.inner.Slabs.{count_of, row_of, passing}
+use Rattle.im_codepred.proofs.RowLemmas.{map_all}
 
 -- NOT swaps what is wanted
 pub met-negated : (w : Wanted) (t : Truth) → met w (truth.negated t) ≡ met (swapped w) t
@@ -171,60 +172,53 @@ tests-fit row [] k tests inside read fits = absurd (omega (arith, inside))
 tests-fit row (c ∷ cs) zero tests inside read fits = subst (TestsFit row) (sym read) fits.0
 tests-fit row (c ∷ cs) (suc k) tests inside read fits = tests-fit row cs k tests (omega (arith, inside)) read fits.1
 
--- ---- the rows of columns
+-- ---- the rows that are asked
+
+-- two tests that say the same of each row
+passing-same : (p q : List Value → Bool) (slab : Slab) → ((row : List Value) → p row ≡ q row) → passing p slab ≡ passing q slab
+passing-same p q slab same =
+    map_all (λ i. p (row_of slab i)) (λ i. q (row_of slab i)) (range_with_len 0 (count_of slab)) (λ i. same (row_of slab i))
 
 -- a test of one column, asked of the column and of the rows
-pub ask-rows : (p : Value → Bool) (q : List Value → Bool) (columns : List (List Value)) (column n : ℕ) → column < length columns → AreLong columns n →
-    ((row : List Value) → q row ≡ p (value_at row column)) →
-    map p (get_or columns column []) ≡ map (λ i. q (row_at columns i)) (range_with_len 0 n)
-ask-rows p q columns column n inside long same =
+pub ask-columns : (p : Value → Bool) (columns : List (List Value)) (column n : ℕ) → column < length (row_at columns 0) → AreLong columns n →
+    map p (get_or columns column []) ≡ map (λ i. p (value_at (row_at columns i) column)) (range_with_len 0 n)
+ask-columns p columns column n below long =
+    let inside : column < length columns = omega (arith, length-map columns (λ c. get_or c 0 Null), below) in
     let values = get_or columns column [] in
     let size : length values ≡ n = long column [] inside in
-    fill_by_all (λ i. q (row_at columns i)) (map p values) n false (length-map values p ∙ size) (λ i h.
-    get_or-map p values i Null false (omega (arith, size, h))
-    ∙ (ap p (sym (get_or-map (λ c. get_or c i Null) columns column [] Null inside)) ∙ sym (same (row_at columns i))))
+    fill_by_all (λ i. p (value_at (row_at columns i) column)) (map p values) n false (length-map values p ∙ size) (λ i h.
+    get_or-map p values i Null false (omega (arith, size, h)) ∙ ap p (sym (get_or-map (λ c. get_or c i Null) columns column [] Null inside)))
 
--- the same with a NOT that may be written
-not-rows : (w asked : Wanted) (negated : Bool) (truth : Value → Truth) (columns : List (List Value)) (column n : ℕ) → column < length columns →
-    AreLong columns n → asked ≡ turned negated w →
-    map (λ v. met asked (truth v)) (get_or columns column []) ≡ rows_met w (λ row. with_not negated (truth (value_at row column))) columns n
-not-rows w asked negated truth columns column n inside long turns =
-    ask-rows (λ v. met asked (truth v)) (λ row. met w (with_not negated (truth (value_at row column)))) columns column n inside long
-    (λ row. met-with_not negated w (truth (value_at row column)) ∙ ap (λ a. met a (truth (value_at row column))) (sym turns))
+-- and of a run
+pub ask-run : (q : List Value → Bool) (rows : List (List Value)) → map q rows ≡ map (λ i. q (get_or rows i [])) (range_with_len 0 (length rows))
+ask-run q rows = fill_by_all (λ i. q (get_or rows i [])) (map q rows) (length rows) false (length-map rows q) (λ i h. get_or-map q rows i [] false h)
 
--- the column of a test that fits a row stands in the columns
-column-inside : (columns : List (List Value)) (column i : ℕ) → column < length (row_at columns i) → column < length columns
-column-inside columns column i inside = omega (arith, length-map columns (λ c. get_or c i Null), inside)
+-- a fact of each row of a run, by its position
+pub each-row : (P : List Value → Type 0) (rows : List (List Value)) → ((i : ℕ) → i < length rows → P (get_or rows i [])) → All P rows
+each-row P rows each = λ i d inside. subst P (get_or_default rows i [] d inside) (each i inside)
 
--- each test of a column
-pub compare-rows : (w : Wanted) (test : TermOf ℕ Value) (columns : List (List Value)) (column : ℕ) (cmp : Cmp) (other : Value) (n : ℕ) →
-    comparison column cmp other ≡ test → TestFits (row_at columns 0) test → AreLong columns n →
-    map (λ v. met w (compare v cmp other)) (get_or columns column []) ≡ rows_met w (truth_of_test test) columns n
-compare-rows w test columns column cmp other n is fits long =
-    let inside = column-inside columns column 0 (subst (TestFits (row_at columns 0)) (sym is) fits).0 in
-    let asked : Value → Truth = λ v. compare v cmp other in
-    ask-rows (λ v. met w (asked v)) (λ row. met w (asked (value_at row column))) columns column n inside long (λ row. refl)
-    ∙ ap (λ t. rows_met w (truth_of_test t) columns n) is
+-- ---- each test of a column
 
-pub null-rows : (w asked : Wanted) (test : TermOf ℕ Value) (columns : List (List Value)) (column : ℕ) (negated : Bool) (n : ℕ) →
-    null_test column negated ≡ test → TestFits (row_at columns 0) test → AreLong columns n → asked ≡ turned negated w →
-    map (λ v. met asked (null_truth v)) (get_or columns column []) ≡ rows_met w (truth_of_test test) columns n
-null-rows w asked test columns column negated n is fits long turns =
-    let inside = column-inside columns column 0 (subst (TestFits (row_at columns 0)) (sym is) fits) in
-    not-rows w asked negated null_truth columns column n inside long turns ∙ ap (λ t. rows_met w (truth_of_test t) columns n) is
+-- what may be written behind NOT
+not-passes : (w asked : Wanted) (negated : Bool) (truth : Value → Truth) (slab : Slab) (column : ℕ) → asked ≡ turned negated w →
+    passing (λ row. met asked (truth (value_at row column))) slab ≡ passing (λ row. met w (with_not negated (truth (value_at row column)))) slab
+not-passes w asked negated truth slab column turns =
+    passing-same (λ row. met asked (truth (value_at row column))) (λ row. met w (with_not negated (truth (value_at row column)))) slab
+    (λ row. ap (λ a. met a (truth (value_at row column))) turns ∙ sym (met-with_not negated w (truth (value_at row column))))
 
-pub between-rows : (w asked : Wanted) (test : TermOf ℕ Value) (columns : List (List Value)) (column : ℕ) (negated : Bool) (low high : Value) (n : ℕ) →
-    between column negated low high ≡ test → TestFits (row_at columns 0) test → AreLong columns n → asked ≡ turned negated w →
-    map (λ v. met asked (between_truth v low high)) (get_or columns column []) ≡ rows_met w (truth_of_test test) columns n
-between-rows w asked test columns column negated low high n is fits long turns =
-    let inside = column-inside columns column 0 (subst (TestFits (row_at columns 0)) (sym is) fits).0 in
-    not-rows w asked negated (λ v. between_truth v low high) columns column n inside long turns
-    ∙ ap (λ t. rows_met w (truth_of_test t) columns n) is
+pub null-passes : (w asked : Wanted) (test : TermOf ℕ Value) (slab : Slab) (column : ℕ) (negated : Bool) → null_test column negated ≡ test →
+    asked ≡ turned negated w → passing (λ row. met asked (null_truth (value_at row column))) slab ≡ passing (λ row. met w (truth_of_test test row)) slab
+null-passes w asked test slab column negated is turns =
+    not-passes w asked negated null_truth slab column turns ∙ ap (λ t. passing (λ row. met w (truth_of_test t row)) slab) is
 
-pub within-rows : (w asked : Wanted) (test : TermOf ℕ Value) (columns : List (List Value)) (column : ℕ) (negated : Bool) (choices : List Value) (n : ℕ) →
-    within column negated choices ≡ test → TestFits (row_at columns 0) test → AreLong columns n → asked ≡ turned negated w →
-    map (λ v. met asked (within_truth v choices)) (get_or columns column []) ≡ rows_met w (truth_of_test test) columns n
-within-rows w asked test columns column negated choices n is fits long turns =
-    let inside = column-inside columns column 0 (subst (TestFits (row_at columns 0)) (sym is) fits).0 in
-    not-rows w asked negated (λ v. within_truth v choices) columns column n inside long turns
-    ∙ ap (λ t. rows_met w (truth_of_test t) columns n) is
+pub between-passes : (w asked : Wanted) (test : TermOf ℕ Value) (slab : Slab) (column : ℕ) (negated : Bool) (low high : Value) →
+    between column negated low high ≡ test → asked ≡ turned negated w →
+    passing (λ row. met asked (between_truth (value_at row column) low high)) slab ≡ passing (λ row. met w (truth_of_test test row)) slab
+between-passes w asked test slab column negated low high is turns =
+    not-passes w asked negated (λ v. between_truth v low high) slab column turns ∙ ap (λ t. passing (λ row. met w (truth_of_test t row)) slab) is
+
+pub within-passes : (w asked : Wanted) (test : TermOf ℕ Value) (slab : Slab) (column : ℕ) (negated : Bool) (choices : List Value) →
+    within column negated choices ≡ test → asked ≡ turned negated w →
+    passing (λ row. met asked (within_truth (value_at row column) choices)) slab ≡ passing (λ row. met w (truth_of_test test row)) slab
+within-passes w asked test slab column negated choices is turns =
+    not-passes w asked negated (λ v. within_truth v choices) slab column turns ∙ ap (λ t. passing (λ row. met w (truth_of_test t row)) slab) is

@@ -1,3 +1,4 @@
 pub mod Asked
 pub mod Selection
+pub mod Tallies
 pub mod inner

@@ -1,2 +1,6 @@
+pub mod Numbers
 pub mod Parts
+pub mod Slabs
+pub mod Spans
+pub mod Tallying
 pub mod Walk

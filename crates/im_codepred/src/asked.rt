@@ -1,6 +1,7 @@
 ghost use Rattle.std.specs.Prelude.{◌≡◌};
 ghost use Rattle.im_eval.specs.Holds as holds;
 ghost use Rattle.im_codepred.specs.Asked as spec;
+ghost use Rattle.im_codepred.specs.inner.Spans as span;
 
 use im_eval::within;
 use im_syntax::Choices;
@@ -40,6 +41,16 @@ impl Wanted {
         if negated { self.swapped() } else { self }
     }
 
+    /// The comparison that holds where another is as it is wanted.
+    pub fn comparison(self, cmp: Cmp) -> Cmp
+        ensures { result ≡ span.comparison_of self cmp }
+    {
+        match self {
+            Wanted::Held => cmp,
+            Wanted::Failed => opposite(cmp),
+        }
+    }
+
     /// Whether a truth is the one that is wanted.
     pub fn met(self, truth: Truth) -> bool
         ensures { result ≡ spec.met self truth }
@@ -48,6 +59,20 @@ impl Wanted {
             Wanted::Held => matches!(truth, Truth::Yes),
             Wanted::Failed => matches!(truth, Truth::No),
         }
+    }
+}
+
+/// The comparison that holds where another fails.
+fn opposite(cmp: Cmp) -> Cmp
+    ensures { result ≡ span.opposite cmp }
+{
+    match cmp {
+        Cmp::Eq => Cmp::Ne,
+        Cmp::Ne => Cmp::Eq,
+        Cmp::Lt => Cmp::Ge,
+        Cmp::Le => Cmp::Gt,
+        Cmp::Gt => Cmp::Le,
+        Cmp::Ge => Cmp::Lt,
     }
 }
 

@@ -1,21 +1,28 @@
-ghost use Rattle.std.specs.Prelude.{◌≡◌, ◌+◌, ◌^◌, ◌<◌, ◌≤◌, ◌*◌, ℕ, All, IfOk, false, length, map, slice_index, slice_index_or, take, drop, if◌then◌else◌};
+ghost use Rattle.std.specs.Prelude.{◌≡◌, ◌+◌, ◌^◌, ◌<◌, ◌≤◌, ◌*◌, ℕ, All, IfOk, false, length, map, get_or, [], slice_index, slice_index_or, take, drop, if◌then◌else◌};
+ghost use Rattle.std.specs.Arc.{arc_value};
 ghost use Rattle.im_codes.specs.Dictionary.{coded, values_at, IsDictionary};
 ghost use Rattle.im_codes.specs.Runs.{codes_of};
 ghost use Rattle.im_values.specs.declared.value.Value.TheVariants.{Null};
 ghost use Rattle.im_lanes.specs.Masks.{word_at, word_of, words_of, filled};
 ghost use Rattle.im_codepred.specs.Asked.{is_met};
+ghost use Rattle.im_codepred.specs.inner.Numbers.{passes, IsReady};
+ghost use Rattle.im_codepred.specs.inner.Spans.{is_chosen};
 
-use crate::asked::{Asked, Wanted, asks};
+use crate::asked::{Asked, Wanted};
+use crate::chosen::Chosen;
+use crate::numbers::Probe;
 use im_bits::Bits;
 use im_codes::{Dict, Run, Runs};
 use im_column::{Column, Form};
-use im_lanes::{Mask, mask_by_flags, with_bit, word_count};
+use im_lanes::{Mask, with_bit, word_count};
 use im_values::{NoMemory, Value};
 use std::alloc::Global;
+use std::sync::Arc;
 
 /// Chooses the positions of a column whose value has the truth that is wanted.
 ///
-/// Of a dictionary each value is asked once, of runs each run once.
+/// Of a dictionary a comparison, BETWEEN and IS NULL are asked by ranges of its codes, for a binary search or two, and IN of
+/// each value once. Of runs each run is asked once.
 pub fn mask_of(
     alloc: Global,
     wanted: Wanted,
@@ -31,6 +38,28 @@ pub fn mask_of(
     }
 }
 
+/// The mask of one of some columns, by its number.
+pub fn column_mask(
+    alloc: Global,
+    wanted: Wanted,
+    asked: &Asked,
+    columns: &[Arc<Column>],
+    column: u32,
+) -> Result<Mask, NoMemory>
+    requires { column < length columns.now }
+    ensures { IfOk result (λ mask. mask ≡ map (is_met wanted asked.now) (get_or (map arc_value columns.now) column [])) }
+{
+    Ok(mask_of(alloc, wanted, asked, column_of(columns, column))?)
+}
+
+/// The column of a number.
+fn column_of(columns: &[Arc<Column>], column: u32) -> &Column
+    requires { column < length columns.now }
+    ensures { result.now ≡ get_or (map arc_value columns.now) column result.now }
+{
+    &columns[column as usize]
+}
+
 /// The mask of codes.
 fn coded_mask(
     alloc: Global,
@@ -42,8 +71,8 @@ fn coded_mask(
     requires { All (λ code. code < length (coded dict.now)) bits.now.codes }
     ensures { IfOk result (λ mask. mask ≡ map (is_met wanted asked.now) (values_at (coded dict.now) bits.now.codes)) }
 {
-    let flags = flags_of(alloc, wanted, asked, dict.values())?;
-    let mask = mask_by_flags(alloc, bits, flags.as_slice())?;
+    let chosen = Chosen::of(alloc, wanted, asked, dict)?;
+    let mask = chosen.mask(alloc, bits, dict.len() + 1)?;
     Ok(mask)
 }
 
@@ -58,27 +87,9 @@ fn run_mask(
     requires { All (λ code. code < length (coded dict.now)) runs.now }
     ensures { IfOk result (λ mask. mask ≡ map (is_met wanted asked.now) (values_at (coded dict.now) runs.now)) }
 {
-    let flags = flags_of(alloc, wanted, asked, dict.values())?;
-    let mask = runs_by_flags(alloc, flags.as_slice(), runs)?;
+    let chosen = Chosen::of(alloc, wanted, asked, dict)?;
+    let mask = chosen_runs(alloc, &chosen, runs)?;
     Ok(mask)
-}
-
-/// Of each code whether its value has the truth that is wanted. The first is that of NULL.
-fn flags_of(
-    alloc: Global,
-    wanted: Wanted,
-    asked: &Asked,
-    dict: &[Value],
-) -> Result<Vec<bool>, NoMemory>
-    requires { length dict.now < 2 ^ 31 }
-    ensures { IfOk result (λ flags. flags.items ≡ map (is_met wanted asked.now) (coded dict.now)) }
-{
-    let mut flags = Vec::with_capacity(alloc, dict.len() + 1)?;
-    flags.push(asks(wanted, asked, &Value::Null))?;
-    for value in dict {
-        flags.push(asks(wanted, asked, value))?;
-    }
-    Ok(flags)
 }
 
 /// The mask of values one beside another.
@@ -93,32 +104,33 @@ fn plain_mask(
     requires few { len < 2 ^ 31 }
     ensures { IfOk result (λ mask. mask ≡ map (is_met wanted asked.now) values.now) }
 {
-    let words = plain_words(alloc, wanted, asked, values, len)?;
+    let probe = Probe::of(wanted, asked);
+    let words = plain_words(alloc, &probe, values, len)?;
     Ok(Mask::of_words(words, len))
 }
 
 /// Its words.
 fn plain_words(
     alloc: Global,
-    wanted: Wanted,
-    asked: &Asked,
+    probe: &Probe,
     values: &[Value],
     len: u64,
 ) -> Result<Vec<u64>, NoMemory>
+    requires ready { IsReady probe.now }
     requires len { len ≡ length values.now }
     requires few { len < 2 ^ 31 }
-    ensures { IfOk result (λ words. words.items ≡ words_of (map (is_met wanted asked.now) values.now)) }
+    ensures { IfOk result (λ words. words.items ≡ words_of (map (passes probe.now) values.now)) }
 {
     let count = word_count(len);
     let mut words = Vec::with_capacity(alloc, count)?;
     for place in 0..count {
-        words.push(plain_word(wanted, asked, share(values, place)))?;
+        words.push(plain_word(probe, share(values, place)))?;
     }
     Ok(words)
 }
 
 /// The values that a word is made of: 64 from a place on, or as many as are left.
-fn share(values: &[Value], place: usize) -> &[Value]
+pub(crate) fn share(values: &[Value], place: usize) -> &[Value]
     requires inside { place * 64 < length values.now }
     requires few { length values.now < 2 ^ 31 }
     ensures part { result.now ≡ take 64 (drop (place * 64) values.now) }
@@ -129,38 +141,39 @@ fn share(values: &[Value], place: usize) -> &[Value]
 }
 
 /// The word of at most 64 values.
-fn plain_word(wanted: Wanted, asked: &Asked, values: &[Value]) -> u64
-    requires { length values.now ≤ 64 }
-    ensures { result ≡ word_of (map (is_met wanted asked.now) values.now) }
+fn plain_word(probe: &Probe, values: &[Value]) -> u64
+    requires ready { IsReady probe.now }
+    requires few { length values.now ≤ 64 }
+    ensures { result ≡ word_of (map (passes probe.now) values.now) }
 {
     let mut word = 0;
     for i in 0..values.len() {
-        word = with_bit(word, i as u32, asks(wanted, asked, &values[i]));
+        word = with_bit(word, i as u32, probe.meets(&values[i]));
     }
     word
 }
 
-/// The mask of runs, by whole words: a run is chosen where the flag of its code is set.
-fn runs_by_flags(alloc: Global, flags: &[bool], runs: &Runs) -> Result<Mask, NoMemory>
-    ensures { IfOk result (λ mask. mask ≡ map (λ code. slice_index_or flags.now code false) runs.now) }
+/// The mask of runs, by whole words.
+fn chosen_runs(alloc: Global, chosen: &Chosen, runs: &Runs) -> Result<Mask, NoMemory>
+    ensures { IfOk result (λ mask. mask ≡ map (is_chosen chosen.now) runs.now) }
 {
     let mut mask = Mask::none(alloc, runs.len())?;
     let mut begin = 0;
     for run in runs.runs() {
-        begin = choose_run(&mut mask, flags, begin, run);
+        begin = choose_run(&mut mask, chosen, begin, run);
     }
     Ok(mask)
 }
 
-/// Chooses a run from a position on, where the flag of its code is set; the answer is the position past it.
-fn choose_run(mask: &mut Mask, flags: &[bool], begin: u64, run: &Run) -> u64
+/// Chooses a run from a position on, where its code is chosen; the answer is the position past it.
+fn choose_run(mask: &mut Mask, chosen: &Chosen, begin: u64, run: &Run) -> u64
     requires begin { begin ≤ run.now.end }
     requires end { run.now.end ≤ length mask.old }
     ensures end { result ≡ run.now.end }
-    ensures mask { mask.new ≡ (if slice_index_or flags.now run.now.code false then filled begin run.now.end mask.old else mask.old) }
+    ensures mask { mask.new ≡ (if is_chosen chosen.now run.now.code then filled begin run.now.end mask.old else mask.old) }
 {
     let end = u64::from(run.end);
-    if flags.get(run.code as usize).copied().unwrap_or(false) {
+    if chosen.has(run.code) {
         mask.fill(begin, end);
     }
     end

@@ -117,7 +117,9 @@ module _ {U : Type 0} (content : U → Content) (limits : Limits) (history : Sto
   -- all is told as before of the column store
   pub Holds-told : (new_kept : Kept U) → Holds content limits history caches → SameTold caches.kept new_kept
       → Holds content limits history (record caches { kept = new_kept })
-  Holds-told new_kept holds told = Holds-roomier caches.blocks new_kept holds (record { versions = λ table rid. refl; ready = λ table rid put ready. ready; room = omega arith }) told
+  Holds-told new_kept holds told =
+      Holds-roomier caches.blocks new_kept holds
+      (record { versions = λ table rid. refl; ready = λ table rid put ready. ready; cells = λ table rid has. has; room = omega arith }) told
 
   -- more room in the history
   pub Holds-reserved : (reserved : Stored) (room : ℕ) → Holds content limits history caches → reserved ≡ record history { spare = max history.spare room }

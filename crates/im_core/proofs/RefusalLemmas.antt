@@ -1,14 +1,17 @@
 -- Refusals, as what is kept tells them.
-use Rattle.std.proofs.Common.{◌≡◌, ℕ, ◌<◌, ◌≤◌, ◌==◌, ◌&&◌, Bool, true, false, not, nat_lt, List, length, Option, Some, None, refl, sym, ap, ◌∙◌, arith}
+use Rattle.std.proofs.Common.{◌≡◌, ℕ, suc, ◌+◌, ◌<◌, ◌≤◌, ◌&&◌, Bool, true, false, not, nat_lt, List, length, drop, drop-cons, is_some, slice_get, Option, Some, None, refl, sym, ap, ◌∙◌, arith}
+use Rattle.std.proofs.lemmas.Bool.{false≢true}
 use Rattle.std.proofs.lemmas.Bool.Decides.{nat_tests}
+use Rattle.std.proofs.lemmas.Option.{get_or_from_slice_get}
 use Rattle.std.specs.Option.{option_map, option_or}
 use Rattle.im_values.specs.declared.limits.TheConstants.{MOST_CURSORS, MOST_TABLES}
 use Rattle.im_history.specs.declared.change.Change.{Change}
 use Rattle.im_history.specs.declared.look.TableInfo.{TableInfo}
+use Rattle.im_history.specs.declared.refused.Why.{Why}
 use Rattle.im_history.specs.declared.refused.Why.TheVariants.{TableExists, TooManyTables, CursorOpen, TooManyCursors, RowLocked, Serialize}
 use Rattle.im_history.specs.Cursors.{is_cursor_open, is_own, cursors_open}
 use Rattle.im_history.specs.History.{History}
-use Rattle.im_history.specs.Refusals.{when, create_refusal, lock_on, open_refusal, touch_after}
+use Rattle.im_history.specs.Refusals.{first_cause, when, create_refusal, lock_on, open_refusal, touch_after}
 use Rattle.im_history.specs.Tables.{tables, number_among, table_named}
 use Rattle.im_history.specs.Touched.{last_touch}
 use Rattle.im_txn.specs.Agrees.{Agrees}
@@ -52,6 +55,31 @@ table_free h name catalog b same free room =
     let named : table_named h name ≡ None = ap (λ (ts : List TableInfo). number_among ts name) (sym same) ∙ free in
     let few : nat_lt (length (tables h)) MOST_TABLES ≡ b = ap (λ (ts : List TableInfo). nat_lt (length ts) MOST_TABLES) (sym same) ∙ room in
     rw (named, few) refl
+
+-- the first cause is that of the change at a place, or of one behind it
+pub first_cause-next : (cause : Change → Option Why) (changes : List Change) (i : ℕ) (change : Change) → slice_get changes i ≡ Some change →
+    i < length changes → first_cause cause (drop i changes) ≡ option_or (cause change) (first_cause cause (drop (i + 1) changes))
+first_cause-next cause changes i change is inside =
+    let next : suc i ≡ i + 1 = omega arith in
+    ap (first_cause cause) (drop-cons changes i change inside)
+    ∙ (ap (λ (c : Change). option_or (cause c) (first_cause cause (drop (suc i) changes))) (get_or_from_slice_get changes i change change is)
+    ∙ ap (λ (n : ℕ). option_or (cause change) (first_cause cause (drop n changes))) next)
+
+-- the change at a place has a cause, and none before it has
+pub first_cause-here : (cause : Change → Option Why) (changes : List Change) (i : ℕ) (change : Change) (found all : Option Why) →
+    slice_get changes i ≡ Some change → i < length changes → found ≡ cause change → is_some found ≡ true → all ≡ first_cause cause (drop i changes) →
+    found ≡ all
+first_cause-here cause changes i change None all is inside here some from = absurd (false≢true some)
+first_cause-here cause changes i change (Some why) all is inside here some from =
+    sym (from ∙ (first_cause-next cause changes i change is inside ∙ ap (λ (o : Option Why). option_or o (first_cause cause (drop (i + 1) changes))) (sym here)))
+
+-- it has none
+pub first_cause-later : (cause : Change → Option Why) (changes : List Change) (i : ℕ) (change : Change) (found all : Option Why) →
+    slice_get changes i ≡ Some change → i < length changes → found ≡ cause change → is_some found ≡ false → all ≡ first_cause cause (drop i changes) →
+    all ≡ first_cause cause (drop (i + 1) changes)
+first_cause-later cause changes i change None all is inside here none from =
+    from ∙ (first_cause-next cause changes i change is inside ∙ ap (λ (o : Option Why). option_or o (first_cause cause (drop (i + 1) changes))) (sym here))
+first_cause-later cause changes i change (Some why) all is inside here none from = absurd (false≢true (sym none))
 
 -- the session that holds the row
 pub lock_is : (h : History) (standing : Standing) (who : ℕ) (change : Change) (found : Option ℕ) → Agrees h standing

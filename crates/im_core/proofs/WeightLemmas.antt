@@ -1,5 +1,7 @@
 -- Weights of parts of a row and of changes.
-use Rattle.std.proofs.Common.{◌≡◌, ℕ, zero, suc, ◌+◌, ◌<◌, List, [], ◌∷◌, length, take, get_or, ap, ◌∙◌, arith}
+use Rattle.std.proofs.Common.{◌≡◌, ℕ, zero, suc, ◌+◌, ◌<◌, List, [], ◌∷◌, length, take, get_or, Option, None, Some, ap, ◌∙◌, arith}
+use Rattle.std.specs.Prelude.{slice_get}
+use Rattle.im_values.specs.declared.limits.TheConstants.{CHANGE_WEIGHT}
 use Rattle.im_values.specs.declared.value.Value.{Value}
 use Rattle.im_history.specs.declared.change.Change.{Change}
 use Rattle.im_history.specs.Weights.{value_weight, row_weight, put_weight, changes_weight}
@@ -14,11 +16,17 @@ row_weight-next (value ∷ values) (suc i) d within =
     let next : suc i + 1 ≡ suc (i + 1) = omega arith in
     ap (λ n. row_weight (take n (value ∷ values))) next ∙ omega (arith, rest)
 
-pub changes_weight-next : (changes : List Change) (i : ℕ) (d : Change) → i < length changes
-    → changes_weight (take (i + 1) changes) ≡ changes_weight (take i changes) + (64 + put_weight (get_or changes i d).row)
-changes_weight-next [] i d within = absurd (omega arith)
-changes_weight-next (change ∷ changes) zero d within = omega arith
-changes_weight-next (change ∷ changes) (suc i) d within =
-    let rest = changes_weight-next changes i d (omega arith) in
+-- the weight of the first changes and one more
+pub changes_weight-found : (changes : List Change) (i : ℕ) (change : Change) → slice_get changes i ≡ Some change
+    → changes_weight (take (i + 1) changes) ≡ changes_weight (take i changes) + (CHANGE_WEIGHT + put_weight change.row)
+changes_weight-found [] i change is = absurd cc
+changes_weight-found (first ∷ changes) zero change is =
+    let same = ap (λ (o : Option Change). weight_of_found o) is in omega (arith, same)
+  where
+    weight_of_found : Option Change → ℕ
+    weight_of_found None = 0
+    weight_of_found (Some c) = put_weight c.row
+changes_weight-found (first ∷ changes) (suc i) change is =
+    let rest = changes_weight-found changes i change is in
     let next : suc i + 1 ≡ suc (i + 1) = omega arith in
-    ap (λ n. changes_weight (take n (change ∷ changes))) next ∙ omega (arith, rest)
+    ap (λ n. changes_weight (take n (first ∷ changes))) next ∙ omega (arith, rest)

@@ -1,5 +1,5 @@
 -- What a write that is not refused may rely on.
-use Rattle.std.proofs.Common.{◌≡◌, ℕ, zero, suc, ◌+◌, ◌-◌, ◌<◌, ◌≤◌, Bool, true, false, not, nat_lt, List, [], ◌∷◌, ◌++◌, length, take, slice_get, Option, Some, None, refl, sym, ap, ◌∙◌, arith, All, ⊎_elim}
+use Rattle.std.proofs.Common.{◌≡◌, ℕ, ◌+◌, ◌-◌, ◌<◌, ◌≤◌, Bool, true, false, not, nat_lt, List, [], ◌∷◌, length, Option, Some, None, refl, arith, All, ⊎_elim}
 use Rattle.std.proofs.lemmas.Bool.Decides.{nat_tests}
 use Rattle.std.proofs.lemmas.List.Elements.{All-nil, All-cons}
 use Rattle.std.specs.Option.{option_map, option_or}
@@ -101,17 +101,3 @@ table_room h name none =
 -- a cursor that may be opened is not open
 pub open_shut : (h : History) (who cursor : ℕ) → open_refusal h who cursor ≡ None → is_cursor_open h who cursor ≡ false
 open_shut h who cursor none = when_none _ CursorOpen (left_none (when (is_cursor_open h who cursor) CursorOpen) _ none)
-
--- the first rows and the next one are put
-pub put_from-next : (table first : ℕ) (rows : List Row) (i : ℕ) (row : Row) → slice_get rows i ≡ Some row
-    → put_from table first (take (i + 1) rows) ≡ put_from table first (take i rows) ++ record { table = table; rid = first + i; row = Some row } ∷ []
-put_from-next table first [] i row is = absurd (cc is)
-put_from-next table first (r ∷ rows) zero row is =
-    ap (λ (o : Option Row). record { table = table; rid = first; row = o } ∷ []) is
-    ∙ ap (λ (n : ℕ). record { table = table; rid = n; row = Some row } ∷ []) (omega arith)
-put_from-next table first (r ∷ rows) (suc i) row is =
-    let next : suc i + 1 ≡ suc (i + 1) = omega arith in
-    ap (λ (n : ℕ). put_from table first (take n (r ∷ rows))) next
-    ∙ ap (λ (cs : List Change). record { table = table; rid = first; row = Some r } ∷ cs)
-    (put_from-next table (first + 1) rows i row is
-    ∙ ap (λ (n : ℕ). put_from table (first + 1) (take i rows) ++ record { table = table; rid = n; row = Some row } ∷ []) (omega arith))

@@ -1,5 +1,4 @@
-use crate::fetched::Fetched;
-use im_history::Task;
+use im_history::{Fetched, Task};
 use std::sync::Arc;
 
 /// A table was created.

@@ -14,9 +14,8 @@ ghost use Rattle.im_core.specs.inner.Lending.{stale_in};
 ghost use Rattle.im_core.specs.Seen.{Adds};
 
 use crate::answers::Pin;
-use crate::fetched::Fetched;
 use crate::store::{Core, owed};
-use im_history::{Entry, Mode, Opening, Refused, UnitLike, View, What, Who, Why};
+use im_history::{Entry, Fetched, Mode, Opening, Refused, UnitLike, View, What, Who, Why};
 use im_txn::Cursor;
 use im_values::limits::{MOST_ROWS, NUMBERS};
 use im_values::{NoMemory, Steps};
@@ -210,10 +209,10 @@ impl<U: UnitLike> Core<U> {
             steps.new ≤ steps.old + length (stale_in self.now.log view.now.table extent view.now.scn at)) }
     {
         let stale = self.directory.stale_at(view.table, extent, view.scn)?;
-        let rows = self
+        let fetched = self
             .blocks
             .rows_of(self.alloc, view.table, stale.as_slice(), view.scn, steps)?;
-        Ok(Fetched::of(rows))
+        Ok(fetched)
     }
 
     fn fetch<L: Ledger>(
@@ -231,10 +230,10 @@ impl<U: UnitLike> Core<U> {
         let view = self.sessions.cursor(who, cursor).unwrap();
         let first = extent * view.per;
         let count = view.per.min(view.rows - first);
-        let rows = self
+        let fetched = self
             .blocks
             .extent_rows(self.alloc, view.table, first, count, view.scn, steps)?;
-        Ok(Fetched::of(rows))
+        Ok(fetched)
     }
 
     /// Shuts a cursor, and answers the place of the entry. It takes no memory.

@@ -15,7 +15,6 @@
 mod answers;
 mod chronicle;
 mod cursors;
-mod fetched;
 mod refusals;
 mod store;
 mod tables;
@@ -25,5 +24,5 @@ mod weights;
 mod writes;
 
 pub use answers::{Begun, Committed, Evicted, Made, Offer, Pin, Switched, Wrote};
-pub use fetched::Fetched;
+pub use im_history::Fetched;
 pub use store::Core;

@@ -1,9 +1,10 @@
 ghost use Rattle.std.specs.Prelude.{◌≡◌, ◌<◌};
+ghost use Rattle.im_history.specs.Puts.{lent_change};
 ghost use Rattle.im_history.specs.Refusals as refusal;
 ghost use Rattle.im_history.specs.Weights.{changes_weight};
 
 use crate::store::Core;
-use im_history::{Change, Mode, UnitLike, Who, Why, is_own};
+use im_history::{Changes, LentChange, Mode, UnitLike, Who, Why, is_own};
 use im_values::limits::{MOST_CURSORS, MOST_TABLES};
 
 impl<U: UnitLike> Core<U> {
@@ -42,8 +43,8 @@ impl<U: UnitLike> Core<U> {
     }
 
     /// Whether another session holds the row of a change.
-    fn lock_on(&self, who: Who, change: &Change) -> Option<Why>
-        ensures { result ≡ refusal.lock_on self.now.log who change.now }
+    fn lock_on(&self, who: Who, change: LentChange<'_>) -> Option<Why>
+        ensures { result ≡ refusal.lock_on self.now.log who (lent_change change.entry) }
     {
         let holder = self.sessions.holder(who, change.table, change.rid)?;
         Some(Why::RowLocked {
@@ -53,11 +54,11 @@ impl<U: UnitLike> Core<U> {
     }
 
     /// The first row that another session holds.
-    fn row_locked(&self, who: Who, changes: &[Change]) -> Option<Why>
+    fn row_locked(&self, who: Who, changes: &Changes) -> Option<Why>
         ensures { result ≡ refusal.row_locked self.now.log who changes.now }
     {
-        for change in changes {
-            let cause = self.lock_on(who, change);
+        for place in 0..changes.len() {
+            let cause = self.lock_on(who, changes.at(place));
             if cause.is_some() {
                 return cause;
             }
@@ -66,8 +67,8 @@ impl<U: UnitLike> Core<U> {
     }
 
     /// Whether a commit after this SCN touched the row of a change.
-    fn touch_after(&self, scn: u64, change: &Change) -> Option<Why>
-        ensures { result ≡ refusal.touch_after self.now.log scn change.now }
+    fn touch_after(&self, scn: u64, change: LentChange<'_>) -> Option<Why>
+        ensures { result ≡ refusal.touch_after self.now.log scn (lent_change change.entry) }
     {
         let last = self.blocks.latest(change.table, change.rid);
         if last > scn {
@@ -81,11 +82,11 @@ impl<U: UnitLike> Core<U> {
     }
 
     /// The first row that a commit after this SCN touched.
-    fn serialize(&self, scn: u64, changes: &[Change]) -> Option<Why>
+    fn serialize(&self, scn: u64, changes: &Changes) -> Option<Why>
         ensures { result ≡ refusal.serialize self.now.log scn changes.now }
     {
-        for change in changes {
-            let cause = self.touch_after(scn, change);
+        for place in 0..changes.len() {
+            let cause = self.touch_after(scn, changes.at(place));
             if cause.is_some() {
                 return cause;
             }
@@ -93,10 +94,10 @@ impl<U: UnitLike> Core<U> {
         None
     }
 
-    fn too_many_changes(&self, who: Who, changes: &[Change]) -> Option<Why>
+    fn too_many_changes(&self, who: Who, changes: &Changes) -> Option<Why>
         ensures { result ≡ refusal.too_many_changes self.now.limits self.now.log who changes.now }
     {
-        let pending = self.sessions.pending(who).len() as u64;
+        let pending = self.sessions.pending_count(who);
         let (need, left) = (
             changes.len() as u64,
             self.limits.changes.saturating_sub(pending),
@@ -109,7 +110,7 @@ impl<U: UnitLike> Core<U> {
     }
 
     /// These weights are those of the changes, here and below.
-    fn store_full(&self, changes: &[Change], weight: u64) -> Option<Why>
+    fn store_full(&self, changes: &Changes, weight: u64) -> Option<Why>
         requires { weight ≡ changes_weight changes.now }
         ensures { result ≡ refusal.store_full self.now.limits self.now.log changes.now }
     {
@@ -121,7 +122,7 @@ impl<U: UnitLike> Core<U> {
         }
     }
 
-    fn no_room(&self, who: Who, changes: &[Change], weight: u64) -> Option<Why>
+    fn no_room(&self, who: Who, changes: &Changes, weight: u64) -> Option<Why>
         requires { weight ≡ changes_weight changes.now }
         ensures { result ≡ refusal.no_room self.now.limits self.now.log who changes.now }
     {
@@ -131,7 +132,7 @@ impl<U: UnitLike> Core<U> {
         }
     }
 
-    pub(crate) fn insert_refusal(&self, who: Who, changes: &[Change], weight: u64) -> Option<Why>
+    pub(crate) fn insert_refusal(&self, who: Who, changes: &Changes, weight: u64) -> Option<Why>
         requires { weight ≡ changes_weight changes.now }
         ensures { result ≡ refusal.insert_refusal self.now.limits self.now.log who changes.now }
     {
@@ -145,7 +146,7 @@ impl<U: UnitLike> Core<U> {
         &self,
         who: Who,
         scn: u64,
-        changes: &[Change],
+        changes: &Changes,
         weight: u64,
     ) -> Option<Why>
         requires { weight ≡ changes_weight changes.now }

@@ -74,7 +74,7 @@ impl<U: UnitLike> Core<U> {
         ensures committed { IfOk result (λ done. done ≡ record { place = length self.old.log; scn = scn self.old.log + 1 }) }
         ensures err { OnErr result (self.new ≡ self.old) }
     {
-        self.blocks.reserve(self.sessions.pending(who))?;
+        let ready = self.blocks.reserve(self.sessions.pending(who))?;
         self.directory
             .reserve(&self.catalog, self.sessions.pending(who))?;
         self.history
@@ -83,10 +83,10 @@ impl<U: UnitLike> Core<U> {
             place: self.history.len(),
             scn: self.history.scn() + 1,
         };
-        let changes = self.sessions.clear(who);
+        let writes = self.sessions.clear(who);
         self.directory
-            .note(&self.catalog, committed.scn, changes.as_slice());
-        self.blocks.apply(committed.scn, changes);
+            .note(&self.catalog, committed.scn, writes.as_slice());
+        self.blocks.apply(committed.scn, ready);
         self.history.append(Entry {
             who: who.number(),
             what: What::Commit,

@@ -10,9 +10,8 @@ ghost use Rattle.im_core.specs.Answers.{IsOffer, IsRefusal, IsHeld, IsSwitch, co
 ghost use Rattle.im_core.specs.Seen.{Adds};
 
 use crate::answers::{Evicted, Offer, Pin, Switched};
-use crate::fetched::Fetched;
 use crate::store::{Core, owed};
-use im_history::{Choice, Entry, Held, Priority, Refused, Task, UnitLike, What, Who, Why};
+use im_history::{Choice, Entry, Fetched, Held, Priority, Refused, Task, UnitLike, What, Who, Why};
 use im_queue::next_task;
 use im_values::limits::NUMBERS;
 use im_values::{NoMemory, Steps};
@@ -296,10 +295,10 @@ impl<U: UnitLike> Core<U> {
         let given = self.directory.build(task.id).unwrap().given;
         let first = task.extent * task.per;
         let count = task.per.min(given - first);
-        let rows = self
+        let fetched = self
             .blocks
             .extent_rows(self.alloc, task.table, first, count, task.scn, steps)?;
-        Ok(Fetched::of(rows))
+        Ok(fetched)
     }
 
     /// Makes the unit of a finished build current, with the journal of what was touched since the build began, and hands

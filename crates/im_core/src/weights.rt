@@ -1,9 +1,10 @@
 ghost use Rattle.std.specs.Prelude.{◌≡◌, ◌+◌, IfOk};
+ghost use Rattle.im_history.specs.Puts.{lent_change};
 ghost use Rattle.im_history.specs.Weights as weight;
 
-use im_history::Change;
+use im_history::{Changes, LentChange};
 use im_values::limits::{CHANGE_WEIGHT, VALUE_WEIGHT};
-use im_values::{NoMemory, Row, Value};
+use im_values::{NoMemory, Value};
 
 /// The sum of two weights. What weighs more than 64 bits can say has no room in memory.
 fn add(a: u64, b: u64) -> Result<u64, NoMemory>
@@ -24,32 +25,32 @@ fn value_weight(value: &Value) -> Result<u64, NoMemory>
     }
 }
 
-fn row_weight(row: &Row) -> Result<u64, NoMemory>
-    ensures { IfOk result (λ weighed. weighed ≡ weight.row_weight row.now) }
+fn row_weight(values: &[Value]) -> Result<u64, NoMemory>
+    ensures { IfOk result (λ weighed. weighed ≡ weight.row_weight values.now) }
 {
     let mut sum = 0;
-    for value in row.values() {
+    for value in values {
         sum = add(sum, value_weight(value)?)?;
     }
     Ok(sum)
 }
 
-fn change_weight(change: &Change) -> Result<u64, NoMemory>
-    ensures { IfOk result (λ weighed. weighed ≡ CHANGE_WEIGHT + weight.put_weight change.now.row) }
+fn change_weight(change: LentChange<'_>) -> Result<u64, NoMemory>
+    ensures { IfOk result (λ weighed. weighed ≡ CHANGE_WEIGHT + weight.put_weight (lent_change change.entry).row) }
 {
-    match &change.row {
-        Some(row) => add(CHANGE_WEIGHT, row_weight(row)?),
+    match change.row {
+        Some(values) => add(CHANGE_WEIGHT, row_weight(values)?),
         None => Ok(CHANGE_WEIGHT),
     }
 }
 
 /// What changes weigh.
-pub fn weight_of(changes: &[Change]) -> Result<u64, NoMemory>
+pub fn weight_of(changes: &Changes) -> Result<u64, NoMemory>
     ensures { IfOk result (λ weighed. weighed ≡ weight.changes_weight changes.now) }
 {
     let mut sum = 0;
-    for change in changes {
-        sum = add(sum, change_weight(change)?)?;
+    for place in 0..changes.len() {
+        sum = add(sum, change_weight(changes.at(place))?)?;
     }
     Ok(sum)
 }

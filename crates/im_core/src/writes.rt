@@ -1,10 +1,10 @@
-ghost use Rattle.std.specs.Prelude.{◌≡◌, ◌+◌, ◌^◌, ◌<◌, ◌≤◌, length, None, IfOk, IfErr, OnOk, OnErr};
+ghost use Rattle.std.specs.Prelude.{◌≡◌, ◌+◌, ◌*◌, ◌^◌, ◌<◌, ◌≤◌, length, None, IfOk, IfErr, OnOk, OnErr};
 ghost use Rattle.im_history.specs.declared.entry.What.TheVariants as what;
 ghost use Rattle.im_history.specs.Legal.{Exists, MayInsert, MayWrite, IsAllowed, put_from};
 ghost use Rattle.im_history.specs.Refusals.{insert_refusal, write_refusal};
 ghost use Rattle.im_history.specs.Tables.{tables, given};
 ghost use Rattle.im_history.specs.Units.{opening_at};
-ghost use Rattle.im_history.specs.Weights.{changes_weight};
+ghost use Rattle.im_history.specs.Weights.{changes_weight, weight};
 ghost use Rattle.im_core.specs.Answers.{IsRefusal, cursor_view};
 ghost use Rattle.im_core.specs.inner.Kept.{Gives};
 ghost use Rattle.im_core.specs.Seen.{Adds};
@@ -13,9 +13,8 @@ use crate::answers::Wrote;
 use crate::store::{Core, owed};
 use crate::weights::weight_of;
 use im_history::{Change, Changes, Entry, Opening, Refused, UnitLike, What, Who, Why};
-use im_values::limits::{MOST_ROWS, NUMBERS};
+use im_values::limits::{CHANGE_WEIGHT, MOST_ROWS, NUMBERS};
 use im_values::{NoMemory, Rows};
-use std::alloc::Global;
 
 impl<U: UnitLike> Core<U> {
     /// Inserts rows into a table, at its next row numbers. It is refused where the transaction is READ ONLY, then where it
@@ -42,17 +41,14 @@ impl<U: UnitLike> Core<U> {
         let Ok(count) = given_with(first, rows.len()) else {
             return Err(self.refused(Why::NoMemory));
         };
-        let Ok(changes) = put_from(self.alloc, table, first, &rows) else {
+        let changes = Changes::put(table, first, rows);
+        let Ok(weight) = weight_of(&changes) else {
             return Err(self.refused(Why::NoMemory));
         };
-        let Ok(weight) = weight_of(changes.as_slice()) else {
-            return Err(self.refused(Why::NoMemory));
-        };
-        if let Some(why) = self.insert_refusal(caller, changes.as_slice(), weight) {
+        if let Some(why) = self.insert_refusal(caller, &changes, weight) {
             return Err(self.refused(why));
         }
-        let kept = Changes::put(table, first, rows);
-        match self.record_write(caller, table, count, changes, kept, weight) {
+        match self.record_write(caller, table, count, changes, weight) {
             Ok(place) => Ok(Wrote { place, first }),
             Err(NoMemory) => Err(self.refused(Why::NoMemory)),
         }
@@ -74,17 +70,15 @@ impl<U: UnitLike> Core<U> {
     {
         let caller = Who::of(who);
         let view = self.sessions.cursor(caller, cursor).unwrap();
-        let Ok(weight) = weight_of(changes.as_slice()) else {
+        let changes = Changes::of(changes);
+        let Ok(weight) = weight_of(&changes) else {
             return Err(self.refused(Why::NoMemory));
         };
-        if let Some(cause) = self.write_refusal(caller, view.scn, changes.as_slice(), weight) {
+        if let Some(cause) = self.write_refusal(caller, view.scn, &changes, weight) {
             return Err(self.refused(cause));
         }
-        let Ok(kept) = copies(self.alloc, changes.as_slice()) else {
-            return Err(self.refused(Why::NoMemory));
-        };
         let count = self.given_of(view.table);
-        match self.record_write(caller, view.table, count, changes, kept, weight) {
+        match self.record_write(caller, view.table, count, changes, weight) {
             Ok(place) => Ok(place),
             Err(NoMemory) => Err(self.refused(Why::NoMemory)),
         }
@@ -95,32 +89,32 @@ impl<U: UnitLike> Core<U> {
         requires { Exists self.now.log table }
         ensures given { result ≡ given self.now.log table }
         ensures few { result ≤ MOST_ROWS }
+        ensures light { given self.now.log table * CHANGE_WEIGHT ≤ weight self.now.log }
     {
         self.given[table as usize - 1]
     }
 
-    /// Records changes to one table, of which so many row numbers are given then: the session has them pending, and the
-    /// history keeps them as they stand in `kept`.
+    /// Records changes to one table, of which so many row numbers are given then. The session has them pending, and the
+    /// history keeps them once more: their rows are shared.
     fn record_write(
         &mut self,
         who: Who,
         table: u32,
         count: u64,
-        changes: Vec<Change>,
-        kept: Changes,
+        changes: Changes,
         weight: u64,
     ) -> Result<u64, NoMemory>
-        requires kept { kept ≡ changes.items }
-        requires weight { weight ≡ changes_weight changes.items }
+        requires weight { weight ≡ changes_weight changes }
         requires table { (1 ≤ table) × (table ≤ length (tables self.old.log)) }
-        requires allowed { IsAllowed self.old.limits self.old.log who (what.Write changes.items) }
-        requires gives { Gives self.old.log table changes.items count }
-        ensures ok { OnOk result (Adds self.old who (what.Write changes.items) self.new) }
+        requires allowed { IsAllowed self.old.limits self.old.log who (what.Write changes) }
+        requires gives { Gives self.old.log table changes count }
+        ensures ok { OnOk result (Adds self.old who (what.Write changes) self.new) }
         ensures place { IfOk result (λ place. place ≡ length self.old.log) }
         ensures err { OnErr result (self.new ≡ self.old) }
     {
+        let kept = changes.share(self.alloc)?;
         let beginning = self.beginning(who);
-        self.sessions.reserve_write(who, changes.as_slice())?;
+        self.sessions.reserve_write(who, &changes)?;
         self.history
             .reserve(owed(&self.sessions, &self.directory) + 2)?;
         let place = self.history.len();
@@ -145,31 +139,4 @@ fn given_with(given: u64, more: usize) -> Result<u64, NoMemory>
         Some(count) if count <= 1 << 63 => Ok(count),
         _ => Err(NoMemory),
     }
-}
-
-/// Rows put at row numbers of a table, from the first on.
-fn put_from(alloc: Global, table: u32, first: u64, rows: &Rows) -> Result<Vec<Change>, NoMemory>
-    requires { first + length rows.now ≤ 2 ^ 63 }
-    ensures { IfOk result (λ changes. changes.items ≡ put_from table first rows.now) }
-{
-    let mut changes = Vec::with_capacity(alloc, rows.len())?;
-    for at in 0..rows.len() {
-        changes.push(Change {
-            table,
-            rid: first + at as u64,
-            row: Some(rows.row(at)?),
-        })?;
-    }
-    Ok(changes)
-}
-
-/// The same changes once more.
-fn copies(alloc: Global, changes: &[Change]) -> Result<Changes, NoMemory>
-    ensures { IfOk result (λ copies. copies ≡ changes.now) }
-{
-    let mut copies = Vec::with_capacity(alloc, changes.len())?;
-    for change in changes {
-        copies.push(change.copy(alloc)?)?;
-    }
-    Ok(Changes::of(copies))
 }

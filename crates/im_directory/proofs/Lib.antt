@@ -21,3 +21,4 @@ mod SoundLemmas
 mod StaleLemmas
 mod SumLaws
 mod WaitLemmas
+mod WritesLemmas

@@ -48,9 +48,9 @@ option_map-same f None same = refl
 option_map-same f (Some x) same = ap Some (same x)
 
 -- a journal can take so many notes of the commit with this SCN
-record CanTake (journal : Notes) (scn count : ℕ) : Type 0 where
-  room : count ≤ journal.spare
-  later : NoneBehind scn journal.notes
+pub record CanTake (journal : Notes) (scn count : ℕ) : Type 0 where
+  pub room : count ≤ journal.spare
+  pub later : NoneBehind scn journal.notes
 
 CanTake-noted : (journal : Notes) (row scn count : ℕ) → CanTake journal scn (suc count) → CanTake (with_note (row, scn) journal) scn count
 CanTake-noted journal row scn count can = record { room = omega (arith, can.room); later = last_scn-noted journal.notes row scn can.later }
@@ -150,9 +150,9 @@ module _ {U : Type 0} where
   }
 
   -- the journals of an extent can take so many notes of a commit
-  record IsReady (slot : Slot U) (scn count : ℕ) : Type 0 where
-    current : ForSome slot.current (λ current. CanTake current.journal scn count)
-    growing : ForSome slot.growing (λ growing. CanTake growing.journal scn count)
+  pub record IsReady (slot : Slot U) (scn count : ℕ) : Type 0 where
+    pub current : ForSome slot.current (λ current. CanTake current.journal scn count)
+    pub growing : ForSome slot.growing (λ growing. CanTake growing.journal scn count)
 
   IsReady-noted : (slot : Slot U) (row scn count : ℕ) → IsReady slot scn (suc count) → IsReady (slot_noted (row, scn) slot) scn count
   IsReady-noted slot row scn count ready = record {
@@ -164,7 +164,7 @@ module _ {U : Type 0} where
         (λ (g : Growing). CanTake g.journal scn count) slot.growing (λ g can. CanTake-noted g.journal row scn count can) ready.growing;
   }
 
-  IsReady-through : (scn count : ℕ) (changes : List Change) (slot : Slot U) → IsReady slot scn (length changes + count) →
+  pub IsReady-through : (scn count : ℕ) (changes : List Change) (slot : Slot U) → IsReady slot scn (length changes + count) →
       IsReady (fold (λ s c. slot_noted (c.rid, scn) s) slot changes) scn count
   IsReady-through scn count [] slot ready = let same : 0 + count ≡ count = omega arith in subst (IsReady slot scn) same ready
   IsReady-through scn count (change ∷ changes) slot ready =
@@ -172,11 +172,18 @@ module _ {U : Type 0} where
       IsReady-through scn count changes (slot_noted (change.rid, scn) slot)
       (IsReady-noted slot change.rid scn (length changes + count) (subst (IsReady slot scn) same ready))
 
-  IsReady-from : (slot : Slot U) (scn count wanted : ℕ) → HasSlotRoom slot wanted → IsSlotBefore slot scn → count ≤ wanted → IsReady slot scn count
+  pub IsReady-from : (slot : Slot U) (scn count wanted : ℕ) → HasSlotRoom slot wanted → IsSlotBefore slot scn → count ≤ wanted → IsReady slot scn count
   IsReady-from slot scn count wanted room before less = record {
     current = λ c is. let enough = room.current c is in record { room = omega (arith, enough, less); later = before.current c is };
     growing = λ g is. let enough = room.growing g is in record { room = omega (arith, enough, less); later = before.growing g is };
   }
+
+  -- there is room for them, and none is of a later commit
+  pub IsReady-room : (slot : Slot U) (scn count : ℕ) → IsReady slot scn count → HasSlotRoom slot count × IsSlotBefore slot scn
+  IsReady-room slot scn count ready = (
+    record { current = λ c is. (ready.current c is).room; growing = λ g is. (ready.growing g is).room },
+    record { current = λ c is. (ready.current c is).later; growing = λ g is. (ready.growing g is).later },
+  )
 
   MayNote-from : (slot : Slot U) (scn : ℕ) → IsReady slot scn 1 → MayNote slot scn
   MayNote-from slot scn ready = record {

@@ -1,9 +1,9 @@
 -- What a single call does to what is kept of one extent.
-use Rattle.std.specs.Prelude.{◌≡◌, ℕ, ◌+◌, ◌-◌, ◌/◌, ◌≤◌, ◌<◌, ◌==◌, ◌||◌, Bool, false, max, List, [], filter, fold, set, Option, Some, None, is_some, if◌then◌else◌}
+use Rattle.std.specs.Prelude.{◌≡◌, ℕ, ◌+◌, ◌-◌, ◌/◌, ◌≤◌, ◌<◌, ◌==◌, ◌||◌, Bool, false, max, List, [], length, All, filter, fold, set, Option, Some, None, is_some, if◌then◌else◌}
 use Rattle.std.specs.Option.{option_map, ForSome}
 use Rattle.std.specs.declared.alloc.Global.{Global}
 use Rattle.std.specs.declared.sync.Arc.{Arc}
-use Rattle.im_tables.specs.Table.{HasCell, with_cell}
+use Rattle.im_tables.specs.Table.{HasCell, row_of, with_cell}
 use Rattle.im_journal.specs.Stale.{Note, Notes, noted}
 use Rattle.im_history.specs.declared.change.Change.{Change}
 use Rattle.im_history.specs.declared.look.TableInfo.{TableInfo}
@@ -135,6 +135,10 @@ module _ {U : Type 0} where
   pub record IsFor (slots : List (List (Slot U))) (tables : List TableInfo) (change : Change) (extent : ℕ) : Type 0 where
     pub slot : slot_at slots change.table extent ≡ slot_at slots change.table (extent_in tables change)
     pub changed : (f : Slot U → Slot U) → slots_with f change.table extent slots ≡ slots_with f change.table (extent_in tables change) slots
+
+  -- the tables of these changes have no extent here
+  pub record HaveNoExtents (slots : List (List (Slot U))) (changes : List Change) : Type 0 where
+    pub each : All (λ change. length (row_of slots change.table) ≡ 0) changes
 
   -- there is room in both journals of each extent for the notes of these changes
   pub record HasNotesRoom (slots : List (List (Slot U))) (tables : List TableInfo) (changes : List Change) : Type 0 where

@@ -2,6 +2,7 @@ ghost use Rattle.std.specs.Prelude.{◌≡◌, ◌+◌, ◌^◌, ◌<◌, count_
 ghost use Rattle.std.specs.Option.{ForSome};
 ghost use Rattle.im_journal.specs.Stale.{stale_rows};
 ghost use Rattle.im_history.specs.Contents.{unit_bytes};
+ghost use Rattle.im_history.specs.Puts.{all_changes};
 ghost use Rattle.im_history.specs.declared.entry.What.TheVariants.{Evict, Memory};
 ghost use Rattle.im_directory.specs.Effects.{HasRoom, IsBefore, IsBegun, IsCancelled, IsDropped, IsNew, IsNoted, IsSwitched, SameTold};
 ghost use Rattle.im_directory.specs.Lists.{IsFirst, NonePasses, is_due, is_empty, is_stale, used_in};
@@ -12,7 +13,7 @@ ghost use Rattle.im_directory.specs.inner.Placed.{IsOut};
 use crate::builds::Builds;
 use crate::journals::{Current, Growing};
 use crate::shelves::Shelves;
-use im_history::{Catalog, Change, Held, UnitLike};
+use im_history::{Catalog, Changes, Held, UnitLike};
 use im_values::NoMemory;
 use std::alloc::Global;
 use std::marker::Model;
@@ -168,25 +169,25 @@ impl<U: UnitLike> Directory<U> {
         Ok(())
     }
 
-    /// Makes room in the journals for the notes of a commit of these changes, and for no more.
+    /// Makes room in the journals for the notes of a commit of what these writes changed, and for no more.
     ///
-    /// It costs two steps for each change, and two look-ups of a table for each run of changes to one extent. After an
-    /// error some of the room may be there.
-    pub fn reserve(&mut self, tables: &Catalog, changes: &[Change]) -> Result<(), NoMemory>
+    /// It costs two steps for each change, and two look-ups of a table for each run of changes to one extent; of rows that were put
+    /// together into a table that has no extent here, two steps. After an error some of the room may be there.
+    pub fn reserve(&mut self, tables: &Catalog, writes: &[Changes]) -> Result<(), NoMemory>
         ensures same { SameTold self.old self.new }
-        ensures room { OnOk result (HasRoom self.new tables.now changes.now) }
+        ensures room { OnOk result (HasRoom self.new tables.now (all_changes writes.now)) }
     {
-        self.shelves.make_room(tables, changes)
+        self.shelves.make_room(tables, writes)
     }
 
-    /// Notes the changes of the commit with this SCN: each row in the journal of its extent's current unit, and in that of
-    /// its living build. It takes no memory.
-    pub fn note(&mut self, tables: &Catalog, scn: u64, changes: &[Change])
-        requires room { HasRoom self.old tables.now changes.now }
+    /// Notes what these writes changed by the commit with this SCN: each row in the journal of its extent's current unit, and
+    /// in that of its living build. It takes no memory.
+    pub fn note(&mut self, tables: &Catalog, scn: u64, writes: &[Changes])
+        requires room { HasRoom self.old tables.now (all_changes writes.now) }
         requires later { IsBefore self.old scn }
-        ensures { IsNoted self.old self.new tables.now scn changes.now }
+        ensures { IsNoted self.old self.new tables.now scn (all_changes writes.now) }
     {
-        self.shelves.note_all(tables, scn, changes);
+        self.shelves.note_all(tables, scn, writes);
     }
 
     /// Ends a held build that nothing killed: its unit is the extent's current one, with the build's journal. It answers

@@ -1,12 +1,13 @@
 ghost use Rattle.std.specs.Prelude.{◌≡◌, ◌≤◌};
 ghost use Rattle.std.specs.Bool.{OnTrue};
 ghost use Rattle.im_history.specs.Grid.{per_extent};
+ghost use Rattle.im_history.specs.Puts.{lent_change};
 ghost use Rattle.im_history.specs.Tables.{table_among};
 ghost use Rattle.im_history.specs.Views.{grid_of};
 ghost use Rattle.im_directory.specs.Effects.{extent_in};
 ghost use Rattle.im_directory.specs.Steps.{IsRange, IsWithin};
 
-use im_history::{Catalog, Change, Shape};
+use im_history::{Catalog, LentChange, Shape};
 
 /// Row numbers of a table that one extent has: so many, from a first one on.
 ///
@@ -36,10 +37,10 @@ impl ExtentRange {
     }
 
     /// The extent of a change's row, whose row numbers it is from now on.
-    pub fn extent_of(&mut self, tables: &Catalog, change: &Change) -> u64
+    pub fn extent_of(&mut self, tables: &Catalog, change: LentChange<'_>) -> u64
         requires { IsRange tables.now self.old }
         ensures range { IsRange tables.now self.new }
-        ensures extent { result ≡ extent_in tables.now change.now }
+        ensures extent { result ≡ extent_in tables.now (lent_change change.entry) }
     {
         if self.has(change) {
             return self.extent;
@@ -49,8 +50,8 @@ impl ExtentRange {
     }
 
     /// Whether it has the row of a change.
-    fn has(&self, change: &Change) -> bool
-        ensures { OnTrue result (IsWithin self.now change.now) }
+    fn has(&self, change: LentChange<'_>) -> bool
+        ensures { OnTrue result (IsWithin self.now (lent_change change.entry)) }
     {
         change.table == self.table
             && self.first <= change.rid
@@ -59,9 +60,9 @@ impl ExtentRange {
 }
 
 /// The row numbers of the extent of a change's row.
-fn range_of(tables: &Catalog, change: &Change) -> ExtentRange
+fn range_of(tables: &Catalog, change: LentChange<'_>) -> ExtentRange
     ensures range { IsRange tables.now result }
-    ensures extent { result.extent ≡ extent_in tables.now change.now }
+    ensures extent { result.extent ≡ extent_in tables.now (lent_change change.entry) }
 {
     let count = row_numbers(tables, change.table);
     let extent = change.rid / count;

@@ -1,5 +1,5 @@
 -- What callers know of the parts of an answer: when two may be merged, what a plain part has, and what an answer is of.
-use Rattle.std.proofs.Common.{◌≡◌, ◌+◌, ◌<◌, ◌≤◌, ◌^◌, Bool, true, false, cond, List, [], ◌∷◌, ◌++◌, length, map, filter, None, Some, refl, sym, ap, ◌∙◌, subst, arith}
+use Rattle.std.proofs.Common.{◌≡◌, Contains, ℕ, ◌+◌, ◌<◌, ◌≤◌, ◌^◌, Bool, true, false, cond, List, [], ◌∷◌, ◌++◌, length, map, filter, None, Some, refl, sym, ap, ◌∙◌, subst, arith}
 use Rattle.std.specs.Option.{ForSome}
 use Rattle.std.specs.List.{AllByRecursion}
 use Rattle.std.specs.FinMap as map_of
@@ -7,12 +7,20 @@ use Rattle.im_values.specs.declared.value.Value.{Value}
 use Rattle.im_syntax.specs.declared.bound.Bound.{Bound}
 use Rattle.im_syntax.specs.BoundFits.{BoundFits}
 use Rattle.im_group.specs.Tallies.{Tallied, wanted, asked_in, CanJoin}
-use Rattle.im_group.specs.Partials.{Numbered, Parts, key_order, key_of, is_key, keeps, kept, members, tallies_of, groups_of, merged, partial, CanMerge}
+use Rattle.im_group.specs.Partials.{Numbered, Parts, key_order, key_of, is_key, keeps, kept, members, tallies_of, keys_of, groups_of, merged, partial, CanMerge}
+use Rattle.im_group.specs.Interleaved.{Interleaves}
+use Rattle.im_group.specs.MadeGroups.{AreGroupsOf, kept_values}
 use Rattle.im_group.specs.Answers.{put_out, finished, answer}
 use Rattle.im_group.proofs.Few.{few_join, shorter}
 use Rattle.im_group.proofs.GroupLemmas.{get-groups_of}
 use Rattle.im_group.proofs.Parts as parts
+use Rattle.im_group.proofs.OrderFree as free
 use Rattle.im_group.proofs.ReadingLaws.{records-part}
+use Rattle.im_group.proofs.TakingLaws.{passes-row, kept-again, partial-kept}
+use Rattle.im_group.proofs.AskedLemmas.{asked_fit}
+use Rattle.im_group.proofs.MadeLaws.{same-keys}
+use Rattle.im_group.proofs.CountLaws as count
+use Rattle.im_group.specs.Counts.{counts_of_rows, counts}
 use Rattle.std.proofs.lemmas.List.{length-map}
 
 -- ---- two parts may be merged
@@ -71,6 +79,43 @@ pub fits-append : (bound : Bound) (front back : List Numbered) → AllByRecursio
 fits-append bound [] back a b = b
 fits-append bound (r ∷ front) back a b = (a.0, fits-append bound front back a.1 b)
 
+-- ---- a query that is grouped
+
+-- its part does not depend on the order of the rows: of two lists either may come first
+pub partial-swapped : (bound : Bound) (front back : List Numbered) → bound.grouped ≡ true
+    → partial bound (front ++ back) ≡ partial bound (back ++ front)
+partial-swapped bound front back grouped = free.partial-swap bound grouped front back
+
+-- and the rows of both may come one by one in turn
+pub partial-interleaved : (bound : Bound) (front back whole : List Numbered) → bound.grouped ≡ true → Interleaves front back whole
+    → partial bound whole ≡ partial bound (front ++ back)
+partial-interleaved bound front back whole grouped both = free.partial-interleaved bound grouped both
+
+-- groups that are made without their rows: those of the rows, where each has what the kept rows of its key give, each key of a row is
+-- that of a group, and each key of a group that of a row, or the empty key without GROUP BY
+pub AreGroupsOf-both : (bound : Bound) (rows : List Numbered) (groups : List (List Value × Tallied))
+    → AllByRecursion (λ g. g.1 ≡ tallies_of bound (kept_values bound rows) g.0) groups
+    → AllByRecursion (Contains (keys_of bound.groups (kept_values bound rows))) (map (λ g. g.0) groups)
+    → AllByRecursion (Contains (map (λ g. g.0) groups)) (keys_of bound.groups (kept_values bound rows)) → AreGroupsOf bound rows groups
+AreGroupsOf-both bound rows groups tallies there back = record {
+  tallies = tallies;
+  keys = same-keys (map (λ g. g.0) groups) (keys_of bound.groups (kept_values bound rows)) there back;
+}
+
+-- the counts of rows, computed group by group: each is put in its place by its key
+abbrev pub in_key_order : {X : Type 0} → List (List Value × X) → List (List Value × X)
+in_key_order es = count.in_key_order es
+
+pub counts-in_order : (bound : Bound) (width : ℕ) (rows : List Numbered)
+    → counts bound width rows
+    ≡ map (λ g. (g.0, counts_of_rows width g.1))
+    (in_key_order (map (λ key. (key, members bound.groups (kept_values bound rows) key)) (keys_of bound.groups (kept_values bound rows))))
+counts-in_order bound width rows = count.counts-in_order bound width rows
+
+-- what a query asks of the columns of its groups, the rows that it fits have
+pub asked-fit : (row : List Value) (bound : Bound) → BoundFits row bound → AllByRecursion (λ a. a.column < length row) (asked_in (wanted bound))
+asked-fit row bound fits = asked_fit row bound fits
+
 -- ---- a query that is not grouped
 
 -- its part has the rows whose condition is Yes, with their numbers, and no other
@@ -84,6 +129,21 @@ all_kept (r ∷ rows) = ap (λ l. r ∷ l) (all_kept rows)
 
 pub kept-all : (bound : Bound) (rows : List Numbered) → bound.filter ≡ None → kept bound rows ≡ rows
 kept-all bound rows none = ap (λ o. filter (λ r. keeps o r.1) rows) none ∙ all_kept rows
+
+-- ---- rows that are not kept
+
+-- a row that is not kept changes nothing
+pub partial-passes : (bound : Bound) (rows : List Numbered) (row : Numbered) → keeps bound.filter row.1 ≡ false
+    → partial bound (rows ++ row ∷ []) ≡ partial bound rows
+partial-passes bound rows row is = passes-row bound rows row is
+
+-- where two lists of rows have the same kept rows, they have the same part
+pub partial-same_kept : (bound : Bound) (xs ys : List Numbered) → kept bound xs ≡ kept bound ys → partial bound xs ≡ partial bound ys
+partial-same_kept bound xs ys same = partial-kept bound xs ys same
+
+-- so the part of rows is that of those that are kept
+pub partial-of_kept : (bound : Bound) (rows : List Numbered) → partial bound (kept bound rows) ≡ partial bound rows
+partial-of_kept bound rows = partial-kept bound (kept bound rows) rows (kept-again bound rows)
 
 -- ---- answers
 

@@ -13,7 +13,8 @@ use Rattle.im_syntax.specs.BoundFits.{BoundFits}
 use Rattle.im_group.specs.declared.asked.Asked.{Asked}
 use Rattle.im_group.specs.Tallies.{Tallied, wanted, asked_in, tallied, row_taken, HasRoom}
 use Rattle.im_group.specs.Partials.{Numbered, lent_rows, key_order, key_of, is_key, keeps, kept, members, tallies_of, keys_of, groups_of}
-use Rattle.im_group.specs.inner.Steps.{tallies_at, placed, so_far, first_groups, with_kept, with_row, GroupsAre}
+use Rattle.im_group.specs.inner.Steps.{tallies_at, so_far, first_groups, GroupsAre}
+use Rattle.im_group.specs.inner.Holding.{with_taken}
 use Rattle.im_group.proofs.Few.{all_few, shorter}
 use Rattle.im_group.proofs.Sorting.{true_is_not_false}
 use Rattle.im_group.proofs.Orders.{key_total, key_same}
@@ -80,9 +81,8 @@ few_so_far bound rows groups row g few =
     (omega (arith, shorter (λ r. is_key (key_of bound.groups r) (key_of bound.groups row)) rows)))
 
 -- one row more
-groups-push : (bound : Bound) (rows : List (List Value)) (groups : List (List Value × Tallied)) (row : List Value) → GroupsAre bound rows groups
-    → GroupsAre bound (rows ++ row ∷ [])
-    (placed groups (key_of bound.groups row) (row_taken (asked_in (wanted bound)) (so_far (asked_in (wanted bound)) (tallies_at groups (key_of bound.groups row))) row))
+pub groups-push : (bound : Bound) (rows : List (List Value)) (groups : List (List Value × Tallied)) (row : List Value) → GroupsAre bound rows groups
+    → GroupsAre bound (rows ++ row ∷ []) (with_taken (asked_in (wanted bound)) groups (key_of bound.groups row) row)
 groups-push bound rows groups row g = record {
   at = λ q.
       find-placed groups (key_of bound.groups row) (row_taken (asked_in (wanted bound)) (so_far (asked_in (wanted bound)) (tallies_at groups (key_of bound.groups row))) row) q
@@ -104,17 +104,6 @@ groups-push bound rows groups row g = record {
         ∙ ap (λ ts. cond (stands q (keys_of bound.groups rows)) (Some ts) None)
         (sym (tallies-push_apart bound rows row q (flipped (key_of bound.groups row) q ∙ e))))
 
-pub with_row-push : (bound : Bound) (rows : List (List Value)) (groups : List (List Value × Tallied)) (row : List Value) → GroupsAre bound rows groups
-    → GroupsAre bound (cond (keeps bound.filter row) (rows ++ row ∷ []) rows) (with_row bound groups row)
-with_row-push bound rows groups row g =
-    elim (keeps bound.filter row) as
-    (λ b. GroupsAre bound (cond b (rows ++ row ∷ []) rows)
-    (cond b (placed groups (key_of bound.groups row)
-    (row_taken (asked_in (wanted bound)) (so_far (asked_in (wanted bound)) (tallies_at groups (key_of bound.groups row))) row)) groups)) [
-      | true ↦ groups-push bound rows groups row g
-      | false ↦ g
-    ]
-
 -- no row
 first-at : (columns : List ℕ) (qs : List Asked) (q : List Value)
     → tallies_at (first_groups columns qs) q ≡ cond (stands q (keys_of columns [])) (Some (tallied qs [])) None
@@ -126,24 +115,21 @@ first-at (c ∷ cs) qs q = refl
 pub first-are : (bound : Bound) → GroupsAre bound [] (first_groups bound.groups (asked_in (wanted bound)))
 first-are bound = record { at = λ q. first-at bound.groups (asked_in (wanted bound)) q ∙ sym (get-groups_of bound [] q) }
 
--- the kept rows of one row more
-pub kept-push : (bound : Bound) (rows : List Numbered) (row : Numbered) → kept bound (rows ++ row ∷ []) ≡ with_kept bound (kept bound rows) row
-kept-push bound rows row = filter-append (λ r. keeps bound.filter r.1) rows (row ∷ []) ∙ last (keeps bound.filter row.1)
-  where
-    last : (b : Bool) → kept bound rows ++ cond b (row ∷ []) [] ≡ cond b (kept bound rows ++ row ∷ []) (kept bound rows)
-    last true = refl
-    last false = no_more (kept bound rows)
+-- a row that is kept is one kept row more
+pub kept-push : (bound : Bound) (rows : List Numbered) (row : Numbered) → keeps bound.filter row.1 ≡ true → kept bound (rows ++ row ∷ []) ≡ kept bound rows ++ row ∷ []
+kept-push bound rows row is =
+    filter-append (λ r. keeps bound.filter r.1) rows (row ∷ []) ∙ ap (λ b. kept bound rows ++ cond b (row ∷ []) []) is
 
--- and their values
-pub values-push : (bound : Bound) (rows : List Numbered) (row : Numbered)
-    → map (λ r. r.1) (kept bound (rows ++ row ∷ []))
-    ≡ cond (keeps bound.filter row.1) (map (λ r. r.1) (kept bound rows) ++ row.1 ∷ []) (map (λ r. r.1) (kept bound rows))
-values-push bound rows row = ap (map (λ r. r.1)) (kept-push bound rows row) ∙ each (keeps bound.filter row.1)
-  where
-    each : (b : Bool) → map (λ r. r.1) (cond b (kept bound rows ++ row ∷ []) (kept bound rows))
-        ≡ cond b (map (λ r. r.1) (kept bound rows) ++ row.1 ∷ []) (map (λ r. r.1) (kept bound rows))
-    each true = map-append (λ r. r.1) (kept bound rows) (row ∷ [])
-    each false = refl
+-- and its values stand behind the others
+pub values-push : (bound : Bound) (rows : List Numbered) (row : Numbered) → keeps bound.filter row.1 ≡ true
+    → map (λ r. r.1) (kept bound (rows ++ row ∷ [])) ≡ map (λ r. r.1) (kept bound rows) ++ row.1 ∷ []
+values-push bound rows row is = ap (map (λ r. r.1)) (kept-push bound rows row is) ∙ map-append (λ r. r.1) (kept bound rows) (row ∷ [])
+
+-- a row that is not kept is no kept row more
+pub kept-pass : (bound : Bound) (rows : List Numbered) (row : Numbered) → keeps bound.filter row.1 ≡ false → kept bound (rows ++ row ∷ []) ≡ kept bound rows
+kept-pass bound rows row is =
+    filter-append (λ r. keeps bound.filter r.1) rows (row ∷ [])
+    ∙ (ap (λ b. kept bound rows ++ cond b (row ∷ []) []) is ∙ no_more (kept bound rows))
 
 -- of so many rows no more are kept
 pub few_kept : (bound : Bound) (rows : List Numbered) → length (map (λ r. r.1) (kept bound rows)) ≤ length rows

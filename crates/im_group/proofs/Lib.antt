@@ -16,5 +16,8 @@ mod NearLaws
 mod KeySort
 mod Merging
 mod Parts
+mod OrderFree
+mod MadeLaws
+mod CountLaws
 mod QueryLemmas
 pub mod ForCallers

@@ -28,7 +28,7 @@ no_member [] (row ∷ rows) q h =
 no_member (c ∷ cs) rows q h = none_has (c ∷ cs) rows q h
 
 module _ (bound : Bound) where
-  members-append : (xs ys : List (List Value)) (q : List Value) → members bound.groups (xs ++ ys) q ≡ members bound.groups xs q ++ members bound.groups ys q
+  pub members-append : (xs ys : List (List Value)) (q : List Value) → members bound.groups (xs ++ ys) q ≡ members bound.groups xs q ++ members bound.groups ys q
   members-append xs ys q = filter-append (λ r. is_key (key_of bound.groups r) q) xs ys
 
   tallies-append : (xs ys : List (List Value)) (q : List Value) → tallies_of bound (xs ++ ys) q ≡ all_joined (tallies_of bound xs q) (tallies_of bound ys q)
@@ -44,7 +44,7 @@ stands-both (k ∷ ks) ls q = ap (cond (is_eq (key_order q k)) true) (stands-bot
     again true b c = refl
     again false b c = refl
 
-stands-append : (columns : List ℕ) (xs ys : List (List Value)) (q : List Value)
+pub stands-append : (columns : List ℕ) (xs ys : List (List Value)) (q : List Value)
     → stands q (keys_of columns (xs ++ ys)) ≡ cond (stands q (keys_of columns xs)) true (stands q (keys_of columns ys))
 stands-append [] xs ys q = twice (is_eq (key_order q []))
   where
@@ -72,7 +72,7 @@ groups-append bound xs ys = map_of.same_map key_total key_same _ _ (λ q.
         (sym (members-append bound xs ys q ∙ ap (λ l. l ++ members bound.groups ys q) (no_member bound.groups xs q e)))
     go q false false e g = refl
 
-kept-append : (bound : Bound) (xs ys : List Numbered) → kept bound (xs ++ ys) ≡ kept bound xs ++ kept bound ys
+pub kept-append : (bound : Bound) (xs ys : List Numbered) → kept bound (xs ++ ys) ≡ kept bound xs ++ kept bound ys
 kept-append bound xs ys = filter-append (λ r. keeps bound.filter r.1) xs ys
 
 abbrev pub plain : List Numbered → Parts

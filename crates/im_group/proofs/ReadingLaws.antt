@@ -142,8 +142,15 @@ module _ (columns : List ℕ) (key : List Value) (rows : List (List Value)) (is 
 
 -- ---- the groups in the order of their keys
 
+none_left : {A : Type 0} (xs : List A) → length xs ≡ 0 → xs ≡ []
+none_left [] e = refl
+none_left (x ∷ xs) e = absurd cc
+
+pub no_entries : {Z : Type 0} → map_of.entries {X = Z} {R = key_order} map_of.empty ≡ []
+no_entries {Z} = none_left _ (sym (map_of.len-entries {X = Z} {R = key_order} map_of.empty) ∙ map_of.len-empty key_order Z)
+
 module _ {X Y : Type 0} (f : X → Y) where
-  abbrev valued : List (List Value × X) → List (List Value × Y)
+  abbrev pub valued : List (List Value × X) → List (List Value × Y)
   valued es = map (λ e. (e.0, f e.1)) es
 
   put-valued : (k : List Value) (v : X) (es : List (List Value × X)) → map_of.put key_order k (f v) (valued es) ≡ valued (map_of.put key_order k v es)
@@ -156,14 +163,7 @@ module _ {X Y : Type 0} (f : X → Y) where
       go Equal is more = rw is refl
       go Greater is more = rw is (ap (λ l. (e.0, f e.1) ∷ l) more)
 
-  none_left : {A : Type 0} (xs : List A) → length xs ≡ 0 → xs ≡ []
-  none_left [] e = refl
-  none_left (x ∷ xs) e = absurd cc
-
-  no_entries : {Z : Type 0} → map_of.entries {X = Z} {R = key_order} map_of.empty ≡ []
-  no_entries {Z} = none_left _ (sym (map_of.len-entries {X = Z} {R = key_order} map_of.empty) ∙ map_of.len-empty key_order Z)
-
-  entries-valued : (h : List Value → X) (ks : List (List Value))
+  pub entries-valued : (h : List Value → X) (ks : List (List Value))
       → map_of.entries {R = key_order} (map_of.from_entries (map (λ k. (k, f (h k))) ks))
       ≡ valued (map_of.entries {R = key_order} (map_of.from_entries (map (λ k. (k, h k)) ks)))
   entries-valued h [] = no_entries ∙ sym (ap valued no_entries)

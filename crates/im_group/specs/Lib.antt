@@ -2,5 +2,8 @@ pub mod Cells
 pub mod Sums
 pub mod Tallies
 pub mod Partials
+pub mod MadeGroups
+pub mod Interleaved
 pub mod Answers
+pub mod Counts
 pub mod inner

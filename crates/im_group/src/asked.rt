@@ -19,7 +19,9 @@ pub enum End {
 #[derive(Clone, Copy)]
 pub struct Asked {
     pub column: u32,
+    /// Whether an item reads the least value.
     pub least: bool,
+    /// Whether an item reads the greatest value.
     pub greatest: bool,
 }
 

@@ -5,7 +5,7 @@ ghost use Rattle.indexmap.specs.IndexMap.{spare};
 ghost use Rattle.im_syntax.specs.BoundFits.{BoundFits, FilterFits};
 ghost use Rattle.im_group.specs.inner.Holding.{CanJoinGroups, CanTake, as_groups, asked_by, own, with_first, with_group, with_taken};
 ghost use Rattle.im_group.specs.Partials as spec;
-ghost use Rattle.im_group.specs.inner.Steps.{stands_at, tallies_at, with_row, first_groups, one_group};
+ghost use Rattle.im_group.specs.inner.Steps.{stands_at, tallies_at, first_groups, one_group};
 ghost use Rattle.im_group.specs.Tallies.{CanJoin, tallied};
 
 use crate::asked::Asked;
@@ -172,7 +172,7 @@ fn take_grouped(
     }
 }
 
-/// The groups take a row, where the query keeps it.
+/// The groups take a row that the query keeps.
 pub fn take_row(
     alloc: Global,
     bound: &Bound,
@@ -184,13 +184,9 @@ pub fn take_row(
     requires asked { asked.now ≡ asked_by bound.now }
     requires fits { BoundFits row.now bound.now }
     requires few { CanTake asked.now (own groups.old.entries) (spec.key_of bound.now.groups row.now) }
-    ensures { OnOk result (own groups.new.entries ≡ with_row bound.now (own groups.old.entries) row.now) }
+    ensures { OnOk result (own groups.new.entries ≡ with_taken asked.now (own groups.old.entries) (spec.key_of bound.now.groups row.now) row.now) }
 {
-    if keeps(&bound.filter, row) {
-        take_grouped(alloc, bound.groups.items(), asked, row, room, groups)
-    } else {
-        Ok(())
-    }
+    take_grouped(alloc, bound.groups.items(), asked, row, room, groups)
 }
 
 /// The one group of a query without GROUP BY, over no row.

@@ -6,21 +6,32 @@
 //! NULL last. Parts of rows that follow each other are merged into the part of them all, and [`Partial::finish`] makes the answer of it: one record for each row or group, in the order that
 //! ORDER BY asks for. `answer`, in `specs/Answers.antt`, is that answer as a function of the list of all rows.
 //!
+//! The part of a grouped query does not depend on the order of its rows ([`groups_have_no_order`]), and may be made of its groups
+//! or of their counts, without a row ([`Partial::of_groups`], [`Partial::of_counts`]).
+//!
 //! Start with `specs/Sums.antt`, `specs/Tallies.antt`, `specs/Partials.antt` and `specs/Answers.antt`, then `partial.rt`.
 #![tactic(auto)]
 
 mod asked;
 mod asking;
 mod cell;
+mod counted;
 mod grouping;
+mod made_groups;
 mod near;
+mod order_free;
 mod partial;
 mod record;
 mod records;
 mod sums;
 mod tallies;
 
+pub use asked::Asked;
 pub use asking::Asking;
 pub use cell::Cell;
+pub use counted::Counted;
 pub use grouping::keeps;
+pub use made_groups::Group;
+pub use order_free::groups_have_no_order;
 pub use partial::Partial;
+pub use sums::Sums;

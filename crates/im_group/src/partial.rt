@@ -1,10 +1,9 @@
-ghost use Rattle.std.specs.Prelude.{◌≡◌, ◌++◌, [], IfOk, OnOk, OnErr, length, map};
+ghost use Rattle.std.specs.Prelude.{◌≡◌, ℕ, ◌++◌, [], true, IfOk, OnOk, OnErr, length, map};
 ghost use Rattle.std.specs.List.{AllByRecursion};
 ghost use Rattle.im_syntax.specs.BoundFits.{BoundFits};
 ghost use Rattle.im_syntax.specs.BoundQuery.{IsOfGroup, IsQuery};
 ghost use Rattle.im_group.specs.inner.Holding.{AreKeyed, as_groups, entry_order, held_records};
 ghost use Rattle.im_group.specs.Partials as spec;
-ghost use Rattle.im_group.specs.inner.Steps.{with_kept};
 ghost use Rattle.im_group.specs.Tallies as group;
 ghost use Rattle.im_group.specs.Answers.{finished, group_records, in_order, part_records};
 
@@ -38,40 +37,6 @@ impl Model for Partial {
     ghost coded = { coded_parts };
 
     ghost view = { λ p. record { rows = p.rows.items; groups = held (λ k. k.items) p.groups.entries } };
-}
-
-/// Puts a copy of a row with its number behind the others, where the query keeps it.
-fn keep_row(
-    alloc: Global,
-    bound: &Bound,
-    number: u64,
-    row: &[Value],
-    rows: &mut Vec<(u64, Row)>,
-) -> Result<(), NoMemory>
-    requires { BoundFits row.now bound.now }
-    ensures { OnOk result (rows.new.items ≡ with_kept bound.now rows.old.items (number, row.now)) }
-{
-    if keeps(&bound.filter, row) {
-        rows.push((number, Row::of(copied(alloc, row)?)))?;
-    }
-    Ok(())
-}
-
-/// Puts a row with its number behind the others, where the query keeps it. The row is shared.
-fn share_row(
-    alloc: Global,
-    bound: &Bound,
-    number: u64,
-    row: &Row,
-    rows: &mut Vec<(u64, Row)>,
-) -> Result<(), NoMemory>
-    requires { BoundFits row.now bound.now }
-    ensures { OnOk result (rows.new.items ≡ with_kept bound.now rows.old.items (number, row.now)) }
-{
-    if keeps(&bound.filter, row.values()) {
-        rows.push((number, clone_row(alloc, row)?))?;
-    }
-    Ok(())
 }
 
 /// Lends rows, each with its number.
@@ -189,13 +154,14 @@ impl Partial {
         let bound = asking.bound();
         if bound.grouped {
             let groups = no_groups(alloc, bound, asking.asked())?;
-            Ok(Partial::of_groups(alloc, groups))
+            Ok(Partial::of_held(alloc, groups))
         } else {
-            Ok(Partial::of_groups(alloc, IndexMap::new(alloc)))
+            Ok(Partial::of_held(alloc, IndexMap::new(alloc)))
         }
     }
 
-    fn of_groups(alloc: Global, groups: Groups) -> Partial
+    /// The part of a query that is grouped, or of no row of another, whose groups are held.
+    pub(crate) fn of_held(alloc: Global, groups: Groups) -> Partial
         ensures { result ≡ record { rows = []; groups = as_groups groups.entries } }
     {
         Partial {
@@ -220,18 +186,10 @@ impl Partial {
         requires few { spec.IsPartOfFew asking.now self.old }
         ensures { OnOk result (spec.GoesOn asking.now self.old (number, row.now) self.new) }
     {
-        let bound = asking.bound();
-        if bound.grouped {
-            take_row(
-                alloc,
-                bound,
-                asking.asked(),
-                row,
-                &mut self.room,
-                &mut self.groups,
-            )
+        if keeps(&asking.bound().filter, row) {
+            self.take_kept(alloc, asking, number, row)
         } else {
-            keep_row(alloc, bound, number, row, &mut self.rows)
+            Ok(())
         }
     }
 
@@ -248,11 +206,78 @@ impl Partial {
         ensures { OnOk result (spec.GoesOn asking.now self.old (number, row.now) self.new) }
     {
         let bound = asking.bound();
-        if bound.grouped {
-            self.take(alloc, asking, number, row.values())
+        if !keeps(&bound.filter, row.values()) {
+            Ok(())
+        } else if bound.grouped {
+            self.group_kept(alloc, asking, row.values())
         } else {
-            share_row(alloc, bound, number, row, &mut self.rows)
+            self.take_made(alloc, asking, number, clone_row(alloc, row)?)
         }
+    }
+
+    /// Takes one row more that the query keeps, as [`Partial::take`] does. The condition is not asked.
+    pub fn take_kept(
+        &mut self,
+        alloc: Global,
+        asking: &Asking<'_>,
+        number: u64,
+        row: &[Value],
+    ) -> Result<(), NoMemory>
+        requires fits { BoundFits row.now asking.now }
+        requires kept { spec.keeps asking.now.filter row.now ≡ true }
+        requires few { spec.IsPartOfFew asking.now self.old }
+        ensures { OnOk result (spec.GoesOn asking.now self.old (number, row.now) self.new) }
+    {
+        if asking.bound().grouped {
+            self.group_kept(alloc, asking, row)
+        } else {
+            self.take_made(alloc, asking, number, Row::of(copied(alloc, row)?))
+        }
+    }
+
+    /// Takes one row more that the query keeps and that is handed over, as [`Partial::take_kept`] does. A query that is not
+    /// grouped copies nothing.
+    pub fn take_made(
+        &mut self,
+        alloc: Global,
+        asking: &Asking<'_>,
+        number: u64,
+        row: Row,
+    ) -> Result<(), NoMemory>
+        requires fits { BoundFits row asking.now }
+        requires kept { spec.keeps asking.now.filter row ≡ true }
+        requires few { spec.IsPartOfFew asking.now self.old }
+        ensures { OnOk result (spec.GoesOn asking.now self.old (number, row) self.new) }
+    {
+        if asking.bound().grouped {
+            self.group_kept(alloc, asking, row.values())
+        } else {
+            self.rows.push((number, row))?;
+            Ok(())
+        }
+    }
+
+    /// The group of a row that a grouped query keeps takes it.
+    fn group_kept(
+        &mut self,
+        alloc: Global,
+        asking: &Asking<'_>,
+        row: &[Value],
+    ) -> Result<(), NoMemory>
+        requires grouped { asking.now.grouped ≡ true }
+        requires fits { BoundFits row.now asking.now }
+        requires kept { spec.keeps asking.now.filter row.now ≡ true }
+        requires few { spec.IsPartOfFew asking.now self.old }
+        ensures { OnOk result ((number : ℕ) → spec.GoesOn asking.now self.old (number, row.now) self.new) }
+    {
+        take_row(
+            alloc,
+            asking.bound(),
+            asking.asked(),
+            row,
+            &mut self.room,
+            &mut self.groups,
+        )
     }
 
     /// What some rows, each with its row number, give to a query. The rows stay where they are, and those that are kept are shared.

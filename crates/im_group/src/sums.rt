@@ -1,7 +1,9 @@
 ghost use Rattle.std.specs.Prelude.{◌≡◌, ◌+◌, ◌<◌, ◌^◌, [], IfOk, OnOk, length, if◌then◌else◌};
 ghost use Rattle.im_syntax.specs.BoundFits.{value_at};
 ghost use Rattle.im_values.specs.Order as values;
+ghost use Rattle.im_values.specs.declared.value.Value.TheVariants.{Null};
 ghost use Rattle.im_group.specs.Sums as spec;
+ghost use Rattle.im_group.specs.inner.Narrowing.{narrowed};
 
 use crate::asked::Asked;
 use crate::cell::Cell;
@@ -77,9 +79,20 @@ fn keep_greater(greatest: &mut Value, value: Value)
     }
 }
 
+/// An end where it is asked for, else NULL.
+fn end_or_null(alloc: Global, asked: bool, end: &Value) -> Result<Value, NoMemory>
+    ensures { IfOk result (λ value. value ≡ (if asked then end.now else Null)) }
+{
+    if asked {
+        end.copy(alloc)
+    } else {
+        Ok(Value::Null)
+    }
+}
+
 impl Sums {
     /// The summary of no value of a column.
-    pub fn new(_asked: Asked) -> Sums
+    pub(crate) fn new(_asked: Asked) -> Sums
         ensures { result ≡ spec.sums_of _asked [] }
     {
         Sums::none()
@@ -97,12 +110,40 @@ impl Sums {
         }
     }
 
+    /// The summary of so many values that are not NULL, which add up to a total, a text as 0, and of which these are the least
+    /// and the greatest: NULL where there is none, and where a query does not ask for that end. It takes no memory.
+    pub fn of(values: u64, total: i128, least: Value, greatest: Value) -> Sums
+        requires { spec.IsWithin values total }
+        ensures { result ≡ record { values = values; total = total; least = least; greatest = greatest } }
+    {
+        Sums {
+            values,
+            total,
+            least,
+            greatest,
+        }
+    }
+
     /// The same summary once more.
     pub fn copy(&self, alloc: Global) -> Result<Sums, NoMemory>
         ensures { IfOk result (λ sums. sums ≡ self.now) }
     {
         let least = self.least.copy(alloc)?;
         let greatest = self.greatest.copy(alloc)?;
+        Ok(Sums {
+            values: self.values,
+            total: self.total,
+            least,
+            greatest,
+        })
+    }
+
+    /// The same summary without the ends that are not asked for.
+    pub(crate) fn narrowed(&self, alloc: Global, asked: Asked) -> Result<Sums, NoMemory>
+        ensures { IfOk result (λ sums. sums ≡ narrowed asked self.now) }
+    {
+        let least = end_or_null(alloc, asked.least, &self.least)?;
+        let greatest = end_or_null(alloc, asked.greatest, &self.greatest)?;
         Ok(Sums {
             values: self.values,
             total: self.total,
@@ -135,7 +176,12 @@ impl Sums {
     }
 
     /// Takes the value of one row more. Where memory is out, what the summary is then is not said.
-    pub fn take(&mut self, alloc: Global, asked: Asked, row: &[Value]) -> Result<(), NoMemory>
+    pub(crate) fn take(
+        &mut self,
+        alloc: Global,
+        asked: Asked,
+        row: &[Value],
+    ) -> Result<(), NoMemory>
         requires fits { asked.column < length row.now }
         requires few { self.old.values + 1 < 2 ^ 64 }
         ensures { OnOk result (self.new ≡ spec.taken asked self.old (value_at row.now asked.column)) }
@@ -146,7 +192,7 @@ impl Sums {
     }
 
     /// Takes what another summary of the same column has taken. It takes no memory.
-    pub fn join(&mut self, other: Sums)
+    pub(crate) fn join(&mut self, other: Sums)
         requires { self.old.values + other.values < 2 ^ 64 }
         ensures { self.new ≡ spec.joined self.old other }
     {
@@ -174,7 +220,7 @@ impl Sums {
     }
 
     /// An aggregate, read off the summary.
-    pub fn read(&self, alloc: Global, function: Function) -> Result<Cell, NoMemory>
+    pub(crate) fn read(&self, alloc: Global, function: Function) -> Result<Cell, NoMemory>
         ensures { IfOk result (λ cell. cell ≡ spec.reading function self.now) }
     {
         match function {

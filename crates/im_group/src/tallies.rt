@@ -92,6 +92,13 @@ impl Tallies {
         Ok(Tallies { rows: 0, sums })
     }
 
+    /// Tallies of so many rows, with these summaries.
+    pub fn of(rows: u64, sums: Vec<Sums>) -> Tallies
+        ensures { result ≡ record { rows = rows; sums = sums.items } }
+    {
+        Tallies { rows, sums }
+    }
+
     /// The same tallies once more.
     pub fn copy(&self, alloc: Global) -> Result<Tallies, NoMemory>
         ensures { IfOk result (λ tallies. tallies ≡ self.now) }

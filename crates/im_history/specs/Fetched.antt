@@ -1,7 +1,9 @@
 -- What is read of row numbers, in pieces.
-use Rattle.std.specs.Prelude.{ℕ, ◌+◌, ◌^◌, ◌≤◌, List, [], ◌∷◌, length, Option, Some}
+use Rattle.std.specs.Prelude.{ℕ, ◌+◌, ◌^◌, ◌≤◌, List, [], ◌∷◌, length, map, Option, Some}
 use Rattle.std.specs.List.{flat_map}
+use Rattle.std.specs.Option.{option_copied}
 use Rattle.im_values.specs.declared.value.Value.{Value}
+use Rattle.im_history.specs.declared.fetched.LentRow.{LentRow}
 use Rattle.im_history.specs.declared.fetched.Piece.{Piece}
 use Rattle.im_history.specs.declared.fetched.Piece.TheVariants.{Run, One}
 
@@ -18,6 +20,14 @@ in_piece (One rid row) = (rid, row) ∷ []
 -- those of all pieces, one behind another
 abbrev pub in_pieces : List Piece → List (ℕ × Option (List Value))
 in_pieces pieces = flat_map in_piece pieces
+
+-- a row number with the values of its row, or none, that are lent
+abbrev pub lent_row : LentRow → ℕ × Option (List Value)
+lent_row lent = (lent.rid, option_copied lent.row)
+
+-- all of them
+abbrev pub lent_rows : List LentRow → List (ℕ × Option (List Value))
+lent_rows rows = map lent_row rows
 
 -- the row numbers of a piece are numbers of 64 bits
 abbrev pub HasNumbers : Piece → Type 0

@@ -1,7 +1,7 @@
-ghost use Rattle.std.specs.Prelude.{◌≡◌, ◌+◌, ◌^◌, ◌≤◌, ◌++◌, ◌==◌, [], ◌∷◌, All, length, IfOk, OnOk, OnErr};
+ghost use Rattle.std.specs.Prelude.{◌≡◌, ◌+◌, ◌^◌, ◌≤◌, ◌++◌, ◌==◌, [], ◌∷◌, All, length, map, IfOk, OnOk, OnErr, Some};
 ghost use Rattle.im_history.specs.Fetched as spec;
 
-use im_values::{NoMemory, Row, Rows};
+use im_values::{NoMemory, Row, Rows, Value};
 use std::alloc::Global;
 use std::marker::Model;
 
@@ -12,6 +12,15 @@ pub enum Piece {
     Run(u64, Rows),
     /// A row number, with its row or none.
     One(u64, Option<Row>),
+}
+
+/// What was read of a row number, lent.
+#[derive(Clone, Copy)]
+pub struct LentRow<'a> {
+    /// The row number.
+    pub rid: u64,
+    /// The values of its row, or none.
+    pub row: Option<&'a [Value]>,
 }
 
 /// What was read of row numbers: of each the row, or none.
@@ -84,6 +93,30 @@ impl Fetched {
         self.len == 0
     }
 
+    /// Each row number with the values of its row, or none: no row is shared or copied. It costs a place for each.
+    pub fn lent(&self, alloc: Global) -> Result<Vec<LentRow<'_>>, NoMemory>
+        ensures { IfOk result (λ rows. spec.lent_rows rows.items ≡ self.now) }
+    {
+        let mut rows = Vec::new(alloc);
+        for piece in self.pieces.as_slice() {
+            lend_piece(&mut rows, piece)?;
+        }
+        Ok(rows)
+    }
+
+    /// The rows, or none, without their numbers. A row that was kept with others is shared; it is refused where as many share
+    /// one as can.
+    pub fn into_rows(self, alloc: Global) -> Result<Vec<Option<Row>>, NoMemory>
+        ensures { IfOk result (λ rows. rows.items ≡ map (λ found. found.1) self) }
+    {
+        let Fetched { pieces, len: _ } = self;
+        let mut rows = Vec::new(alloc);
+        for piece in pieces {
+            put_piece(&mut rows, piece)?;
+        }
+        Ok(rows)
+    }
+
     /// The pieces, in order.
     pub fn pieces(&self) -> &[Piece]
         ensures pieces { spec.in_pieces result.now ≡ self.now }
@@ -91,6 +124,60 @@ impl Fetched {
     {
         self.pieces.as_slice()
     }
+}
+
+/// Puts the rows of a piece behind others, lent.
+fn lend_piece<'a>(rows: &mut Vec<LentRow<'a>>, piece: &'a Piece) -> Result<(), NoMemory>
+    requires { spec.HasNumbers piece.now }
+    ensures { OnOk result (spec.lent_rows rows.new.items ≡ spec.lent_rows rows.old.items ++ spec.in_piece piece.now) }
+{
+    match piece {
+        Piece::Run(first, run) => lend_run(rows, *first, run),
+        Piece::One(rid, row) => {
+            rows.push(LentRow {
+                rid: *rid,
+                row: row.as_ref().map(Row::values),
+            })?;
+            Ok(())
+        }
+    }
+}
+
+/// Puts the rows of a run behind others, lent.
+fn lend_run<'a>(rows: &mut Vec<LentRow<'a>>, first: u64, run: &'a Rows) -> Result<(), NoMemory>
+    requires { first + length run.now ≤ 2 ^ 63 }
+    ensures { OnOk result (spec.lent_rows rows.new.items ≡ spec.lent_rows rows.old.items ++ spec.run_from first run.now) }
+{
+    for at in 0..run.len() {
+        rows.push(LentRow {
+            rid: first + at as u64,
+            row: Some(run.values(at)),
+        })?;
+    }
+    Ok(())
+}
+
+/// Puts the rows of a piece behind others.
+fn put_piece(rows: &mut Vec<Option<Row>>, piece: Piece) -> Result<(), NoMemory>
+    ensures { OnOk result (rows.new.items ≡ rows.old.items ++ map (λ found. found.1) (spec.in_piece piece)) }
+{
+    match piece {
+        Piece::Run(_, run) => put_run(rows, &run),
+        Piece::One(_, row) => {
+            rows.push(row)?;
+            Ok(())
+        }
+    }
+}
+
+/// Puts the rows of a run behind others.
+fn put_run(rows: &mut Vec<Option<Row>>, run: &Rows) -> Result<(), NoMemory>
+    ensures { OnOk result (rows.new.items ≡ rows.old.items ++ map (λ row. Some row) run.now) }
+{
+    for at in 0..run.len() {
+        rows.push(Some(run.row(at)?))?;
+    }
+    Ok(())
 }
 
 /// So many row numbers and these more. More than 64 bits count have no room in memory.

@@ -1,7 +1,8 @@
 ghost use Rattle.std.specs.Prelude.{◌≡◌, ◌+◌, ◌^◌, ◌<◌, ℕ, IfOk};
 ghost use Rattle.im_history.specs.Last.{AreLast, change_of, changes_of, last_at};
+ghost use Rattle.im_history.specs.Puts.{all_changes};
 
-use crate::change::Change;
+use crate::changes::Changes;
 use crate::last::LastRows;
 use im_values::{NoMemory, Row};
 use std::alloc::Global;
@@ -17,7 +18,7 @@ use std::snapshot::Snapshot;
 pub struct OwnChanges {
     table: u32,
     last: LastRows,
-    pending: Snapshot<Vec<Change>>,
+    pending: Snapshot<Vec<Changes>>,
 }
 
 impl Model for OwnChanges {
@@ -28,17 +29,18 @@ impl Model for OwnChanges {
 
     ghost use Rattle.std.specs.Prelude.{◌≡◌, ℕ};
     ghost use Rattle.im_history.specs.Last.{change_of, changes_of, last_at};
+    ghost use Rattle.im_history.specs.Puts.{all_changes};
 
-    ghost view = { λ o. changes_of o.table o.pending.value.items };
+    ghost view = { λ o. changes_of o.table (all_changes o.pending.value.items) };
 
-    ghost invariant = { λ o. (rid : ℕ) → last_at o.last rid ≡ change_of o.pending.value.items o.table rid };
+    ghost invariant = { λ o. (rid : ℕ) → last_at o.last rid ≡ change_of (all_changes o.pending.value.items) o.table rid };
 }
 
 impl OwnChanges {
-    /// Those of these changes that are to a table, of which the last ones are known.
-    pub fn of(table: u32, last: LastRows, pending: &Vec<Change>) -> OwnChanges
-        requires last { (rid : ℕ) → last_at last rid ≡ change_of pending.now.items table rid }
-        ensures { result ≡ changes_of table pending.now.items }
+    /// Those of the changes of these writes that are to a table, of which the last ones are known.
+    pub fn of(table: u32, last: LastRows, pending: &Vec<Changes>) -> OwnChanges
+        requires last { (rid : ℕ) → last_at last rid ≡ change_of (all_changes pending.now.items) table rid }
+        ensures { result ≡ changes_of table (all_changes pending.now.items) }
     {
         OwnChanges {
             table,

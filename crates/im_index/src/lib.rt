@@ -8,7 +8,9 @@
 #![tactic(auto)]
 
 mod bounds;
+mod laws;
 mod pruning;
 
 pub use bounds::{Bounds, may_match};
-pub use pruning::{excluded_rows_are_not_kept, pruned};
+pub use laws::excluded_rows_are_not_kept;
+pub use pruning::pruned;

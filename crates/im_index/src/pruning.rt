@@ -2,7 +2,6 @@ ghost use Rattle.std.specs.Prelude.{◌≡◌};
 ghost use Rattle.std.specs.List.{list_any};
 ghost use Rattle.im_syntax.specs.Condition.{terms_of};
 ghost use Rattle.im_index.specs.Excludes as spec;
-ghost use Rattle.im_index.specs.Excludes.{ExcludedRowsAreNotKept};
 
 use crate::bounds::{Bounds, may_match};
 use im_syntax::{Filter, Test, TestForm, Tests};
@@ -97,8 +96,3 @@ pub fn pruned(filter: &Filter, bounds: &[Bounds]) -> bool
     }
     some_excluded(&lists[0], bounds)
 }
-
-/// A condition that the bounds of columns exclude keeps none of their rows. This is said here once, and nothing is done.
-pub fn excluded_rows_are_not_kept()
-    ensures { ExcludedRowsAreNotKept }
-{}

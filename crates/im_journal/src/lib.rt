@@ -8,8 +8,8 @@
 //! Start with `specs/Stale.antt` and then `journal.rt`.
 #![tactic(auto)]
 
-mod first_notes;
 mod journal;
+mod laws;
 
-pub use first_notes::first_notes_suffice;
 pub use journal::Journal;
+pub use laws::first_notes_suffice;

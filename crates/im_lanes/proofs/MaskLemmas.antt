@@ -1,5 +1,5 @@
 -- Words of bits, and the lists of truth values that they hold.
-use Rattle.std.proofs.Common.{All, min, count_by, filter, ◌≡◌, ℕ, zero, suc, ◌+◌, ◌-◌, ◌*◌, ◌/◌, ◌%◌, ◌^◌, ◌<◌, ◌≤◌, ◌==◌, ◌&&◌, ◌||◌, not, bit_and, bit_or, set, replicate, nat_lt, nat_le, Bool, true, false, cond, List, [], ◌∷◌, ◌++◌, length, take, drop, map, get_or, ⊎_elim, sym, refl, ap, ◌∙◌, arith, get_or-drop, get_or-take, length-take, length-take-le, length-drop, length-append, eq-eqb, div-add-mod', pow_pos, lt_of_lt_of_le, lt_of_le_of_lt, subst}
+use Rattle.std.proofs.Common.{All, min, count_by, filter, ◌≡◌, ℕ, zero, suc, ◌+◌, ◌-◌, ◌*◌, ◌/◌, ◌%◌, ◌^◌, ◌<◌, ◌≤◌, ◌==◌, ◌&&◌, ◌||◌, not, bit_and, bit_or, set, replicate, nat_lt, nat_le, Bool, true, false, cond, List, [], ◌∷◌, ◌++◌, length, take, drop, map, get_or, ⊎_elim, sym, refl, ap, ◌∙◌, arith, get_or-drop, get_or-take, length-take, length-take-le, length-drop, length-append, eq-eqb, div-add-mod', pow_pos, lt_of_lt_of_le, lt_of_le_of_lt, subst, zero-add}
 use Rattle.std.proofs.Math.Nat.{pow-le-pow_right}
 use Rattle.std.specs.Int.{div_ceil}
 use Rattle.std.proofs.lemmas.Grind.{div_ceil_times}
@@ -502,6 +502,104 @@ count-more mask words k total ones are inside so_far is =
     let there : k < div_ceil (length mask) 64 = omega (arith, inside, ap length are, length-words_of mask) in
     let word : ones ≡ count_ones (word_at mask k) = is ∙ (ap (λ ws. count_ones (get_or ws k 0)) are ∙ ap count_ones (get_or-words_of mask k 0 there)) in
     rw (so_far, word) (sym (count-step mask k))
+
+-- the words of the first positions
+pub word-first : (mask : List Bool) (end place word : ℕ) → word ≡ word_at mask place % 2 ^ (end - place * 64) → place * 64 < end → word ≡ word_at (take end mask) place
+word-first mask end place word is begins =
+    let left = end - place * 64 in
+    let part = take 64 (drop (place * 64) mask) in
+    let small : word_at mask place < 2 ^ 64 = word_of-below part (omega (arith, length-take 64 (drop (place * 64) mask))) in
+    is ∙ word-is (take end mask) place (word_at mask place % 2 ^ left) (lt_of_le_of_lt (below-self (word_at mask place) left) small) (λ i low.
+    ⊎_elim (λ (h : i < left).
+    set-low (word_at mask place) left i h
+    ∙ (set-word_at mask place i low ∙ sym (get_or-take end mask (place * 64 + i) false (omega (arith, h)))))
+    (λ (h : left ≤ i).
+    set-past (word_at mask place) left i h
+    ∙ sym (get_or_past (take end mask) (place * 64 + i) false (omega (arith, length-take end mask, h))))
+    (cases_lt i left))
+
+pub count-first : (mask : List Bool) (words : List ℕ) (end k total word ones : ℕ) → words ≡ words_of mask → end ≤ length mask → k < div_ceil end 64 →
+    total ≡ count_by (λ (b : Bool). b) (take (k * 64) (take end mask)) → word ≡ get_or words k 0 % 2 ^ (end - k * 64) →
+    ones ≡ count_ones word → total + ones ≡ count_by (λ (b : Bool). b) (take ((k + 1) * 64) (take end mask))
+count-first mask words end k total word ones are within inside so_far is counted =
+    let begins = place-begins end k inside in
+    let more = place-inside (length mask) (k * 64) (omega (arith, begins, within)) in
+    let there : k < div_ceil (length mask) 64 = omega (arith, more) in
+    let read : get_or words k 0 ≡ word_at mask k = ap (λ ws. get_or ws k 0) are ∙ get_or-words_of mask k 0 there in
+    let here = word-first mask end k word (is ∙ ap (λ w. w % 2 ^ (end - k * 64)) read) begins in
+    rw counted (ap (λ n. n + count_ones word) so_far
+    ∙ (ap (λ w. count_by (λ (b : Bool). b) (take (k * 64) (take end mask)) + count_ones w) here ∙ sym (count-step (take end mask) k)))
+
+-- the chosen positions below one, and those from it on and below another
+pub count-parts : (mask : List Bool) (from end : ℕ) → from ≤ end →
+    count_by (λ (b : Bool). b) (take end mask) ≡ count_by (λ (b : Bool). b) (take from mask) + count_by (λ (b : Bool). b) (take (end - from) (drop from mask))
+count-parts mask from end order =
+    let sum : end ≡ from + (end - from) = omega (arith, order) in
+    let cut : take from mask ++ take (end - from) (drop from mask) ≡ take (from + (end - from)) mask =
+    ap (λ l. l ++ take (end - from) (drop from mask)) (sym (take-take from (from + (end - from)) mask (omega arith)))
+    ∙ (ap (λ l. take from (take (from + (end - from)) mask) ++ l) (sym (drop-take from (end - from) mask)) ∙ take-append-drop from (take (from + (end - from)) mask)) in
+    ap (λ n. count_by (λ (b : Bool). b) (take n mask)) sum ∙ (ap (count_by (λ (b : Bool). b)) (sym cut) ∙ count_by-append (take from mask) (take (end - from) (drop from mask)))
+
+-- what a loop over words has counted, from the word of a position on
+pub record CountsFrom (mask : List Bool) (from end place total : ℕ) : Type 0 where
+  pub begins : from / 64 ≤ place
+  pub counted : total + count_by (λ (b : Bool). b) (take (from / 64 * 64) mask) ≡ count_by (λ (b : Bool). b) (take (place * 64) (take end mask))
+
+pub count-begins : (mask : List Bool) (from end : ℕ) → from < end → CountsFrom mask from end (from / 64) 0
+count-begins mask from end some = record {
+  begins = omega arith;
+  counted = zero-add (count_by (λ (b : Bool). b) (take (from / 64 * 64) mask))
+      ∙ ap (count_by (λ (b : Bool). b)) (sym (take-take (from / 64 * 64) end mask (omega (arith, some))));
+}
+
+pub count-on : (mask : List Bool) (words : List ℕ) (from end k total word ones : ℕ) → words ≡ words_of mask → end ≤ length mask → k < div_ceil end 64 →
+    CountsFrom mask from end k total → word ≡ get_or words k 0 % 2 ^ (end - k * 64) → ones ≡ count_ones word → CountsFrom mask from end (k + 1) (total + ones)
+count-on mask words from end k total word ones are within inside before is counted =
+    let next =
+    count-first mask words end k (total + count_by (λ (b : Bool). b) (take (from / 64 * 64) mask)) word ones are within inside before.counted is counted in
+    record { begins = omega (arith, before.begins); counted = omega (arith, next) }
+
+pub count-few-from : (mask : List Bool) (from end place total : ℕ) → CountsFrom mask from end place total → total ≤ end
+count-few-from mask from end place total counts =
+    let all = take (place * 64) (take end mask) in
+    omega (arith, counts.counted, count-few all, length-take (place * 64) (take end mask), length-take end mask)
+
+-- no bit is counted in 0
+ones-none : count_ones 0 ≡ 0
+ones-none = ap count_ones (word_of-lanes [] ∙ ap mask_l (sym (map-id {A = Bool} []))) ∙ ones-mask_l (λ (b : Bool). b) []
+
+-- the first positions of the word of a position
+count-rest : (mask : List Bool) (words : List ℕ) (from word ones : ℕ) → words ≡ words_of mask → from ≤ length mask →
+    word ≡ get_or words (from / 64) 0 % 2 ^ (from % 64) → ones ≡ count_ones word →
+    count_by (λ (b : Bool). b) (take (from / 64 * 64) mask) + ones ≡ count_by (λ (b : Bool). b) (take from mask)
+count-rest mask words from word ones are within is counted =
+    ⊎_elim (λ (h : from % 64 ≡ 0).
+    let place : from / 64 * 64 ≡ from = omega (arith, h) in
+    let none : word ≡ 0 = is ∙ (ap (λ r. get_or words (from / 64) 0 % 2 ^ r) h ∙ omega arith) in
+    let no_ones : ones ≡ 0 = counted ∙ (ap count_ones none ∙ ones-none) in
+    rw (place, no_ones) (omega arith))
+    (λ (h : from % 64 ≡ 0 → ⊥).
+    let rest : from % 64 ≡ from - from / 64 * 64 = omega arith in
+    let inside : from / 64 < div_ceil from 64 = let enough = (div_ceil_times from 64 (omega arith)).0 in omega (arith, enough, h) in
+    let next =
+    count-first mask words from (from / 64) (count_by (λ (b : Bool). b) (take (from / 64 * 64) (take from mask))) word ones are within inside refl
+    (is ∙ ap (λ r. get_or words (from / 64) 0 % 2 ^ r) rest) counted in
+    let all : take ((from / 64 + 1) * 64) (take from mask) ≡ take from mask =
+    take_all ((from / 64 + 1) * 64) (take from mask) (omega (arith, length-take from mask)) in
+    ap (λ l. count_by (λ (b : Bool). b) l + ones) (sym (take-take (from / 64 * 64) from mask (omega arith))) ∙ (next ∙ ap (count_by (λ (b : Bool). b)) all))
+    (cases_eq (from % 64) 0)
+
+-- all words, without the first positions of the first one
+pub count-ends : (mask : List Bool) (words : List ℕ) (from end place total word ones : ℕ) → words ≡ words_of mask → from < end → end ≤ length mask →
+    div_ceil end 64 ≤ place → CountsFrom mask from end place total → word ≡ get_or words (from / 64) 0 % 2 ^ (from % 64) → ones ≡ count_ones word →
+    (ones ≤ total) × (total - ones ≡ count_by (λ (b : Bool). b) (take (end - from) (drop from mask)))
+count-ends mask words from end place total word ones are some within over counts is counted =
+    let enough = (div_ceil_times end 64 (omega arith)).0 in
+    let whole : take (place * 64) (take end mask) ≡ take end mask = take_all (place * 64) (take end mask) (omega (arith, length-take end mask, over, enough)) in
+    let parts = count-parts mask from end (omega (arith, some)) in
+    let first = count-rest mask words from word ones are (omega (arith, some, within)) is counted in
+    let sum = counts.counted ∙ ap (count_by (λ (b : Bool). b)) whole in
+    (omega (arith, sum, first, parts), omega (arith, sum, first, parts))
 
 -- ---- words bit by bit
 

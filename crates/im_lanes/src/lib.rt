@@ -18,6 +18,6 @@ mod words;
 
 pub use between::{mask_between, mask_within};
 pub use flags::mask_by_flags;
-pub use logic::{count, mask_and, mask_not, mask_or};
+pub use logic::{count, count_within, mask_and, mask_not, mask_or};
 pub use mask::{Mask, word_count};
 pub use words::{first_bits, with_bit};

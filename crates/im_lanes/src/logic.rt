@@ -1,7 +1,8 @@
-ghost use Rattle.std.specs.Prelude.{◌≡◌, ◌&&◌, ◌||◌, IfOk, count_by, length, map, not};
+ghost use Rattle.std.specs.Prelude.{◌≡◌, ◌-◌, ◌<◌, ◌≤◌, ◌&&◌, ◌||◌, IfOk, count_by, drop, length, map, not, take};
 ghost use Rattle.im_lanes.specs.Masks.{joined};
 
-use crate::mask::Mask;
+use crate::mask::{Mask, word_count};
+use crate::words::first_bits;
 use im_values::NoMemory;
 use std::alloc::Global;
 
@@ -44,4 +45,21 @@ pub fn count(mask: &Mask) -> u64
         total += u64::from(words[place].count_ones());
     }
     total
+}
+
+/// How many positions are chosen from one on and below another. It goes over the words between.
+pub fn count_within(mask: &Mask, from: u64, end: u64) -> u64
+    requires some { from < end }
+    requires within { end ≤ length mask.now }
+    ensures { result ≡ count_by (λ chosen. chosen) (take (end - from) (drop from mask.now)) }
+{
+    let words = mask.words();
+    let first = from as usize / 64;
+    let mut total = 0;
+    for place in first..word_count(end) {
+        let word = first_bits(words[place], end - place as u64 * 64);
+        total += u64::from(word.count_ones());
+    }
+    let before = first_bits(words[first], from % 64);
+    total - u64::from(before.count_ones())
 }

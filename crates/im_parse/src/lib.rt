@@ -13,6 +13,7 @@
 mod beginnings;
 mod column_tests;
 mod conditions;
+mod laws;
 mod marks;
 mod parsing;
 mod queries;
@@ -22,4 +23,5 @@ mod tables;
 mod transactions;
 mod values;
 
-pub use parsing::{ParseFault, one_spelling, parse, parse_for};
+pub use laws::one_spelling;
+pub use parsing::{ParseFault, parse, parse_for};

@@ -63,8 +63,3 @@ pub fn parse_for(alloc: Global, side: Side, tokens: &[Token]) -> Result<Stmt, Pa
         Err(ParseFault::At(0))
     }
 }
-
-/// Two statements of one spelling are one.
-pub fn one_spelling()
-    ensures { (a b : AnyStmt) → IsStmt a → IsStmt b → spelling a ≡ spelling b → a ≡ b }
-{}

@@ -11,6 +11,7 @@ use Rattle.im_history.specs.Rows.{Row, row_after}
 use Rattle.im_history.specs.Units.{Content}
 use Rattle.im_scan.specs.Parts.{MayAsk, row_in_unit, fetched_after, taken_row}
 use Rattle.im_scan.specs.inner.Steps.{MayScan}
+use Rattle.im_scan.specs.inner.Walk.{lent_beside}
 use Rattle.im_scan.proofs.SlotLemmas.{AreTaken}
 
 no_row : (bound : Bound) → MayAsk bound None
@@ -82,3 +83,9 @@ pub row-fits : (bound : Bound) (fetched : List (ℕ × Option Row)) (i : ℕ) (r
 row-fits bound [] i row within is all = absurd (omega (arith, within))
 row-fits bound (f ∷ fetched) zero row within is all = subst (λ (o : ℕ × Option Row). MayAsk bound o.1) (sym is) all.0
 row-fits bound (f ∷ fetched) (suc i) row within is all = row-fits bound fetched i row (omega (arith, within)) is all.1
+
+pub beside-fits : (bound : Bound) (rows : List (ℕ × Option (Bor Row))) (i : ℕ) (row : ℕ × Option (Bor Row)) → i < length rows → row ≡ get_or rows i row
+    → AllByRecursion (λ r. MayAsk bound r.1) (lent_beside rows) → MayAsk bound (option_copied row.1)
+beside-fits bound [] i row within is all = absurd (omega (arith, within))
+beside-fits bound (r ∷ rows) zero row within is all = subst (λ (o : ℕ × Option (Bor Row)). MayAsk bound (option_copied o.1)) (sym is) all.0
+beside-fits bound (r ∷ rows) (suc i) row within is all = beside-fits bound rows i row (omega (arith, within)) is all.1

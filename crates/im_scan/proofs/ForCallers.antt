@@ -130,7 +130,7 @@ ranges first (suc n) m =
     (ap (λ (k : ℕ). range_with_len (first + 1) n ++ range_with_len k m) past ∙ ranges (first + 1) n m)
     ∙ ap (range_with_len first) more
 
-present-append : (row_at : ℕ → Option Row) (first n m next : ℕ) → first + n ≡ next
+pub present-append : (row_at : ℕ → Option Row) (first n m next : ℕ) → first + n ≡ next
     → present row_at first n ++ present row_at next m ≡ present row_at first (n + m)
 present-append row_at first n m next is =
     ap (λ (k : ℕ). present row_at first n ++ present row_at k m) (sym is)
@@ -208,7 +208,7 @@ length-optional : (row : Option (ℕ × Row)) (later : List Numbered) (n : ℕ) 
 length-optional None later n few = omega (arith, few)
 length-optional (Some row) later n few = omega (arith, few)
 
-length-present : (row_at : ℕ → Option Row) (first n : ℕ) → length (present row_at first n) ≤ n
+pub length-present : (row_at : ℕ → Option Row) (first n : ℕ) → length (present row_at first n) ≤ n
 length-present row_at first zero = omega arith
 length-present row_at first (suc n) =
     let few = length-optional (option_map (λ row. (first, row)) (row_at first)) (present row_at (first + 1) n) n

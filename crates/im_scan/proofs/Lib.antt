@@ -1,8 +1,14 @@
 mod SlotLemmas
 mod InPlace
+mod PieceLemmas
 mod FitLemmas
 mod PartLemmas
 mod PinLemmas
 mod PrunedLemmas
 pub mod ForCallers
 pub mod MergeLemmas
+mod NextLemmas
+mod WalkLemmas
+mod KeptPlaces
+mod BesideLemmas
+mod SummedLemmas

@@ -12,12 +12,15 @@ use Rattle.im_history.specs.Units.{Content}
 use Rattle.im_history.proofs.GridLaws.{first_within}
 use Rattle.im_group.specs.Partials.{Parts, partial, IsPartOfFew}
 use Rattle.im_scan.specs.Parts.{MayAsk, row_in_unit, taken_row}
-use Rattle.im_scan.specs.inner.Steps.{MayScan, lent, gathered, numbered_from, unit_rows, with_changes, with_fetched}
+use Rattle.im_scan.specs.inner.Steps.{IsUnchanged, MayScan, lent, gathered, numbered_from, unit_rows, with_fetched}
 use Rattle.im_scan.specs.declared.faces.Face.{Face}
 use Rattle.im_scan.specs.Faces.{unit_of}
 use Rattle.std.proofs.lemmas.List.FromFn.{length-map-range_with_len}
-use Rattle.im_scan.proofs.SlotLemmas.{are_taken, gathered-present, length-with_fetched}
+use Rattle.im_scan.proofs.SlotLemmas.{are_taken, own-none, gathered-present, length-with_fetched}
 use Rattle.im_scan.proofs.FitLemmas.{slots-fit}
+use Rattle.im_scan.specs.inner.Beside.{AreBeside, Beside}
+use Rattle.im_scan.specs.inner.Walk.{standing}
+use Rattle.im_scan.proofs.PinLemmas.{present-same}
 
 -- an extent of a view, whose row numbers are cut into extents, begins at a row number of it
 pub begins : (view : View) (extent : ℕ) → view.extents ≡ extents_for view.rows view.per → extent < view.extents
@@ -65,13 +68,13 @@ few-taken bound first i slots part is less few = record {
 -- where the view changed none of these row numbers and there is no unit, what was fetched is all
 pub fetched-part : (bound : Bound) (face : Face) (fetched : List (ℕ × Option Row)) (view : View) (first count : ℕ)
     → unit_of face ≡ None → length fetched ≡ count
-    → ((slots : List (Option Row)) → length slots ≡ count → with_changes view.table first slots view.own ≡ slots)
+    → IsUnchanged view first count
     → partial bound (numbered_from first (with_fetched first (unit_rows None first (length fetched)) fetched))
     ≡ partial bound (present (taken_row (unit_of face) fetched view) first count)
 fetched-part bound face fetched view first count bare same none =
     ap (partial bound)
     (ap (λ (n : ℕ). numbered_from first (with_fetched first (unit_rows None first n) fetched)) same
-    ∙ (ap (numbered_from first) (sym (none slots long))
+    ∙ (ap (numbered_from first) (sym (own-none view first count slots none long))
     ∙ (gathered-present None fetched view first count
     ∙ ap (λ (u : Option Content). present (taken_row u fetched view) first count) (sym bare))))
   where
@@ -80,3 +83,9 @@ fetched-part bound face fetched view first count bare same none =
 
     long : length slots ≡ count
     long = length-with_fetched first (unit_rows None first count) fetched ∙ length-map-range_with_len (row_in_unit None) first count
+
+-- what stands at the row numbers with the rows beside the unit is what a scan takes there
+pub beside-part : (unit : Option Content) (fetched : Beside) (view : View) (first count : ℕ) (rows : Beside) → AreBeside fetched view first count rows →
+    present (standing unit rows) first count ≡ present (taken_row unit fetched view) first count
+beside-part unit fetched view first count rows are =
+    present-same (standing unit rows) (taken_row unit fetched view) first count (λ rid from below. are.at rid from below (row_in_unit unit rid))

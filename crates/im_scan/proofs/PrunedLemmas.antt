@@ -1,7 +1,7 @@
 -- What a scan takes of a pruned unit: without the unit's rows its part is the same.
-use Rattle.std.proofs.Common.{◌≡◌, ◌≢◌, ℕ, zero, suc, ◌+◌, ◌-◌, ◌*◌, ◌<◌, ◌==◌, ◌&&◌, Bool, true, false, if◌then◌else◌, List, [], ◌∷◌, ◌⊎◌, inl, inr, length, map, get_or, filter, Option, Some, None, Contains, ⊎_elim, refl, sym, ap, ◌∙◌, arith}
+use Rattle.std.proofs.Common.{◌≡◌, ◌≢◌, ℕ, zero, suc, ◌+◌, ◌-◌, ◌*◌, ◌<◌, ◌==◌, ◌&&◌, Bool, true, false, if◌then◌else◌, List, [], ◌∷◌, ◌⊎◌, inl, inr, length, map, get_or, Option, Some, None, Contains, ⊎_elim, refl, sym, ap, ◌∙◌, arith}
 use Rattle.std.specs.Prelude.{nat_lt}
-use Rattle.std.specs.List.{cons_option, fold, range_with_len}
+use Rattle.std.specs.List.{cons_option, fold}
 use Rattle.std.specs.Option.{option_map}
 use Rattle.std.proofs.lemmas.List.{get_or-map, length-map}
 use Rattle.std.proofs.lemmas.List.FromFn.{get_or-map-range_with_len, length-map-range_with_len}
@@ -27,7 +27,7 @@ use Rattle.std.specs.FinMap as map_of
 use Rattle.im_unit.specs.Holding.{row_of}
 use Rattle.im_replies.specs.Mixes.{is_pruned}
 use Rattle.im_scan.specs.Faces.{Shows, unit_of}
-use Rattle.im_scan.specs.Parts.{fetched_after, row_in_unit, taken_row, taken_rows}
+use Rattle.im_scan.specs.Parts.{fetched_after, taken_row, taken_rows}
 use Rattle.im_scan.specs.Pinned.{IsPinned, seen_in}
 use Rattle.im_scan.specs.declared.faces.Face.{Face}
 use Rattle.im_scan.specs.declared.faces.Face.TheVariants.{Whole, Edges, Bare}
@@ -142,7 +142,7 @@ kept-same bound held f g first (suc count) out same =
     kept-rest bound (Some row) xs ys e = ap (λ (l : List Numbered). if keeps bound.filter row.1 then row ∷ l else l) e
 
 -- a partial answer is that of the rows that are kept
-partial-kept : (bound : Bound) (xs ys : List Numbered) → kept bound xs ≡ kept bound ys → partial bound xs ≡ partial bound ys
+pub partial-kept : (bound : Bound) (xs ys : List Numbered) → kept bound xs ≡ kept bound ys → partial bound xs ≡ partial bound ys
 partial-kept bound xs ys e =
     ap (λ (rows : List Numbered). let part : Parts = (if bound.grouped then record { rows = []; groups = groups_of bound (map (λ r. r.1) rows) }
     else record { rows = rows; groups = map_of.empty }) in part) e

@@ -7,16 +7,17 @@ use Rattle.std.proofs.lemmas.Bool.{cases_lt}
 use Rattle.std.proofs.lemmas.Bool.Decides.{nat_tests}
 use Rattle.std.proofs.lemmas.List.{take_all, drop_all, get_or-set_same, get_or-set_other, length-map, length-set, length-take-le, map-set, map_more, map_push, ext_get_or}
 use Rattle.std.proofs.lemmas.List.FromFn.{length-map-range_with_len, get_or-map-range_with_len, map-range_with_len_more}
+use Rattle.std.proofs.lemmas.List.Elements.{All-nil}
 use denote.Ref.{Bor}
 use Rattle.im_history.specs.declared.change.Change.{Change}
 use Rattle.im_history.specs.declared.view.View.{View}
-use Rattle.im_history.specs.Last.{Slot, ArePut, AreLast}
+use Rattle.im_history.specs.Last.{Slot, ArePut, change_of}
 use Rattle.im_history.specs.Rows.{Row, row_after, present}
 use Rattle.im_history.proofs.LastLaws.{put-more, put-all}
 use Rattle.im_history.specs.Units.{Content}
 use Rattle.im_group.specs.Partials.{Numbered}
 use Rattle.im_scan.specs.Parts.{row_in_unit, fetched_after, taken_row}
-use Rattle.im_scan.specs.inner.Steps.{lent, unit_rows, put_at, with_fetched, with_change, with_changes, gathered, numbered, numbered_from}
+use Rattle.im_scan.specs.inner.Steps.{IsUnchanged, lent, unit_rows, put_at, with_fetched, with_change, with_changes, gathered, numbered, numbered_from}
 
 -- ---- one row put
 
@@ -146,16 +147,16 @@ own-all view first before now are =
     let inside : place < length before = let long = are.long in omega (arith, within, long) in
     put-all view.own view.table first before now are place inside ∙ sym (at-with_changes view.table first before view.own place inside))
 
--- where the last changes are none, nothing changes
-pub own-none : (view : View) (first count : ℕ) (slots : List (Option Row)) → AreLast view.own view.table first count [] → length slots ≡ count
+-- where the view changed none of the row numbers, nothing changes
+pub own-none : (view : View) (first count : ℕ) (slots : List (Option Row)) → IsUnchanged view first count → length slots ≡ count
     → with_changes view.table first slots view.own ≡ slots
 own-none view first count slots none long =
     sym (own-all view first slots slots (record {
       long = refl;
-      each = none.each;
+      each = All-nil (λ (slot : Slot). change_of view.own view.table slot.0 ≡ Some slot.1);
       at = λ place within.
           ap (λ (o : Option (Option Row)). unwrap_or o (get_or slots place None))
-          (none.found (first + place) (omega arith) (omega (arith, within, long)));
+          (sym (none.none (first + place) (omega arith) (omega (arith, within, long))));
     }))
 
 -- ---- what is gathered

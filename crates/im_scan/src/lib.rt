@@ -9,14 +9,19 @@
 //!
 //! What replies say is `im_replies`, and its types stand here too.
 //!
-//! Start with `parts.rt`.
+//! Start with `parts.rt`, then `in_place.rt`, `kept.rt`, `beside.rt` and `walking.rt`.
 #![tactic(auto)]
 
+mod beside;
 mod faces;
+mod in_place;
+mod kept;
 mod merging;
 mod parts;
 mod pinned;
 mod slots;
+mod summed;
+mod walking;
 
 pub use faces::Face;
 pub use im_replies::{Body, Built, Ending, Fault, How, Records, Reply, Served};

@@ -11,16 +11,21 @@ ghost use Rattle.im_scan.specs.Parts.{MayAsk, MayAskShown, part_of, taken_row};
 ghost use Rattle.im_scan.specs.Pinned.{IsPinned, seen_in};
 ghost use Rattle.im_scan.specs.inner.Steps.{GoesOnBy, MayScan, lent, numbered, numbered_from, unit_rows, with_fetched};
 
+use crate::beside::beside;
 use crate::faces::Face;
+use crate::in_place::{handles, part_in_place};
+use crate::kept::{begins_by, kept_in};
 use crate::slots::{gather, has_own, rows_of};
+use crate::summed::summed_part;
+use crate::walking::walked;
 use im_group::{Asking, Partial};
-use im_history::View;
+use im_history::{Fetched, View};
 use im_syntax::Bound;
 use im_values::{NoMemory, Row};
 use std::alloc::Global;
 
 /// The part takes what stands at a row number, where there is a row. The row stays where it is.
-fn take_row(
+pub fn take_row(
     alloc: Global,
     asking: &Asking<'_>,
     rid: u64,
@@ -55,35 +60,13 @@ fn part_of_slots(
     Ok(part)
 }
 
-/// What rows that were fetched give, where these are of all row numbers from the first on, in order.
-fn part_in_place(
-    alloc: Global,
-    asking: &Asking<'_>,
-    first: u64,
-    fetched: &[(u64, Option<Row>)],
-) -> Result<Option<Partial>, NoMemory>
-    requires within { first + length fetched.now < 2 ^ 64 }
-    requires fits { AllByRecursion (λ row. MayAsk asking.now row.1) fetched.now }
-    ensures { IfOk result (λ part. ForSome part (λ part.
-        part ≡ group.partial asking.now (numbered_from first (with_fetched first (unit_rows None first (length fetched.now)) fetched.now)))) }
-{
-    let mut part = Partial::new(alloc, asking)?;
-    for (i, (rid, row)) in fetched.iter().enumerate() {
-        if *rid != first + i as u64 {
-            return Ok(None);
-        }
-        take_row(alloc, asking, *rid, row.as_ref(), &mut part)?;
-    }
-    Ok(Some(part))
-}
-
 /// What an extent without a unit gives, where each of its row numbers was fetched and the view has changed none of them: nothing
 /// is laid out.
 fn fetched_part(
     alloc: Global,
     face: Face<'_>,
     asking: &Asking<'_>,
-    fetched: &[(u64, Option<Row>)],
+    fetched: &Fetched,
     view: &View,
     first: u64,
     count: u64,
@@ -96,7 +79,7 @@ fn fetched_part(
     match face {
         Face::Whole(_) | Face::Edges(_) => Ok(None),
         Face::Bare => {
-            if fetched.len() as u64 != count {
+            if fetched.len() != count {
                 return Ok(None);
             }
             if has_own(view, first, count) {
@@ -105,6 +88,32 @@ fn fetched_part(
                 part_in_place(alloc, asking, first, fetched)
             }
         }
+    }
+}
+
+/// What an extent gives whose unit is scanned or pruned: nothing is laid out. None where what was fetched is not in rising order of
+/// the extent's row numbers, or the unit begins behind the extent: an extent that was pinned is neither.
+fn walked_part(
+    alloc: Global,
+    face: Face<'_>,
+    asking: &Asking<'_>,
+    fetched: &[(u64, Option<Row>)],
+    view: &View,
+    first: u64,
+    count: u64,
+) -> Result<Option<Partial>, NoMemory>
+    requires within { first + count < 2 ^ 64 }
+    requires fits { MayScan asking.now (unit_of face) fetched.now view.now.own }
+    ensures { IfOk result (λ part. ForSome part (λ part.
+        part ≡ group.partial asking.now (present (taken_row (unit_of face.entry) fetched.now view.now) first count))) }
+{
+    let kept = kept_in(alloc, face, asking.bound())?;
+    if !begins_by(&kept, first) {
+        return Ok(None);
+    }
+    match beside(alloc, fetched, view, first, count)? {
+        Some(rows) => walked(alloc, asking, &kept, rows.as_slice(), first, count),
+        None => Ok(None),
     }
 }
 
@@ -128,16 +137,64 @@ fn laid_part(
     part_of_slots(alloc, asking, first, slots.as_slice())
 }
 
+/// What an extent with a unit gives, where nothing has to be laid out for it.
+fn beside_part(
+    alloc: Global,
+    face: Face<'_>,
+    asking: &Asking<'_>,
+    fetched: &[(u64, Option<Row>)],
+    view: &View,
+    first: u64,
+    count: u64,
+) -> Result<Option<Partial>, NoMemory>
+    requires within { first + count < 2 ^ 64 }
+    requires fits { MayScan asking.now (unit_of face) fetched.now view.now.own }
+    ensures { IfOk result (λ part. ForSome part (λ part.
+        part ≡ group.partial asking.now (present (taken_row (unit_of face.entry) fetched.now view.now) first count))) }
+{
+    match face {
+        Face::Bare => Ok(None),
+        Face::Edges(_) => walked_part(alloc, face, asking, fetched, view, first, count),
+        Face::Whole(_) => match summed_part(alloc, face, asking, fetched, view, first, count)? {
+            Some(part) => Ok(Some(part)),
+            None => walked_part(alloc, face, asking, fetched, view, first, count),
+        },
+    }
+}
+
+/// What an extent gives with a handle for each row that was fetched: what its unit gives beside these, and else what is laid out.
+fn handled_part(
+    alloc: Global,
+    face: Face<'_>,
+    asking: &Asking<'_>,
+    fetched: &Fetched,
+    view: &View,
+    first: u64,
+    count: u64,
+) -> Result<Partial, NoMemory>
+    requires within { first + count < 2 ^ 64 }
+    requires fits { MayScan asking.now (unit_of face) fetched.now view.now.own }
+    ensures { IfOk result (λ part.
+        part ≡ group.partial asking.now (present (taken_row (unit_of face.entry) fetched.now view.now) first count)) }
+{
+    let rows = handles(alloc, fetched)?;
+    match beside_part(alloc, face, asking, rows.as_slice(), view, first, count)? {
+        Some(part) => Ok(part),
+        None => laid_part(alloc, face, asking, rows.as_slice(), view, first, count),
+    }
+}
+
 /// What an extent gives to a query: the partial answer over exactly the rows of that extent that the view sees.
 ///
-/// Without a unit, and where the view changed no row of the extent itself, it goes once over what was fetched. Else it costs
-/// reading back the rows of the unit, unless that is pruned, two passes over the row numbers of the extent, one over what was
-/// fetched, and those of the row numbers that the view's own changes are to. What the query asks is worked out once, the condition
-/// is asked once of each row, and besides the unit's, only the rows that a query without groups keeps are copied.
+/// Of a unit it asks the condition of the columns, as packed codes, and reads only the rows that are kept; of a pruned unit it reads
+/// none. Beside that it costs what was fetched and those of the row numbers that the view's own changes are to. Without a unit what
+/// was fetched stays where it is: of rows that lie together the condition is asked column by column, and only those that it keeps are
+/// gone over. Where the view changed a row of such an extent itself, it costs a handle of each row and the row numbers of the extent.
+/// What the query asks is worked out once, and of rows that lie together a query without groups copies none.
 pub fn part(
     alloc: Global,
     face: Face<'_>,
-    fetched: &[(u64, Option<Row>)],
+    fetched: &Fetched,
     view: &View,
     extent: u64,
     bound: &Bound,
@@ -159,6 +216,6 @@ pub fn part(
     let asking = Asking::of(alloc, bound)?;
     match fetched_part(alloc, face, &asking, fetched, view, first, count)? {
         Some(part) => Ok(part),
-        None => laid_part(alloc, face, &asking, fetched, view, first, count),
+        None => handled_part(alloc, face, &asking, fetched, view, first, count),
     }
 }

@@ -60,7 +60,7 @@ pub fn how(pin: &Pin<ColumnUnit>, bound: &Bound) -> How
     ensures { result ≡ how_of (option_map arc_value pin.now.unit) pin.now.fetched bound.now.filter }
 {
     match &pin.unit {
-        Some(unit) => how_by(unit, pin.fetched.items().len() as u64, bound),
+        Some(unit) => how_by(unit, pin.fetched.len(), bound),
         None => How::Blocks,
     }
 }

@@ -1,10 +1,9 @@
-ghost use Rattle.std.specs.Prelude.{◌≡◌, ◌+◌, ◌<◌, ◌^◌, List, Option, false, length, IfOk};
-ghost use Rattle.im_history.specs.Rows.{Row as AnyRow};
+ghost use Rattle.std.specs.Prelude.{◌≡◌, ◌+◌, ◌<◌, ◌^◌, false, length, IfOk};
 ghost use Rattle.std.specs.Option.{option_copied};
 ghost use Rattle.im_scan.specs.Faces.{unit_of};
 ghost use Rattle.im_unit.specs.Holding as holding;
 ghost use Rattle.im_scan.specs.Parts.{row_in_unit};
-ghost use Rattle.im_scan.specs.inner.Steps.{AreRowsOf, gathered, lent, put_at, unit_rows, with_changes, with_fetched};
+ghost use Rattle.im_scan.specs.inner.Steps.{AreRowsOf, IsUnchanged, gathered, lent, put_at, unit_rows, with_changes, with_fetched};
 
 use crate::faces::Face;
 use im_history::View;
@@ -117,7 +116,7 @@ fn overlaid<'a>(
 /// It costs a search.
 pub fn has_own(view: &View, first: u64, count: u64) -> bool
     requires { first + count < 2 ^ 64 }
-    ensures { result ≡ false → (slots : List (Option AnyRow)) → length slots ≡ count → with_changes view.now.table first slots view.now.own ≡ slots }
+    ensures { result ≡ false → IsUnchanged view.now first count }
 {
     match view.own.between(view.table, first, count).next() {
         Some(_) => true,

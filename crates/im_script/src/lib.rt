@@ -15,12 +15,14 @@ mod cut;
 mod form;
 mod forms;
 mod generated;
+mod laws;
 mod line;
 mod reading;
 mod script;
 
 pub use cut::first_line;
 pub use generated::{generate, generated_sizes_are};
+pub use laws::one_kind;
 pub use line::{Line, LineKind};
 pub use reading::line_of;
-pub use script::{lines, one_kind};
+pub use script::lines;

@@ -125,8 +125,7 @@ pub fn served_part<R: Wait, H: Reach<ColumnUnit>, G: Gate, L: Ledger>(
     let mark = mark(&pin, extent, bound);
     match wanted {
         Wanted::Parts => {
-            let rows = pin.fetched.items();
-            let made = part(alloc, face(&pin, bound), rows, view, extent, bound);
+            let made = part(alloc, face(&pin, bound), &pin.fetched, view, extent, bound);
             drop(pin);
             let part = made?;
             Ok(ServedPart { mark, part })

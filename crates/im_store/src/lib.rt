@@ -12,11 +12,11 @@
 
 mod calls;
 mod handed;
+mod laws;
 mod shared;
-mod snapshots;
 mod store;
 
 pub use handed::Handed;
+pub use laws::no_side_falls_back;
 pub use shared::Shared;
-pub use snapshots::no_side_falls_back;
 pub use store::{Pass, Store};

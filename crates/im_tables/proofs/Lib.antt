@@ -1,5 +1,7 @@
+mod FillLemmas
 mod FlagLemmas
 pub mod ForCallers
 mod GrowthLemmas
 pub mod Lists
 pub mod Tests
+pub mod Wholes

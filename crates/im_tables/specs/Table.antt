@@ -1,5 +1,6 @@
 -- Cells by table and number, of which growth is never seen.
-use Rattle.std.specs.Prelude.{◌≡◌, ℕ, ◌<◌, ◌≤◌, ◌⊎◌, List, [], length, get_or, set, slice_get, Option}
+use Rattle.std.specs.Prelude.{◌≡◌, ℕ, ◌<◌, ◌≤◌, ◌⊎◌, List, [], length, get_or, set, slice_get, fold, Option}
+use Rattle.std.specs.List.{range_with_len}
 
 module _ {T : Type 0} where
   -- the cells of a table; past the last table there are none
@@ -21,6 +22,14 @@ module _ {T : Type 0} where
   -- all cells, this one being another, if it is there
   abbrev pub with_cell : ℕ → ℕ → T → List (List T) → List (List T)
   with_cell table number cell cells = set cells table (set (row_of cells table) number cell)
+
+  -- the elements from a place on, so many as are there of these, being another one
+  abbrev pub with_range : ℕ → ℕ → T → List T → List T
+  with_range first count element xs = fold (λ xs place. set xs place element) xs (range_with_len first count)
+
+  -- all cells, those of a table from a number on, so many as are there of these, being another one
+  abbrev pub with_cells : ℕ → ℕ → ℕ → T → List (List T) → List (List T)
+  with_cells table first count cell cells = fold (λ cells number. with_cell table number cell cells) cells (range_with_len first count)
 
   -- the list may have grown by default elements: at no place is another one read than before
   pub record IsPadded (default : T) (old new : List T) : Type 0 where

@@ -1,14 +1,16 @@
 ghost use Rattle.std.specs.Borrow.{sem};
 ghost use Rattle.std.specs.Option.{option_copied_mut};
-ghost use Rattle.std.specs.Prelude.{◌≡◌, ◌<◌, [], length, option_copied, OnOk};
+ghost use Rattle.std.specs.Prelude.{◌≡◌, ◌+◌, ◌^◌, ◌<◌, [], length, option_copied, OnOk};
 ghost use Rattle.im_tables.specs.Lends.{lends_cell, lends_of_table};
-ghost use Rattle.im_tables.specs.Table.{AddsUpTo, HasCell, IsGrown, IsPadded, cell_at, found_at, row_of};
+ghost use Rattle.im_tables.specs.Table.{AddsUpTo, HasCell, IsGrown, IsPadded, cell_at, found_at, row_of, with_cells};
 
 use crate::cell::Cell;
 use crate::line::Line;
 use im_values::NoMemory;
 use std::alloc::Global;
 use std::marker::Model;
+
+mod whole;
 
 /// The cells of all tables, by table and number.
 #[derive(Drop)]
@@ -89,5 +91,18 @@ impl<T: Cell> Cells<T> {
             self.lines.push(Line::new(self.alloc))?;
         }
         Ok(())
+    }
+}
+
+impl<T: Cell + Copy> Cells<T> {
+    /// Makes the cells of a table from a number on, so many as are there of these, this one. It takes no memory, and costs a
+    /// look-up and one write over the cells.
+    pub fn fill(&mut self, table: u32, first: u64, count: u64, cell: T)
+        requires { first + count < 2 ^ 64 }
+        ensures { self.new ≡ with_cells table first count cell self.old }
+    {
+        if (table as usize) < self.lines.len() {
+            self.lines[table as usize].fill(first, count, cell);
+        }
     }
 }

@@ -1,13 +1,15 @@
 ghost use Rattle.std.specs.Borrow.{sem};
 ghost use Rattle.std.specs.Option.{option_copied_mut};
-ghost use Rattle.std.specs.Prelude.{◌≡◌, ◌+◌, ◌<◌, ◌≤◌, [], get_or, length, max, option_copied, slice_get, OnOk};
+ghost use Rattle.std.specs.Prelude.{◌≡◌, ◌+◌, ◌-◌, ◌^◌, ◌<◌, ◌≤◌, [], get_or, length, max, option_copied, slice_get, OnOk};
 ghost use Rattle.im_tables.specs.Lends.{lends_of_line, lends_place};
-ghost use Rattle.im_tables.specs.Table.{IsPadded};
+ghost use Rattle.im_tables.specs.Table.{IsPadded, with_range};
 
 use crate::cell::Cell;
 use im_values::NoMemory;
 use std::alloc::Global;
 use std::marker::Model;
+
+mod whole;
 
 /// The cells of one table, by number.
 #[derive(Drop)]
@@ -70,9 +72,46 @@ impl<T: Cell> Line<T> {
         ensures there { OnOk result (number < length self.new) }
         ensures most { length self.new ≤ max (length self.old) (number + 1) }
     {
+        self.make_room(number)?;
         while self.cells.len() as u64 <= number {
             self.cells.push(T::empty(alloc))?;
         }
         Ok(())
+    }
+
+    /// Makes room for the cells that there will be once there is one of this number.
+    fn make_room(&mut self, number: u64) -> Result<(), NoMemory>
+        ensures { self.new ≡ self.old }
+    {
+        let len = self.cells.len() as u64;
+        if len <= number {
+            self.cells
+                .reserve((number - len).saturating_add(1) as usize)?;
+        }
+        Ok(())
+    }
+}
+
+impl<T: Cell + Copy> Line<T> {
+    /// Makes the cells from a number on, so many as are there of these, this one.
+    pub fn fill(&mut self, first: u64, count: u64, cell: T)
+        requires { first + count < 2 ^ 64 }
+        ensures { self.new ≡ with_range first count cell self.old }
+    {
+        let end = (first + count).min(self.cells.len() as u64);
+        if first < end {
+            fill(&mut self.cells, first as usize, end as usize, cell);
+        }
+    }
+}
+
+/// Makes the elements from a place up to an end this one.
+fn fill<T: Copy>(elements: &mut [T], first: usize, end: usize, element: T)
+    requires some { first ≤ end }
+    requires within { end ≤ length elements.old }
+    ensures { elements.new ≡ with_range first (end - first) element elements.old }
+{
+    for at in first..end {
+        elements[at] = element;
     }
 }

@@ -214,7 +214,8 @@ Agrees-grown h old new agrees grown = record {
 -- room that was made stays while more is made
 pub HasRoom-grown : (old new : Standing) (who : ℕ) (changes : List Change) → HasRoom old who changes → IsGrown old new → HasRoom new who changes
 HasRoom-grown old new who changes room grown = record {
-  pending = omega (arith, room.pending, (grown.activities who).room);
+  write = omega (arith, room.write, (grown.activities who).room);
+  fits = let same = ap length (grown.activities who).pending in omega (arith, room.fits, same);
   cells = HasCells-longer old.locks new.locks changes grown.locks room.cells;
 }
 

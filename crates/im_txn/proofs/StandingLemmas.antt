@@ -250,10 +250,14 @@ ended-set old who changes before after locks now turns made cells handed =
     }
 
 -- there is room for changes once the session and the cells have it
-pub HasRoom-grown : (old : Standing) (who : ℕ) (changes : List Change) (before after : Activity) (locks : Locks) → Turns old who before after old.owed →
-    length changes ≤ after.room → HasCells locks changes → HasRoom (moved old who after locks old.owed) who changes
-HasRoom-grown old who changes before after locks turns room has = record {
-  pending = rw (roomier-at old who before after locks turns) room;
+pub HasRoom-grown : (old : Standing) (who : ℕ) (changes : List Change) (count : ℕ) (before after : Activity) (locks : Locks) →
+    Turns old who before after old.owed → IsRoomier before after → count ≡ length changes → 0 < after.room → length before.pending + count ≤ 2 ^ 63 →
+    HasCells locks changes → HasRoom (moved old who after locks old.owed) who changes
+HasRoom-grown old who changes count before after locks turns roomier long room few has = record {
+  write = rw (roomier-at old who before after locks turns) room;
+  fits =
+      let same : length after.pending ≡ length before.pending = ap length roomier.pending in
+      rw (roomier-at old who before after locks turns) (omega (arith, same, long, few));
   cells = has;
 }
 

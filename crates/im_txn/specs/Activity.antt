@@ -8,7 +8,7 @@ use Rattle.im_history.specs.Cursors.{is_own}
 use Rattle.im_history.specs.Transactions.{or_here}
 use Rattle.im_txn.specs.declared.cursor.Cursor.{Cursor}
 
--- its pending changes, where its open transaction began, its mode and its open cursors; and how many more changes and
+-- its pending changes, where its open transaction began, its mode and its open cursors; and how many more writes and
 -- cursors can be added without memory
 pub record Activity : Type 0 where
   pub pending : List Change
@@ -58,12 +58,12 @@ with_cursor cursor activity = record activity { cursors = activity.cursors ++ cu
 abbrev pub without_cursor : ℕ → Activity → Activity
 without_cursor number activity = record activity { cursors = filter (λ cursor. not (is_number number cursor)) activity.cursors }
 
--- more changes are pending: a transaction begins at this place where none is open
+-- the changes of one write more are pending: a transaction begins at this place where none is open
 abbrev pub with_changes : ℕ → List Change → Activity → Activity
 with_changes place changes activity = record activity {
   pending = activity.pending ++ changes;
   begun = or_here place activity.begun;
-  room = activity.room - length changes;
+  room = activity.room - 1;
 }
 
 -- the transaction ended

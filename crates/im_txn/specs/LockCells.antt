@@ -1,5 +1,5 @@
 -- The lock cells of all rows, by table and row number.
-use Rattle.std.specs.Prelude.{ℕ, zero, suc, ◌==◌, List, fold, All, Option, Some, None, if◌then◌else◌}
+use Rattle.std.specs.Prelude.{ℕ, zero, suc, ◌+◌, ◌==◌, ◌≤◌, ◌<◌, List, fold, All, Option, Some, None, if◌then◌else◌}
 use Rattle.im_history.specs.declared.change.Change.{Change}
 use Rattle.im_tables.specs.Table.{HasCell, IsGrown, cell_at, with_cell}
 
@@ -22,6 +22,10 @@ set_cells value locks changes = fold (set_cell value) locks changes
 -- there is a cell for the row of each change
 pub record HasCells (locks : Locks) (changes : List Change) : Type 0 where
   pub each : All (λ change. HasCell locks change.table change.rid) changes
+
+-- there is a cell for each of so many rows of a table from the first on
+pub record HasRows (locks : Locks) (table first count : ℕ) : Type 0 where
+  pub each : (rid : ℕ) → first ≤ rid → rid < first + count → HasCell locks table rid
 
 -- every cell is as before, and each table has no fewer
 abbrev pub IsLonger : Locks → Locks → Type 0

@@ -1,5 +1,5 @@
 -- What all sessions have going on, as contracts see it.
-use Rattle.std.specs.Prelude.{◌≡◌, ℕ, ◌^◌, ◌+◌, ◌≤◌, List, length, slice_index_or, All, Option, None}
+use Rattle.std.specs.Prelude.{◌≡◌, ℕ, ◌^◌, ◌+◌, ◌≤◌, ◌<◌, List, length, slice_index_or, All, Option, None}
 use Rattle.std.specs.List.{sum_by}
 use Rattle.im_values.specs.declared.limits.TheConstants.{NUMBERS}
 use Rattle.im_history.specs.declared.change.Change.{Change}
@@ -39,9 +39,10 @@ pub record IsCounted (standing : Standing) : Type 0 where
   pub few : All IsFew standing.activities
   pub sum : standing.owed ≡ sum_by owed_by standing.activities
 
--- there is room for these changes of a session
+-- there is room for the changes of one write of a session, which are few enough to be counted
 pub record HasRoom (standing : Standing) (who : ℕ) (changes : List Change) : Type 0 where
-  pub pending : length changes ≤ (activity_at standing who).room
+  pub write : 0 < (activity_at standing who).room
+  pub fits : length (activity_at standing who).pending + length changes ≤ 2 ^ 63
   pub cells : HasCells standing.locks changes
 
 -- no other session holds the row of any of these changes

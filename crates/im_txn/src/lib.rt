@@ -6,7 +6,7 @@
 //!
 //! `specs/Agrees.antt` says what it is for them to agree with a history. [`agreement_is_kept`] says that each call
 //! keeps this together with the entry that it goes with; callers cite `proofs/ForCallers.antt` for it. No call looks at
-//! all sessions, rows or tables.
+//! all sessions, rows or tables. What is pending is kept as each write wrote it, so rows put together cost as one.
 //!
 //! Start with `specs/Activity.antt`, then `session.rt`, `specs/Standing.antt`, `specs/Effects.antt` and `sessions.rt`.
 #![tactic(auto)]

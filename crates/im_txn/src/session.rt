@@ -1,4 +1,5 @@
-ghost use Rattle.std.specs.Prelude.{◌≡◌, ◌+◌, ◌<◌, ◌≤◌, length, OnOk, IfOk};
+ghost use Rattle.std.specs.Prelude.{◌≡◌, ◌+◌, ◌^◌, ◌<◌, ◌≤◌, length, OnOk, IfOk};
+ghost use Rattle.im_history.specs.Puts.{all_changes};
 ghost use Rattle.im_history.specs.Transactions.{or_here};
 ghost use Rattle.im_txn.specs.Activity.{idle, cursor_in, cursors_in, ended, own_in, transactions, with_changes, with_cursor, with_mode, without_cursor};
 ghost use Rattle.im_txn.specs.Effects.{IsRoomier};
@@ -6,7 +7,7 @@ ghost use Rattle.im_txn.specs.Standing.{IsFew};
 
 use crate::cursor::{Cursor, count_beside_own, remove_number, with_number};
 use crate::lasts::Lasts;
-use im_history::{Change, Mode, OwnChanges};
+use im_history::{Changes, Mode, OwnChanges};
 use im_values::NoMemory;
 use std::alloc::Global;
 use std::marker::Model;
@@ -14,11 +15,17 @@ use std::marker::Model;
 /// No session has more cursors open.
 const MOST_OPEN: u64 = 1 << 32;
 
+/// No session has more changes pending.
+const MOST_PENDING: u64 = 1 << 63;
+
 /// What one session has going on.
 #[derive(Drop)]
 pub struct Session {
     alloc: Global,
-    pending: Vec<Change>,
+    /// What each write wrote, in their order.
+    pending: Vec<Changes>,
+    /// How many changes are pending.
+    count: u64,
     room: u64,
     begun: Option<u64>,
     mode: Mode,
@@ -28,14 +35,15 @@ pub struct Session {
 }
 
 impl Model for Session {
-    ghost use Rattle.std.specs.Prelude.{◌+◌, ◌≤◌, vec_len, vec_capacity};
+    ghost use Rattle.std.specs.Prelude.{◌≡◌, ◌+◌, ◌^◌, ◌≤◌, length, vec_len, vec_capacity};
+    ghost use Rattle.im_history.specs.Puts.{all_changes};
     ghost use Rattle.im_txn.specs.Activity.{Activity};
     ghost use Rattle.im_txn.specs.inner.Lasts.{AreLasts};
 
     ghost Value = { Activity };
 
     ghost view = { λ s. record {
-      pending = s.pending.items;
+      pending = all_changes s.pending.items;
       begun = s.begun;
       mode = s.mode;
       cursors = s.cursors.items;
@@ -45,7 +53,9 @@ impl Model for Session {
 
     ghost invariant = { λ s. (vec_len s.pending + s.room ≤ vec_capacity s.pending)
         × (vec_len s.cursors + s.cursor_room ≤ vec_capacity s.cursors)
-        × AreLasts s.lasts.known s.lasts.tables.items s.pending.items };
+        × (s.count ≡ length (all_changes s.pending.items))
+        × (s.count ≤ 2 ^ 63)
+        × AreLasts s.lasts.known s.lasts.part s.lasts.tables.items s.pending.items };
 }
 
 impl Session {
@@ -56,6 +66,7 @@ impl Session {
         Session {
             alloc,
             pending: Vec::new(alloc),
+            count: 0,
             room: 0,
             begun: None,
             mode: Mode::Committed,
@@ -65,11 +76,18 @@ impl Session {
         }
     }
 
-    /// The pending changes, in the order in which they were written.
-    pub fn pending(&self) -> &[Change]
-        ensures { result.now ≡ self.now.pending }
+    /// The pending changes, as each write wrote them, in the order of the writes.
+    pub fn pending(&self) -> &[Changes]
+        ensures { all_changes result.now ≡ self.now.pending }
     {
         self.pending.as_slice()
+    }
+
+    /// How many changes are pending.
+    pub fn count(&self) -> u64
+        ensures { result ≡ length self.now.pending }
+    {
+        self.count
     }
 
     /// The place where the open transaction began, or none where none is open.
@@ -175,40 +193,48 @@ impl Session {
         (before - self.cursors.len()) as u64
     }
 
-    /// Makes room for so many changes, unless there is as much.
-    pub fn reserve_changes(&mut self, count: u64) -> Result<(), NoMemory>
+    /// Makes room for the changes of one write more, so many. A session that would have more than 2^63 changes pending gets
+    /// none.
+    pub fn reserve_write(&mut self, changes: usize) -> Result<(), NoMemory>
         ensures same { IsRoomier self.old self.new }
         ensures few { IsFew self.old → IsFew self.new }
-        ensures ok { OnOk result (count ≤ self.new.room) }
+        ensures ok { OnOk result (0 < self.new.room) }
+        ensures fits { OnOk result (length self.old.pending + changes ≤ 2 ^ 63) }
     {
-        if count <= self.room {
+        if changes as u64 > MOST_PENDING - self.count {
+            return Err(NoMemory);
+        }
+        if self.room > 0 {
             return Ok(());
         }
-        self.pending.reserve(count as usize)?;
-        self.room = count;
+        self.pending.reserve(1)?;
+        self.room = 1;
         Ok(())
     }
 
-    /// Adds changes to the pending ones; a transaction begins at this place where none is open. It answers how many
-    /// transactions more are open, and takes no memory.
-    pub fn write(&mut self, place: u64, mut changes: Vec<Change>) -> u64
-        requires { length changes.items ≤ self.old.room }
-        ensures after { self.new ≡ with_changes place changes.items self.old }
+    /// Adds the changes of a write to the pending ones; a transaction begins at this place where none is open. It answers how
+    /// many transactions more are open, and takes no memory.
+    pub fn write(&mut self, place: u64, changes: Changes) -> u64
+        requires room { 0 < self.old.room }
+        requires fits { length self.old.pending + length changes ≤ 2 ^ 63 }
+        ensures after { self.new ≡ with_changes place changes self.old }
         ensures more { transactions self.old + result ≡ transactions self.new }
     {
-        self.room -= changes.len() as u64;
-        self.pending.append(&mut changes).unwrap();
+        self.room -= 1;
+        self.count += changes.len() as u64;
+        self.pending.push(changes).unwrap();
         self.begin_here(place)
     }
 
-    /// Ends the open transaction, and hands its pending changes out. It takes no memory.
-    pub fn end(&mut self) -> Vec<Change>
+    /// Ends the open transaction, and hands its pending changes out, as each write wrote them. It takes no memory.
+    pub fn end(&mut self) -> Vec<Changes>
         ensures after { self.new ≡ ended self.old }
-        ensures handed { result.items ≡ self.old.pending }
+        ensures handed { all_changes result.items ≡ self.old.pending }
     {
         self.begun = None;
         self.mode = Mode::Committed;
         self.room = 0;
+        self.count = 0;
         self.lasts = Lasts::new(self.alloc);
         std::mem::replace(&mut self.pending, Vec::new(self.alloc))
     }

@@ -1,4 +1,5 @@
-ghost use Rattle.std.specs.Prelude.{◌≡◌, ◌^◌, ◌<◌, OnOk, IfOk};
+ghost use Rattle.std.specs.Prelude.{◌≡◌, ◌^◌, ◌<◌, length, OnOk, IfOk};
+ghost use Rattle.im_history.specs.Puts.{all_changes};
 ghost use Rattle.im_txn.specs.Activity.{cursor_in, cursors_in, own_in};
 ghost use Rattle.im_txn.specs.Effects.{IsBegun, IsEnded, IsGrown, IsIdle, IsOpened, IsShut, IsWritten};
 ghost use Rattle.im_txn.specs.LockCells.{other_in};
@@ -7,7 +8,7 @@ ghost use Rattle.im_txn.specs.Standing.{HasRoom, IsFree, activity_at, holder_in}
 use crate::cursor::Cursor;
 use crate::locks::Locks;
 use crate::session::Session;
-use im_history::{Change, Mode, OwnChanges, Who};
+use im_history::{Changes, Mode, OwnChanges, Who};
 use im_values::NoMemory;
 use im_values::limits::NUMBERS;
 use std::alloc::Global;
@@ -47,11 +48,18 @@ impl Sessions {
         })
     }
 
-    /// The pending changes of a session, in the order in which they were written.
-    pub fn pending(&self, who: Who) -> &[Change]
-        ensures { result.now ≡ (activity_at self.now who).pending }
+    /// The pending changes of a session, as each write wrote them, in the order of the writes.
+    pub fn pending(&self, who: Who) -> &[Changes]
+        ensures { all_changes result.now ≡ (activity_at self.now who).pending }
     {
         self.sessions[who.index()].pending()
+    }
+
+    /// How many changes a session has pending. It takes constant time.
+    pub fn pending_count(&self, who: Who) -> u64
+        ensures { result ≡ length (activity_at self.now who).pending }
+    {
+        self.sessions[who.index()].count()
     }
 
     /// The place where a session's open transaction began, or none where none is open.
@@ -142,12 +150,13 @@ impl Sessions {
         self.owed -= fewer;
     }
 
-    /// Makes room for these changes of a session, and lock cells for their rows.
-    pub fn reserve_write(&mut self, who: Who, changes: &[Change]) -> Result<(), NoMemory>
+    /// Makes room for the changes of one write of a session, and lock cells for their rows. A session that would have more
+    /// than 2^63 changes pending gets none.
+    pub fn reserve_write(&mut self, who: Who, changes: &Changes) -> Result<(), NoMemory>
         ensures same { IsGrown self.old self.new }
         ensures ok { OnOk result (HasRoom self.new who changes.now) }
     {
-        self.sessions[who.index()].reserve_changes(changes.len() as u64)?;
+        self.sessions[who.index()].reserve_write(changes.len())?;
         self.locks.reserve(changes)
     }
 
@@ -155,31 +164,31 @@ impl Sessions {
     /// transaction begins there where none is open.
     ///
     /// It takes no memory.
-    pub fn write(&mut self, who: Who, place: u64, changes: Vec<Change>)
-        requires room { HasRoom self.old who changes.items }
-        requires free { IsFree self.old who changes.items }
-        ensures { IsWritten self.old self.new who place changes.items }
+    pub fn write(&mut self, who: Who, place: u64, changes: Changes)
+        requires room { HasRoom self.old who changes }
+        requires free { IsFree self.old who changes }
+        ensures { IsWritten self.old self.new who place changes }
     {
         let at = who.index();
-        self.locks.set_all(changes.as_slice(), at as u8 + 1);
+        self.locks.set_all(&changes, at as u8 + 1);
         let more = self.sessions[at].write(place, changes);
         self.owed += more;
     }
 
-    /// Ends a session's open transaction, by a commit or a rollback: it hands the pending changes out, and their rows
-    /// are free.
+    /// Ends a session's open transaction, by a commit or a rollback: it hands the pending changes out, as each write wrote
+    /// them, and their rows are free.
     ///
     /// It takes no memory.
-    pub fn clear(&mut self, who: Who) -> Vec<Change>
+    pub fn clear(&mut self, who: Who) -> Vec<Changes>
         ensures after { IsEnded self.old self.new who }
-        ensures handed { result.items ≡ (activity_at self.old who).pending }
+        ensures handed { all_changes result.items ≡ (activity_at self.old who).pending }
     {
         let at = who.index();
         let fewer = self.sessions[at].transactions();
-        let changes = self.sessions[at].end();
+        let writes = self.sessions[at].end();
         self.owed -= fewer;
-        self.locks.set_all(changes.as_slice(), 0);
-        changes
+        self.locks.free(writes.as_slice());
+        writes
     }
 }
 

@@ -194,7 +194,7 @@ kept-back width rows wide =
 
 -- ---- what is required of the rows
 
-present-each : (P : Row → Type 0) (rows : List (Option Row)) → AllByRecursion (λ row. ForSome row P) rows → AllByRecursion P (present_rows rows)
+pub present-each : (P : Row → Type 0) (rows : List (Option Row)) → AllByRecursion (λ row. ForSome row P) rows → AllByRecursion P (present_rows rows)
 present-each P [] all = all
 present-each P (None ∷ rows) all = present-each P rows all.1
 present-each P (Some row ∷ rows) all = (all.0 row refl, present-each P rows all.1)

@@ -4,3 +4,4 @@ mod ReadLemmas
 mod UnitLemmas
 mod PieceLemmas
 mod RankLemmas
+pub mod ForCallers

@@ -2,14 +2,17 @@
 use Rattle.std.proofs.Common.{◌≡◌, ℕ, ◌+◌, ◌-◌, ◌*◌, ◌<◌, ◌≤◌, Bool, true, false, if◌then◌else◌, List, [], ◌∷◌, length, take, map, get_or, Option, Some, None, refl, sym, ap, ◌∙◌, subst, arith}
 use Rattle.std.specs.Prelude.{is_some, nat_lt, sum_by}
 use Rattle.std.specs.Int.{div_ceil}
-use Rattle.std.specs.List.{range_with_len}
+use Rattle.std.specs.Bool.{OnTrue}
+use Rattle.std.specs.List.{AllByRecursion, range_with_len}
+use Rattle.std.specs.Option.{ForSome}
 use Rattle.std.proofs.lemmas.Bool.Decides.{nat_tests}
-use Rattle.std.proofs.lemmas.List.{get_or_past}
+use Rattle.std.proofs.lemmas.List.{get_or_past, length-map}
 use Rattle.im_values.specs.declared.value.Value.{Value}
+use Rattle.im_values.specs.declared.value.Value.TheVariants.{Null}
 use Rattle.im_values.specs.Sizes.{column_bytes}
 use Rattle.im_history.specs.Rows.{Row}
 use Rattle.im_history.specs.Units.{Content}
-use Rattle.im_unit.specs.Holding.{count_present, present_rows, values_in, unit_bytes, row_of}
+use Rattle.im_unit.specs.Holding.{HaveWidth, count_present, present_rows, values_in, unit_bytes, row_of}
 use Rattle.im_unit.specs.inner.Kept.{count_set, spread, row_across, rows_across, rows_kept, content_kept, HaveLength, AreRows, AreBounded}
 use Rattle.im_unit.proofs.KeptLemmas.{length-across, length-columns, columns-long, length-present, length-kept, present-kept, columns-kept, at-kept, kept-back}
 use Rattle.im_unit.proofs.BuildLemmas.{bounded}
@@ -56,6 +59,36 @@ pub row-past : (scn first width : ℕ) (flags : List Bool) (columns : List (List
     None ≡ row_of (content_kept scn first width flags columns) rid
 row-past scn first width flags columns rid from past =
     row-kept scn first width flags columns rid false from (sym (get_or_past flags (rid - first) false past))
+
+-- a row is present where its flag is set
+pub some-if : (b : Bool) (row : Row) → b ≡ is_some (if b then Some row else None)
+some-if true row = refl
+some-if false row = refl
+
+-- all are present where all flags are set
+pub full-kept : (flags : List Bool) (columns : List (List Value)) (b : Bool) → OnTrue b (count_set flags ≡ length flags) →
+    OnTrue b (count_present (rows_kept flags columns) ≡ length (rows_kept flags columns))
+full-kept flags columns true all = sym (count-kept flags columns) ∙ (all ∙ sym (length-kept flags columns))
+full-kept flags columns false all = all
+
+-- what holds of rows holds of them where they are put
+spread-each : (P : Row → Type 0) (flags : List Bool) (rows : List Row) → AllByRecursion P rows → AllByRecursion (λ row. ForSome row P) (spread flags rows)
+spread-each P [] rows all = tt
+spread-each P (false ∷ flags) rows all = (λ row is. absurd cc, spread-each P flags rows all)
+spread-each P (true ∷ flags) [] all = (λ row is. absurd cc, spread-each P flags [] tt)
+spread-each P (true ∷ flags) (row ∷ rows) all =
+    (λ other is. let same : row ≡ other = cc in subst P same all.0, spread-each P flags rows all.1)
+
+across-wide : (columns : List (List Value)) (spots : List ℕ) → AllByRecursion (λ row. length row ≡ length columns) (map (row_across columns) spots)
+across-wide columns [] = tt
+across-wide columns (spot ∷ spots) = (length-map columns (λ (column : List Value). get_or column spot Null), across-wide columns spots)
+
+-- each row has a value of each column
+pub wide-kept : (flags : List Bool) (columns : List (List Value)) → HaveWidth (length columns) (rows_kept flags columns)
+unfolding rows_kept
+wide-kept flags columns =
+    spread-each (λ (row : Row). length row ≡ length columns) flags (rows_across columns (count_set flags))
+    (across-wide columns (range_with_len 0 (count_set flags)))
 
 -- ---- what is built
 

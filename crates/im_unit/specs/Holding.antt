@@ -2,6 +2,8 @@
 use Rattle.std.specs.Prelude.{◌≡◌, ℕ, ◌-◌, nat_lt, List, length, map, take, get_or, Option, Some, None, is_some, if◌then◌else◌}
 use Rattle.std.specs.List.{All, AllByRecursion}
 use Rattle.std.specs.Option.{ForSome}
+use Rattle.im_values.specs.declared.value.Value.{Value}
+use Rattle.im_values.specs.declared.value.Value.TheVariants.{Null}
 use Rattle.im_index.specs.declared.bounds.Bounds.{Bounds}
 use Rattle.im_index.specs.Bounds.{bounds_of}
 use Rattle.im_column.specs.Forms.{IsShort}
@@ -16,6 +18,10 @@ row_of content rid = if nat_lt rid content.first then None else get_or content.r
 -- how many rows of a unit are present before the one at a row number, where that is present
 abbrev pub spot_of : Content → ℕ → Option ℕ
 spot_of content rid = if is_some (row_of content rid) then Some (count_present (take (rid - content.first) content.rows)) else None
+
+-- the row of the values that columns have at a place
+abbrev pub row_across : List (List Value) → ℕ → Row
+row_across columns spot = map (λ column. get_or column spot Null) columns
 
 -- the bounds of a unit's columns
 abbrev pub edges_of : Content → List Bounds

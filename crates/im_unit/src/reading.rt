@@ -12,7 +12,7 @@ use std::sync::Arc;
 use std::vec::IntoIter;
 
 /// Puts the values at a place of columns behind others.
-fn push_row(
+pub fn push_row(
     alloc: Global,
     values: &mut Vec<Value>,
     columns: &[Arc<Column>],

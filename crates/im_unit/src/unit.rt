@@ -1,18 +1,19 @@
-ghost use Rattle.std.specs.Prelude.{◌≡◌, ◌+◌, ◌<◌, ◌≤◌, ◌^◌, map, length, sum_by, IfOk};
+ghost use Rattle.std.specs.Prelude.{◌≡◌, ◌+◌, ◌<◌, ◌≤◌, ◌^◌, map, length, sum_by, get_or, IfOk, Some, None, is_some, if◌then◌else◌};
+ghost use Rattle.std.specs.Bool.{OnTrue};
 ghost use Rattle.std.specs.Arc.{arc_value};
 ghost use Rattle.im_values.specs.Sizes.{column_bytes};
 ghost use Rattle.im_index.specs.Bounds.{bounds_of};
-ghost use Rattle.im_unit.specs.Holding.{AreShort, HaveWidth, columns_of, edges_of, present_rows, row_of, spot_of, values_in};
+ghost use Rattle.im_unit.specs.Holding.{AreShort, HaveWidth, columns_of, count_present, edges_of, present_rows, row_of, spot_of, values_in};
 ghost use Rattle.im_unit.specs.inner.Kept.{AreBounded};
 
 use crate::building::{columns_of, rows_present};
 use crate::presence::Presence;
-use crate::reading::{row_at, rows_of, slots_of, spread_rows};
+use crate::reading::{push_row, row_at, rows_of, slots_of, spread_rows};
 use im_column::Column;
 use im_history::UnitLike;
 use im_index::Bounds;
 use im_values::limits::MOST_COLUMNS;
-use im_values::{NoMemory, Row};
+use im_values::{NoMemory, Row, Value};
 use std::alloc::Global;
 use std::marker::Model;
 use std::sync::Arc;
@@ -116,6 +117,27 @@ impl ColumnUnit {
         Ok(Some(row))
     }
 
+    /// Writes the row at a row number into a list, in place of what stands there: false, and nothing is written, where `get` has
+    /// none.
+    ///
+    /// It costs a value of each column, and room for the list only where it has none.
+    pub fn read(&self, alloc: Global, rid: u64, values: &mut Vec<Value>) -> Result<bool, NoMemory>
+        ensures { IfOk result (λ found. (if found then Some values.new.items else None) ≡ row_of self.now rid) }
+    {
+        let Some(spot) = self.spot(rid) else {
+            return Ok(false);
+        };
+        values.clear();
+        push_row(
+            alloc,
+            values,
+            self.columns.as_slice(),
+            spot,
+            self.presence.count(),
+        )?;
+        Ok(true)
+    }
+
     /// How many present rows have a lower row number: the place of a row in the columns. None exactly where no row is present at
     /// this row number.
     ///
@@ -151,9 +173,34 @@ impl ColumnUnit {
         spread_rows(alloc, &self.presence, rows)
     }
 
+    /// How many row numbers it has, from its first one on.
+    pub fn len(&self) -> u64
+        ensures len { result ≡ length self.now.rows }
+        ensures few { result < 2 ^ 31 }
+    {
+        self.presence.len()
+    }
+
+    /// Whether a row is present at each of its row numbers: then the place of a row in the columns is how far its row number is
+    /// from the first one.
+    pub fn is_full(&self) -> bool
+        ensures { OnTrue result (count_present self.now.rows ≡ length self.now.rows) }
+    {
+        self.presence.is_full()
+    }
+
+    /// Whether a row is present at a place: how far its row number is from the first one.
+    pub fn is_present(&self, place: u64) -> bool
+        requires { place < length self.now.rows }
+        ensures { result ≡ is_some (get_or self.now.rows place None) }
+    {
+        self.presence.is_present(place)
+    }
+
     /// The columns: the values of the rows that are present, in order of row numbers.
     pub fn columns(&self) -> &[Arc<Column>]
-        ensures { map arc_value result.now ≡ columns_of self.now }
+        ensures values { map arc_value result.now ≡ columns_of self.now }
+        ensures wide { HaveWidth self.now.columns self.now.rows }
     {
         self.columns.as_slice()
     }
@@ -192,7 +239,10 @@ impl UnitLike for ColumnUnit {
         self.bytes
     }
 
-    fn present(&self) -> u64 {
+    fn present(&self) -> u64
+        ensures count { result ≡ count_present self.now.rows }
+        ensures few { result < 2 ^ 31 }
+    {
         self.presence.count()
     }
 }

@@ -17,7 +17,7 @@ mod background;
 mod building;
 mod ending;
 mod held;
-mod judging;
+mod laws;
 mod replies;
 mod rows;
 mod running;
@@ -25,5 +25,5 @@ mod statements;
 mod work;
 
 pub use background::Background;
-pub use judging::a_worker_is_judged_by_the_whole_history;
+pub use laws::a_worker_is_judged_by_the_whole_history;
 pub use work::Ended;

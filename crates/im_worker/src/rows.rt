@@ -91,17 +91,6 @@ pub fn unit_of_rows(
     ColumnUnit::build(alloc, task.scn, first, task.columns, rows)
 }
 
-/// The rows that were fetched, without their numbers.
-fn rows_of(alloc: Global, fetched: Fetched) -> Result<Vec<Option<Row>>, NoMemory>
-    ensures { IfOk result (λ rows. rows.items ≡ map (λ found. found.1) fetched) }
-{
-    let mut rows = Vec::new(alloc);
-    for (_, row) in fetched.into_items() {
-        rows.push(row)?;
-    }
-    Ok(rows)
-}
-
 /// Puts so many row numbers without a row behind others.
 fn pad(rows: &mut Vec<Option<Row>>, count: u64) -> Result<(), NoMemory>
     ensures { OnOk result (rows.new.items ≡ rows.old.items ++ spec.nones count) }
@@ -117,8 +106,8 @@ pub fn padded(alloc: Global, fetched: Fetched, per: u64) -> Result<Vec<Option<Ro
     ensures { IfOk result (λ rows.
         rows.items ≡ map (λ found. found.1) fetched ++ spec.nones (per - length fetched)) }
 {
-    let count = fetched.items().len() as u64;
-    let mut rows = rows_of(alloc, fetched)?;
+    let count = fetched.len();
+    let mut rows = fetched.into_rows(alloc)?;
     pad(&mut rows, per.saturating_sub(count))?;
     Ok(rows)
 }

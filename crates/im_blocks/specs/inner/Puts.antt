@@ -1,25 +1,31 @@
--- What puts a row into a run or a version into a chain.
-use Rattle.std.specs.Prelude.{◌≡◌, ℕ, ◌-◌, ◌<◌, ◌≤◌, List, [], ◌∷◌, ◌++◌, length, set, slice_get, Option, Some}
+-- What puts rows into a run or a version into a chain.
+use Rattle.std.specs.Prelude.{◌≡◌, ℕ, ◌<◌, ◌≤◌, ◌==◌, true, false, List, [], ◌∷◌, ◌++◌, get_or, length, Option, if◌then◌else◌}
 use Rattle.im_values.specs.declared.value.Value.{Value}
+use Rattle.im_tables.specs.Table.{HasCell, cell_at}
 use Rattle.im_versions.specs.declared.version.Version.{Version}
 use Rattle.im_blocks.specs.declared.run.Run.{Run}
+use Rattle.im_blocks.specs.declared.slot.Slot.{Slot}
+use Rattle.im_blocks.specs.declared.slot.Slot.TheVariants.{Empty, InRun}
 use Rattle.im_blocks.specs.declared.touched.Touched.{Touched}
-use Rattle.im_blocks.specs.Chains.{run_at, run_versions}
-use Rattle.im_blocks.specs.Runs.{IsLonger}
+use Rattle.im_blocks.specs.Chains.{newest_scn, versions_in}
+use Rattle.im_blocks.specs.Runs.{holds, in_rows}
 
--- the last run has one row more in front
-pub record IsLastLonger (old new : List Run) (table rid scn : ℕ) (row : List Value) : Type 0 where
-  pub was : Run
-  pub is : Run
-  pub some : 0 < length old
-  pub at : slice_get old (length old - 1) ≡ Some was
-  pub now : new ≡ set old (length old - 1) is
-  pub longer : IsLonger was is table rid scn row
+module _ (runs : List Run) (chains : List Touched) (number : ℕ) (run : Run) where
+  -- the slot of a row number that goes into a new run of this number, unless it shows a version of the run's commit
+  abbrev pub entered : ℕ → ℕ → Slot → Slot
+  entered t r slot = if newest_scn (versions_in runs chains t r slot) == run.scn then slot else InRun number
 
--- a row number has a version in a run now, and what each other one has in a run is as it was
-pub record IsPut (old new : List Run) (number table rid scn : ℕ) (row : List Value) : Type 0 where
-  pub here : run_versions rid (run_at new number table rid) ≡ record { scn = scn; row = Some row } ∷ []
-  pub others : (k t r : ℕ) → (t ≡ table → r ≡ rid → ⊥) → run_versions r (run_at new k t r) ≡ run_versions r (run_at old k t r)
+  -- of the slots of a table those of so many row numbers from the run's first on went into it
+  pub record AreEntered (count : ℕ) (old new : List Slot) : Type 0 where
+    pub each : (r : ℕ) → get_or new r Empty
+        ≡ (if in_rows run.first count r then entered run.table r (get_or old r Empty) else get_or old r Empty)
+    pub long : length new ≡ length old
+
+  -- of all slots those of the run's row numbers went into it
+  pub record HasEntered (old new : List (List Slot)) : Type 0 where
+    pub here : (t r : ℕ) → holds run t r ≡ true → cell_at Empty new t r ≡ entered t r (cell_at Empty old t r)
+    pub others : (t r : ℕ) → holds run t r ≡ false → cell_at Empty new t r ≡ cell_at Empty old t r
+    pub cells : (t r : ℕ) → HasCell old t r → HasCell new t r
 
 -- a chain of a row number was added behind the others, with room for a version
 pub record IsChained (old new : List Touched) (number table rid : ℕ) (versions : List Version) : Type 0 where

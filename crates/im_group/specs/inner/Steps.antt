@@ -1,13 +1,13 @@
 -- One step of the loops over tallies and groups.
-use Rattle.std.specs.Prelude.{◌≡◌, ℕ, ◌+◌, nat_lt, Bool, false, List, [], ◌∷◌, ◌++◌, length, set, get_or, slice_get, Option, None, Some, if◌then◌else◌}
+use Rattle.std.specs.Prelude.{◌≡◌, ℕ, ◌+◌, nat_lt, Bool, false, List, [], ◌∷◌, length, set, fold, get_or, slice_get, Option, None, Some, if◌then◌else◌}
 use Rattle.std.specs.FinMap as map_of
 use Rattle.std.specs.Option.{option_map_or}
 use Rattle.im_values.specs.declared.value.Value.{Value}
 use Rattle.im_group.specs.declared.asked.Asked.{Asked}
 use Rattle.im_syntax.specs.declared.bound.Bound.{Bound}
 use Rattle.im_group.specs.Sums.{SumsOf, joined}
-use Rattle.im_group.specs.Tallies.{Tallied, wanted, asked_in, tallied, row_taken}
-use Rattle.im_group.specs.Partials.{Numbered, key_order, is_key, key_of, keeps, groups_of}
+use Rattle.im_group.specs.Tallies.{Tallied, tallied}
+use Rattle.im_group.specs.Partials.{key_order, is_key, groups_of}
 
 -- a summary joined to that at a place, unless the place is past the end
 abbrev pub joined_at : List SumsOf → ℕ → SumsOf → List SumsOf
@@ -29,22 +29,14 @@ abbrev pub placed : List (List Value × Tallied) → List Value → Tallied → 
 placed [] key ts = (key, ts) ∷ []
 placed (g ∷ gs) key ts = if is_key key g.0 then (g.0, ts) ∷ gs else g ∷ placed gs key ts
 
+-- groups put one after the other, each at its key
+abbrev pub all_placed : List (List Value × Tallied) → List (List Value × Tallied)
+all_placed groups = fold (λ put g. placed put g.0 g.1) [] groups
+
 -- what a group has taken so far, which is nothing where it is new
 abbrev pub so_far : List Asked → Option Tallied → Tallied
 so_far asked None = tallied asked []
 so_far asked (Some ts) = ts
-
--- the groups of a query, once one row more has come
-abbrev pub with_row : Bound → List (List Value × Tallied) → List Value → List (List Value × Tallied)
-with_row bound groups row =
-    if keeps bound.filter row
-    then placed groups (key_of bound.groups row)
-    (row_taken (asked_in (wanted bound)) (so_far (asked_in (wanted bound)) (tallies_at groups (key_of bound.groups row))) row)
-    else groups
-
--- the kept rows, once one row more has come
-abbrev pub with_kept : Bound → List Numbered → Numbered → List Numbered
-with_kept bound rows row = if keeps bound.filter row.1 then rows ++ row ∷ [] else rows
 
 -- the one group of a query without GROUP BY
 abbrev pub one_group : Tallied → List (List Value × Tallied)

@@ -1,10 +1,11 @@
 -- One step of the loops of a scan.
-use Rattle.std.specs.Prelude.{◌≡◌, ℕ, ◌+◌, ◌-◌, ◌==◌, nat_lt, List, [], ◌∷◌, ◌++◌, map, fold, slice_set, Option, Some, None, if◌then◌else◌}
+use Rattle.std.specs.Prelude.{◌≡◌, ℕ, ◌+◌, ◌-◌, ◌<◌, ◌≤◌, ◌==◌, nat_lt, List, [], ◌∷◌, ◌++◌, map, fold, slice_set, Option, Some, None, if◌then◌else◌}
 use Rattle.std.specs.List.{AllByRecursion, range_with_len}
 use Rattle.std.specs.Option.{ForSome, option_copied}
 use denote.Ref.{Bor}
 use Rattle.im_history.specs.declared.change.Change.{Change}
 use Rattle.im_history.specs.declared.view.View.{View}
+use Rattle.im_history.specs.Last.{change_of}
 use Rattle.im_history.specs.Rows.{Row}
 use Rattle.im_history.specs.Units.{Content}
 use Rattle.im_syntax.specs.declared.bound.Bound.{Bound}
@@ -42,6 +43,10 @@ with_change table first slots change = if change.table == table then put_at firs
 -- once all changes to the table are put
 abbrev pub with_changes : ℕ → ℕ → List (Option Row) → List Change → List (Option Row)
 with_changes table first slots changes = fold (with_change table first) slots changes
+
+-- the view changed none of so many row numbers from the first on
+pub record IsUnchanged (view : View) (first count : ℕ) : Type 0 where
+  pub none : (rid : ℕ) → first ≤ rid → rid < first + count → change_of view.own view.table rid ≡ None
 
 -- what is gathered for a scan: what the unit has, then what was fetched, then the view's own changes
 abbrev pub gathered : Option Content → List (ℕ × Option Row) → View → ℕ → ℕ → List (Option Row)

@@ -8,6 +8,7 @@ use Rattle.im_values.specs.Sizes.{column_bytes}
 use Rattle.im_column.specs.Forms.{AreLent, IsShort}
 use Rattle.im_history.specs.Rows.{Row}
 use Rattle.im_history.specs.Units.{Content}
+pub use Rattle.im_unit.specs.Holding.{row_across}
 
 -- how many of the flags are set
 abbrev pub count_set : List Bool → ℕ
@@ -27,10 +28,6 @@ spread (true ∷ flags) (row ∷ rows) = Some row ∷ spread flags rows
 -- a place takes its row from those that come next, where its flag is set
 pub record Takes (flag : Bool) (old : List Row) (slot : Option Row) (new : List Row) : Type 0 where
   pub spreads : (flags : List Bool) → spread (flag ∷ flags) old ≡ slot ∷ spread flags new
-
--- the row across columns at a place
-abbrev pub row_across : List (List Value) → ℕ → Row
-row_across columns spot = map (λ column. get_or column spot Null) columns
 
 -- so many rows across columns
 abbrev pub rows_across : List (List Value) → ℕ → List Row

@@ -1,18 +1,11 @@
-use Rattle.std.proofs.Common.{◌∷◌, map, ap, ◌∙◌}
-use Rattle.im_values.specs.declared.value.Value.TheVariants.{Null}
+use Rattle.std.proofs.Common.{◌∙◌}
 use Rattle.im_codepred.specs.Asked.{is_met}
-use Rattle.im_codepred.proofs.FormLemmas.{flags-of-codes, flags-enough}
+use Rattle.im_codepred.specs.inner.Spans.{is_chosen}
+use Rattle.im_codepred.proofs.SpanLemmas.{chosen-codes}
 use Rattle.im_codepred.proofs.form.coded_mask.Goals as goal
-
-pub mask_by_flags-requires : goal.mask_by_flags-requires
-mask_by_flags-requires c =
-    let p = is_met c.args.wanted c.args.asked.now in
-    let are = c.in_ok-flags.ensures ∙ ap (λ d. map p (Null ∷ d)) c.values.ensures.values in
-    flags-enough p (Null ∷ c.args.dict.now) c.as_slice.result.now c.args.bits.now.codes (c.as_slice.ensures.value ∙ are) c.requires
 
 pub returns : goal.returns
 returns c =
-    let p = is_met c.args.wanted c.args.asked.now in
-    let are = c.in_ok-flags.ensures ∙ ap (λ d. map p (Null ∷ d)) c.values.ensures.values in
     c.in_ok-mask.ensures
-    ∙ flags-of-codes p (Null ∷ c.args.dict.now) c.as_slice.result.now c.args.bits.now.codes (c.as_slice.ensures.value ∙ are) c.requires
+    ∙ chosen-codes (is_chosen c.in_ok-chosen.chosen) (is_met c.args.wanted c.args.asked.now) c.args.dict.now c.args.bits.now.codes c.in_ok-chosen.ensures.says
+    c.requires

@@ -6,7 +6,7 @@ use Rattle.im_core.proofs.weights.row_weight.Goals as goal
 pub loop-value-preserved : goal.loop-value-preserved
 loop-value-preserved c =
     let i = c.loop-value.value-index in
-    let items = c.values-value-items.result.now in
+    let items = c.args.values.now in
     c.in_ok-sum.ensures
     ∙ (ap (λ n. n + c.in_ok-value_weight.field-0) c.loop-value.invariant
     ∙ (ap (λ n. row_weight (take i items) + n) (c.in_ok-value_weight.ensures ∙ ap value_weight c.value-item.is)

@@ -3,5 +3,5 @@ use Rattle.im_history.specs.Weights.{changes_weight}
 use Rattle.im_core.proofs.weights.weight_of.Given as goal
 
 -- the changes so far are weighed
-abbrev pub invariant-loop-change : goal.invariant-loop-change
-invariant-loop-change l = l.sum ≡ changes_weight (take l.change-index l.changes)
+abbrev pub invariant-loop-place : goal.invariant-loop-place
+invariant-loop-place l = l.sum ≡ changes_weight (take l.place l.changes)

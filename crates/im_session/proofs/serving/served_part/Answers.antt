@@ -28,7 +28,7 @@ part-made-requires-clause-fetched_fits g c =
     (g.H.Reach.known c.args.reach.now) (g.H.Reach.known c.read.new.reach) c.requires.speaks c.requires.kept.scan
     c.requires.kept.sound.asks c.in_ok-pin.ensures.went
     c.in_ok-pin.ensures.lawful c.in_ok-pin.ensures.read in
-    subst (AllByRecursion (λ row. MayAsk c.args.cursor.now.bound row.1)) (sym c.items-rows.ensures) may.fetched_fits
+    may.fetched_fits
 
 pub returns-in_ok-part-in-Parts-clause-part : goal.returns-in_ok-part-in-Parts-clause-part
 returns-in_ok-part-in-Parts-clause-part g c =
@@ -40,7 +40,7 @@ returns-in_ok-part-in-Parts-clause-part g c =
     subst (λ (wanted : Wanted). c.in_ok-part-in-Parts.part ≡ partial c.args.cursor.now.bound
     (wanted_of wanted (seen_in (g.H.Reach.known c.args.reach.now).log c.args.cursor.now.view c.args.extent))) (sym c.in-Parts.is)
     (c.in_ok-part-in-Parts.ensures.seen (g.H.Reach.known c.read.new.reach).log (option_map arc_value c.in_ok-pin.pin.unit) c.face.ensures
-    (rw c.items-rows.ensures may.pinned)
+    may.pinned
     ∙ ap (partial c.args.cursor.now.bound)
     (seen_in-went (g.H.Reach.known c.args.reach.now) (g.H.Reach.known c.read.new.reach) c.args.cursor.now.view c.args.extent c.requires.kept.scan.sees.known
     c.in_ok-pin.ensures.went))

@@ -4,12 +4,16 @@ use Rattle.im_blocks.proofs.blocks.Blocks.extent_rows.Goals as goal
 
 pub loop-rid-preserved : goal.loop-rid-preserved
 loop-rid-preserved g c =
-    let from = c.loop-rid.auto.rid in
-    let few = c.copy_at.ensures.few in
-    let past = c.loop-rid.invariant.few in
+    let next = c.in_ok-rid.ensures.next in
+    let past = next.from in
+    let upto = next.upto in
+    let counted = c.in_ok-rid.ensures.counted in
+    let from = c.loop-rid.invariant.from in
+    let few = c.loop-rid.invariant.few in
     record {
-      rows =
-          rows_at-more c.args.self.now c.args.table c.args.first c.loop-rid.rid c.args.scn c.in_ok-copy_at.field-0 c.loop-rid.rows.items
-          c.push.new.self.items from c.loop-rid.invariant.rows c.in_ok-copy_at.ensures.row c.in_ok-push.ensures.items;
-      few = omega (arith, few, past, from);
+      from = omega (arith, from, past);
+      upto = upto;
+      rows = rows_at-more c.args.self.now c.args.table c.args.first c.loop-rid.rid c.in_ok-rid.rid c.args.scn c.loop-rid.fetched c.fetch_from.new.fetched
+          from (omega (arith, past)) c.loop-rid.invariant.rows next.rows;
+      few = omega (arith, counted, few);
     }

@@ -1,13 +1,15 @@
-use Rattle.std.proofs.Common.{◌≡◌, ℕ, ◌<◌, ◌≤◌, ◌==◌, false, List, get_or, sym, ap, ◌∙◌, subst, arith}
+use Rattle.std.proofs.Common.{◌≡◌, ℕ, ◌<◌, ◌≤◌, ◌==◌, false, List, Option, get_or, sym, ap, ◌∙◌, subst, arith}
 use Rattle.std.specs.Option.{is_some}
 use Rattle.std.proofs.lemmas.Bool.{eq-eqb, true≢false}
 use Rattle.im_versions.specs.declared.version.Version.{Version}
 use Rattle.im_blocks.specs.declared.touched.Touched.{Touched}
 use Rattle.im_blocks.specs.declared.slot.Slot.TheVariants.{InChain}
 use Rattle.im_blocks.specs.Chains.{AllVersions, IsReady, newest_scn, slot_at, versions_at}
+use Rattle.im_values.specs.declared.value.Value.{Value}
+use Rattle.im_blocks.specs.inner.Handing.{HasTaken}
 use Rattle.im_blocks.specs.inner.Puts.{IsOneLonger}
 use Rattle.im_blocks.proofs.Places.{got}
-use Rattle.im_blocks.proofs.StoreLemmas.{HasTaken-chain, in_chain, ready_chain, ready_spare}
+use Rattle.im_blocks.proofs.StoreLemmas.{HasTaken-chain, HasTaken-run, MayTakeRun-one, in_chain, ready_blank, ready_chain, ready_spare}
 use Rattle.im_blocks.proofs.blocks.Blocks.put.Goals as goal
 
 -- the versions of a row number are of earlier commits, where this one gave it none
@@ -64,3 +66,22 @@ returns-in-InChain c =
     let later : newest_scn (versions_at was table rid) ≡ c.args.scn → ⊥ =
     λ e. let same = ap (λ (b : AllVersions). newest_scn (versions_at b table rid)) is in absurd (omega (arith, e, same, earlier)) in
     rw (← c.self.view_is) (HasTaken-chain was table rid number c.args.scn c.args.change.row found.was c.take.new.self slot found.is found.at found.own longer later)
+
+pub put_run-requires : goal.put_run-requires
+put_run-requires c =
+    let table = c.args.change.table in
+    let rid = c.args.change.rid in
+    let earlier = is_earlier c.args.self.now table rid c.args.scn c.requires.below (sym c.has_taken.ensures ∙ c.if-has_taken.false) in
+    let cell =
+    ready_blank c.args.self.now table rid _ (λ k is. c.in_default.not-InChain k (c.slot.ensures ∙ is)) (c.requires.ready earlier) in
+    let place = c.of_row.ensures.place in
+    rw (place.0, place.1, place.2, c.of_row.ensures.rows)
+    (MayTakeRun-one c.args.self.now table rid c.args.scn c.requires.some cell.blank cell.there c.requires.room)
+
+pub returns-in_default : goal.returns-in_default
+returns-in_default c =
+    let place = c.of_row.ensures.place in
+    let taken = rw (place.0, place.1, place.2, c.of_row.ensures.rows) at c.put_run.ensures in
+    subst (λ (row : Option (List Value)). HasTaken c.args.self.now c.put_run.new.self c.args.change.table c.args.change.rid c.args.scn row)
+    (sym c.unwrap.ensures)
+    (HasTaken-run c.args.self.now c.put_run.new.self c.args.change.table c.args.change.rid c.args.scn c.unwrap.result taken)

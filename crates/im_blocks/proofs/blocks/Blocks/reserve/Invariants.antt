@@ -1,13 +1,12 @@
-use Rattle.std.proofs.Common.{◌≤◌, take, length, All}
-use Rattle.std.specs.Option.{is_some}
-use Rattle.im_blocks.specs.Chains.{IsReady}
+use Rattle.std.proofs.Common.{[], take}
+use Rattle.im_history.specs.Puts.{all_changes}
 use Rattle.im_blocks.specs.Transitions.{SameVersions}
+use Rattle.im_blocks.specs.inner.Readying.{AreReady}
 use Rattle.im_blocks.proofs.blocks.Blocks.reserve.Given as goal
 
--- the rows of the changes so far are ready
-abbrev pub invariant-loop-change : goal.invariant-loop-change
-invariant-loop-change l = record {
+-- the changes of the pieces so far are ready
+abbrev pub invariant-loop-piece : goal.invariant-loop-piece
+invariant-loop-piece l = record {
   same : SameVersions l.fn.self l.self;
-  ready : All (λ change. IsReady l.self change.table change.rid (is_some change.row)) (take l.change-index l.changes);
-  room : length l.changes ≤ l.self.room;
+  ready : AreReady l.self [] l.ready.items (all_changes (take l.piece-index l.pieces));
 }

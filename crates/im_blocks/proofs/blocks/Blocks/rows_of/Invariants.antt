@@ -5,6 +5,6 @@ use Rattle.im_blocks.proofs.blocks.Blocks.rows_of.Given as goal
 -- the row numbers before this one are done
 abbrev pub invariant-loop-rid : goal.invariant-loop-rid
 invariant-loop-rid g l = record {
-  rows : l.rows.items ≡ rows_among l.self l.table (take l.rid-index l.rids) l.scn;
+  rows : l.fetched ≡ rows_among l.self l.table (take l.rid-index l.rids) l.scn;
   few : l.steps ≤ l.fn.steps + l.rid-index;
 }

@@ -22,15 +22,15 @@ extent_rows-requires g c =
     let has = has_view c.args.who c.args.cursor (Holds-seen c.self.invariant c.self.view_is) c.requires.within c.cursor.ensures c.unwrap-view.ensures in
     omega (arith, has.first, has.few, c.min-count.ensures)
 
-pub returns-in_err-rows-clause-steps : goal.returns-in_err-rows-clause-steps
-returns-in_err-rows-clause-steps g c =
+pub returns-in_err-fetched-clause-steps : goal.returns-in_err-fetched-clause-steps
+returns-in_err-fetched-clause-steps g c =
     let has = has_view c.args.who c.args.cursor (Holds-seen c.self.invariant c.self.view_is) c.requires.within c.cursor.ensures c.unwrap-view.ensures in
     rw (rows_in_is _ _ _ _ has c.min-count.ensures) at c.extent_rows.ensures.few
 
 pub returns-clause-fetched : goal.returns-clause-fetched
 returns-clause-fetched g c =
     let has = has_view c.args.who c.args.cursor (Holds-seen c.self.invariant c.self.view_is) c.requires.within c.cursor.ensures c.unwrap-view.ensures in
-    c.of.ensures ∙ (c.in_ok-rows.ensures.rows ∙ fetched_is _ _ _ _ _ _ (Holds-seen c.self.invariant c.self.view_is).rows has c.min-count.ensures)
+    c.in_ok-fetched.ensures.rows ∙ fetched_is _ _ _ _ _ _ (Holds-seen c.self.invariant c.self.view_is).rows has c.min-count.ensures
 
 pub returns-clause-steps : goal.returns-clause-steps
 returns-clause-steps g c =

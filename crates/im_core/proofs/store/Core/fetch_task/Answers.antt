@@ -26,8 +26,7 @@ pub returns-clause-fetched : goal.returns-clause-fetched
 returns-clause-fetched g c =
     let has = has_task c.args.task.now c.unwrap.result.now (Holds-seen c.self.invariant c.self.view_is) c.requires.held
     (sym c.build.ensures ∙ ap option_copied c.unwrap.ensures) in
-    c.of.ensures
-    ∙ (c.in_ok-rows.ensures.rows ∙ task_fetched_is _ _ c.args.task.now _ _ (Holds-seen c.self.invariant c.self.view_is).rows has c.min-count.ensures)
+    c.in_ok-fetched.ensures.rows ∙ task_fetched_is _ _ c.args.task.now _ _ (Holds-seen c.self.invariant c.self.view_is).rows has c.min-count.ensures
 
 pub returns-clause-steps : goal.returns-clause-steps
 returns-clause-steps g c =

@@ -1,9 +1,7 @@
 use Rattle.im_core.proofs.CountLemmas.{Gives-insert}
-use Rattle.im_core.proofs.SeenLemmas.{Holds-seen}
 use Rattle.im_core.proofs.store.Core.insert.Goals as goal
 
 pub record_write-requires-clause-gives : goal.record_write-requires-clause-gives
 record_write-requires-clause-gives g c =
-    rw (c.in-Ok-put_from.ensures, c.in-Ok.ensures.sum, c.given_of-first.ensures.given, c.len.ensures)
-    (Gives-insert c.args.self.now.log c.args.opening.table c.args.rows c.requires.may.some
-    ((Holds-seen c.self.invariant c.self.view_is).tables.light c.args.opening.table))
+    rw (c.put-changes.ensures, c.in-Ok.ensures.sum, c.given_of-first.ensures.given, c.len.ensures)
+    (Gives-insert c.args.self.now.log c.args.opening.table c.args.rows c.requires.may.some c.given_of-first.ensures.light)

@@ -12,7 +12,7 @@ pub returns-in-Some-clause-refused : goal.returns-in-Some-clause-refused
 returns-in-Some-clause-refused g c =
     let facts = rewrites c.args.who c.args.cursor c.args.changes.items (Holds-seen c.self.invariant c.self.view_is) c.requires.may
     c.of-caller.ensures c.cursor.ensures c.unwrap-view.ensures in
-    let cause = c.write_refusal.ensures ∙ rw (c.of-caller.ensures, c.as_slice-2.ensures.value, facts.scn) refl in
+    let cause = c.write_refusal.ensures ∙ rw (c.of-caller.ensures, c.of-changes.ensures, facts.scn) refl in
     record {
       place = c.refused-in-Some.ensures.place;
       why = inr (sym cause ∙ (c.in-Some.is ∙ ap (λ (w : Why). Some w) (sym c.refused-in-Some.ensures.why)));
@@ -34,18 +34,18 @@ pub record_write-requires-clause-allowed : goal.record_write-requires-clause-all
 record_write-requires-clause-allowed g c =
     let facts = rewrites c.args.who c.args.cursor c.args.changes.items (Holds-seen c.self.invariant c.self.view_is) c.requires.may
     c.of-caller.ensures c.cursor.ensures c.unwrap-view.ensures in
-    let cause = c.write_refusal.ensures ∙ rw (c.of-caller.ensures, c.as_slice-2.ensures.value, facts.scn) refl in
-    rw c.of-caller.ensures (facts.allowed (sym cause ∙ c.in_default-write_refusal.is))
+    let cause = c.write_refusal.ensures ∙ rw (c.of-caller.ensures, c.of-changes.ensures, facts.scn) refl in
+    rw (c.of-caller.ensures, c.of-changes.ensures) (facts.allowed (sym cause ∙ c.in_default-write_refusal.is))
 
 pub record_write-requires-clause-gives : goal.record_write-requires-clause-gives
 record_write-requires-clause-gives g c =
     let facts = rewrites c.args.who c.args.cursor c.args.changes.items (Holds-seen c.self.invariant c.self.view_is) c.requires.may
     c.of-caller.ensures c.cursor.ensures c.unwrap-view.ensures in
-    rw c.given_of-count.ensures.given facts.gives
+    rw (c.given_of-count.ensures.given, c.of-changes.ensures) facts.gives
 
 pub returns-in-Ok-record_write-clause-allowed : goal.returns-in-Ok-record_write-clause-allowed
 returns-in-Ok-record_write-clause-allowed g c =
     let facts = rewrites c.args.who c.args.cursor c.args.changes.items (Holds-seen c.self.invariant c.self.view_is) c.requires.may
     c.of-caller.ensures c.cursor.ensures c.unwrap-view.ensures in
-    let cause = c.write_refusal.ensures ∙ rw (c.of-caller.ensures, c.as_slice-2.ensures.value, facts.scn) refl in
+    let cause = c.write_refusal.ensures ∙ rw (c.of-caller.ensures, c.of-changes.ensures, facts.scn) refl in
     sym cause ∙ c.in_default-write_refusal.is

@@ -1,4 +1,5 @@
 use Rattle.std.proofs.Common.{refl}
+use Rattle.im_history.specs.Puts.{all_changes}
 use Rattle.im_directory.proofs.EffectLemmas.{AreBefore-from, IsNoted-made}
 use Rattle.im_directory.proofs.PlacedLemmas.{IsPlaced-same}
 use Rattle.im_directory.proofs.SoundLemmas.{IsSound-noted}
@@ -10,5 +11,5 @@ note_all-requires-clause-later g c = rw (← c.self.view_is) at (AreBefore-from 
 pub invariant_of-self : goal.invariant_of-self
 invariant_of-self g c =
     IsPlaced-same _ _ _ refl c.note_all.ensures.room
-    (IsSound-noted _ _ c.args.tables.now c.args.scn c.args.changes.now
-    (IsNoted-made _ _ c.self.inside.builds c.args.tables.now c.args.scn c.args.changes.now c.note_all.ensures) c.self.invariant.sound) c.self.invariant
+    (IsSound-noted _ _ c.args.tables.now c.args.scn (all_changes c.args.writes.now)
+    (IsNoted-made _ _ c.self.inside.builds c.args.tables.now c.args.scn (all_changes c.args.writes.now) c.note_all.ensures) c.self.invariant.sound) c.self.invariant

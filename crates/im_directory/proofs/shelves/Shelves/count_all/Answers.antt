@@ -1,17 +1,21 @@
-use Rattle.std.proofs.Common.{refl}
 use Rattle.im_directory.specs.Steps.{slot_counted}
-use Rattle.im_directory.proofs.NotingLemmas.{TellsAlike-trans, WentThrough-step}
+use Rattle.im_directory.proofs.NotingLemmas.{TellsAlike-trans}
+use Rattle.im_directory.proofs.WritesLemmas.{WentThrough-write, WentThrough-writes}
 use Rattle.im_directory.proofs.shelves.Shelves.count_all.Goals as goal
 
-pub loop-change-preserved : goal.loop-change-preserved
-loop-change-preserved g c = record {
-  range = c.extent_for-extent.ensures.range;
-  same = TellsAlike-trans _ _ _ c.loop-change.invariant.same c.count.ensures.same;
+pub loop-changes-preserved : goal.loop-changes-preserved
+loop-changes-preserved g c = record {
+  range = c.count_each.ensures.range;
+  same = TellsAlike-trans _ _ _ c.loop-changes.invariant.same c.count_each.ensures.same;
   counted =
-      WentThrough-step (λ change. slot_counted) _ _ _ c.args.tables.now c.args.changes.now c.loop-change.change-index c.extent_for-extent.result
-      c.change-item.result refl c.loop-change.invariant.counted c.loop-change-test.true c.change-item.is c.extent_for-extent.ensures.extent
-      c.in_ok-count.ensures.counted;
+      WentThrough-write (λ change. slot_counted) _ _ _ c.args.tables.now c.args.writes.now c.loop-changes.changes-index c.changes-item.result
+      c.loop-changes-test.true c.changes-item.is c.loop-changes.invariant.counted c.in_ok-count_each.ensures.counted;
 }
 
-pub returns-in_err-count-clause-same : goal.returns-in_err-count-clause-same
-returns-in_err-count-clause-same g c = TellsAlike-trans _ _ _ c.loop-change.invariant.same c.count.ensures.same
+pub returns-in_err-count_each-clause-same : goal.returns-in_err-count_each-clause-same
+returns-in_err-count_each-clause-same g c = TellsAlike-trans _ _ _ c.loop-changes.invariant.same c.count_each.ensures.same
+
+pub returns-clause-counted : goal.returns-clause-counted
+returns-clause-counted g c =
+    WentThrough-writes (λ change. slot_counted) _ _ c.args.tables.now c.args.writes.now c.loop-changes.changes-index
+    c.loop-changes-test.false c.loop-changes.invariant.counted

@@ -1,26 +1,32 @@
-use Rattle.std.proofs.Common.{refl}
 use Rattle.im_directory.specs.Steps.{slot_noted}
-use Rattle.im_directory.proofs.NotingLemmas.{AreNoted-all, MayNote-next, WentThrough-all, WentThrough-step}
+use Rattle.im_directory.proofs.NotingLemmas.{AreNoted-all}
+use Rattle.im_directory.proofs.WritesLemmas.{AreBefore-left, HasNotesRoom-first, HasNotesRoom-left, WentThrough-write, WentThrough-writes, all-left}
 use Rattle.im_directory.proofs.shelves.Shelves.note_all.Goals as goal
 
-pub note-requires : goal.note-requires
-note-requires g c =
-    let may =
-    MayNote-next _ _ c.args.tables.now c.args.scn c.args.changes.now c.loop-change.change-index c.change-item.result c.requires.room c.requires.later
-    c.loop-change.invariant.went c.loop-change-test.true c.change-item.is in
-    rw c.extent_for-extent.ensures.extent.slot may
+pub note_each-requires-clause-room : goal.note_each-requires-clause-room
+note_each-requires-clause-room g c =
+    HasNotesRoom-first _ c.args.tables.now _ c.changes-item.result _
+    (all-left c.args.writes.now c.loop-changes.changes-index c.changes-item.result c.loop-changes-test.true c.changes-item.is)
+    c.loop-changes.invariant.room
 
-pub loop-change-preserved : goal.loop-change-preserved
-loop-change-preserved g c = record {
-  range = c.extent_for-extent.ensures.range;
+pub loop-changes-preserved : goal.loop-changes-preserved
+loop-changes-preserved g c = record {
+  range = c.note_each.ensures.range;
   went =
-      WentThrough-step (λ change. slot_noted (change.rid, c.args.scn)) _ _ _ c.args.tables.now c.args.changes.now c.loop-change.change-index
-      c.extent_for-extent.result c.change-item.result refl c.loop-change.invariant.went c.loop-change-test.true c.change-item.is
-      c.extent_for-extent.ensures.extent c.note.ensures;
+      WentThrough-write (λ change. slot_noted (change.rid, c.args.scn)) _ _ _ c.args.tables.now c.args.writes.now c.loop-changes.changes-index c.changes-item.result
+      c.loop-changes-test.true c.changes-item.is c.loop-changes.invariant.went c.note_each.ensures.went;
+  room =
+      HasNotesRoom-left _ _ c.args.tables.now c.args.scn _ c.changes-item.result _
+      (all-left c.args.writes.now c.loop-changes.changes-index c.changes-item.result c.loop-changes-test.true c.changes-item.is)
+      c.loop-changes.invariant.room c.loop-changes.invariant.later c.note_each.ensures.went;
+  later =
+      AreBefore-left _ _ c.args.tables.now c.args.scn _ c.changes-item.result _
+      (all-left c.args.writes.now c.loop-changes.changes-index c.changes-item.result c.loop-changes-test.true c.changes-item.is)
+      c.loop-changes.invariant.room c.loop-changes.invariant.later c.note_each.ensures.went;
 }
 
 pub returns : goal.returns
 returns g c =
-    AreNoted-all _ _ c.args.tables.now c.args.scn c.args.changes.now
-    (WentThrough-all (λ change. slot_noted (change.rid, c.args.scn)) _ _ c.args.tables.now c.args.changes.now c.loop-change.change-index
-    c.loop-change-test.false c.loop-change.invariant.went)
+    AreNoted-all _ _ c.args.tables.now c.args.scn _
+    (WentThrough-writes (λ change. slot_noted (change.rid, c.args.scn)) _ _ c.args.tables.now c.args.writes.now c.loop-changes.changes-index
+    c.loop-changes-test.false c.loop-changes.invariant.went)

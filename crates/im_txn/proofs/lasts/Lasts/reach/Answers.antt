@@ -10,6 +10,7 @@ loop-alloc-preserved c =
     c.in_ok-push.ensures.items ∙ ap (λ (slots : List Slot). old ++ slots ∷ []) c.in_ok-new.ensures in
     record {
       known = c.loop-alloc.invariant.known;
+      part = c.loop-alloc.invariant.part;
       same =
           λ table rid. ap (λ (tables : List (List Slot)). last_at (get_or tables table []) rid) pushed
           ∙ reads-push c.args.self.now.tables.items old c.loop-alloc.invariant.same table rid;

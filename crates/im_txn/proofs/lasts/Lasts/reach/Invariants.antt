@@ -6,6 +6,7 @@ use Rattle.im_txn.proofs.lasts.Lasts.reach.Given as goal
 abbrev pub invariant-loop-alloc : goal.invariant-loop-alloc
 invariant-loop-alloc l = record {
   known : l.self.known ≡ l.fn.self.known;
+  part : l.self.part ≡ l.fn.self.part;
   same : ReadsSame l.fn.self.tables.items l.self.tables.items;
 }
 

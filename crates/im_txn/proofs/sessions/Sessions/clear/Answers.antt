@@ -1,4 +1,6 @@
-use Rattle.std.proofs.Common.{◌≡◌, arith, ap, ◌∙◌}
+use Rattle.std.proofs.Common.{◌≡◌, List, arith, ap, ◌∙◌}
+use Rattle.im_history.specs.declared.change.Change.{Change}
+use Rattle.im_history.specs.Puts.{all_changes}
 use Rattle.im_txn.specs.Activity.{Activity, transactions}
 use Rattle.im_txn.specs.LockCells.{set_cells}
 use Rattle.im_txn.specs.Standing.{Standing, activity_at}
@@ -15,8 +17,8 @@ invariant_of-self c =
     let same =
     same-read _ c.index-at.result c.index.result.now c.index_mut.result.now c.self.invariant c.index-at.ensures.few c.index.ensures
     c.index_mut.ensures.value in
-    Turns-counted _ _ _ _ c.set_all.new.self _ (end-turns _ c.index-at.result c.index_mut.result.now c.end-changes.new.self c.transactions-fewer.result
-    c.self.invariant c.index-at.ensures.few c.index_mut.ensures.value c.end-changes.ensures.after (c.transactions-fewer.ensures ∙ ap transactions same))
+    Turns-counted _ _ _ _ c.free.new.self _ (end-turns _ c.index-at.result c.index_mut.result.now c.end-writes.new.self c.transactions-fewer.result
+    c.self.invariant c.index-at.ensures.few c.index_mut.ensures.value c.end-writes.ensures.after (c.transactions-fewer.ensures ∙ ap transactions same))
 
 pub returns-clause-after : goal.returns-clause-after
 returns-clause-after c =
@@ -24,16 +26,16 @@ returns-clause-after c =
     same-read _ c.index-at.result c.index.result.now c.index_mut.result.now c.self.invariant c.index-at.ensures.few c.index.ensures
     c.index_mut.ensures.value in
     let turns =
-    end-turns _ c.index-at.result c.index_mut.result.now c.end-changes.new.self c.transactions-fewer.result c.self.invariant c.index-at.ensures.few
-    c.index_mut.ensures.value c.end-changes.ensures.after (c.transactions-fewer.ensures ∙ ap transactions same) in
-    let cells = c.set_all.ensures ∙ ap (set_cells 0 c.self.inside.locks) c.as_slice.ensures.value in
-    rw (← c.index-at.ensures.same, ← c.self.view_is) (ended-set _ _ c.end-changes.result.items _ _ c.set_all.new.self _ turns c.end-changes.ensures.after cells
-    c.end-changes.ensures.handed)
+    end-turns _ c.index-at.result c.index_mut.result.now c.end-writes.new.self c.transactions-fewer.result c.self.invariant c.index-at.ensures.few
+    c.index_mut.ensures.value c.end-writes.ensures.after (c.transactions-fewer.ensures ∙ ap transactions same) in
+    let cells = c.free.ensures ∙ ap (λ (writes : List (List Change)). set_cells 0 c.self.inside.locks (all_changes writes)) c.as_slice.ensures.value in
+    rw (← c.index-at.ensures.same, ← c.self.view_is) (ended-set _ _ (all_changes c.end-writes.result.items) _ _ c.free.new.self _ turns c.end-writes.ensures.after cells
+    c.end-writes.ensures.handed)
 
 pub returns-clause-handed : goal.returns-clause-handed
 returns-clause-handed c =
     let is = reads _ c.index-at.result c.index_mut.result.now c.self.invariant c.index-at.ensures.few c.index_mut.ensures.value in
     rw (← c.index-at.ensures.same)
-    (c.end-changes.ensures.handed
+    (c.end-writes.ensures.handed
     ∙ (ap (λ (a : Activity). a.pending) is
     ∙ ap (λ (s : Standing). (activity_at s c.index-at.result).pending) c.self.view_is))

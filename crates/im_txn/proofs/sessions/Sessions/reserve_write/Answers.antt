@@ -6,10 +6,10 @@ use Rattle.im_txn.proofs.sessions.Sessions.reserve_write.Goals as goal
 pub returns : goal.returns
 returns c =
     let turns =
-    roomier-turns _ c.index.result c.index_mut.result.now c.reserve_changes.new.self c.self.invariant c.index.ensures.few c.index_mut.ensures.value
-    c.reserve_changes.ensures.same c.reserve_changes.ensures.few in
+    roomier-turns _ c.index.result c.index_mut.result.now c.reserve_write.new.self c.self.invariant c.index.ensures.few c.index_mut.ensures.value
+    c.reserve_write.ensures.same c.reserve_write.ensures.few in
     record {
-      same = rw (← c.self.view_is) (roomier-grown _ _ _ _ c.reserve.new.self turns c.reserve_changes.ensures.same c.reserve.ensures.same);
+      same = rw (← c.self.view_is) (roomier-grown _ _ _ _ c.reserve.new.self turns c.reserve_write.ensures.same c.reserve.ensures.same);
       ok =
           rw (← c.index.ensures.same) (on_ok_weaker {Q =
           HasRoom (moved (record {
@@ -17,6 +17,7 @@ returns c =
             locks = c.self.inside.locks;
             owed =
                 c.self.inside.owed;
-          }) c.index.result c.reserve_changes.new.self c.reserve.new.self c.self.inside.owed) c.index.result c.args.changes.now} _
-          (λ has. HasRoom-grown _ _ c.args.changes.now _ _ c.reserve.new.self turns c.in_ok-reserve_changes.ensures.ok has) c.reserve.ensures.ok);
+          }) c.index.result c.reserve_write.new.self c.reserve.new.self c.self.inside.owed) c.index.result c.args.changes.now} _
+          (λ has. HasRoom-grown _ _ c.args.changes.now c.len.result _ _ c.reserve.new.self turns c.reserve_write.ensures.same c.len.ensures
+          c.in_ok-reserve_write.ensures.ok c.in_ok-reserve_write.ensures.fits has) c.reserve.ensures.ok);
     }

@@ -5,7 +5,7 @@ use Rattle.im_unit.specs.Holding.{count_present}
 use Rattle.im_unit.proofs.UnitLemmas.{count-kept}
 use Rattle.im_unit.proofs.unit.ColumnUnitUnitLike.present.Goals as goal
 
-pub returns : goal.returns
-returns c =
+pub returns-clause-count : goal.returns-clause-count
+returns-clause-count c =
     let u = c.self.inside in
     c.count.ensures.count ∙ (count-kept u.presence (map arc_value u.columns.items) ∙ ap (λ (k : Content). count_present k.rows) c.self.view_is)

@@ -1,6 +1,0 @@
-use Rattle.std.proofs.Common.{◌≡◌, take}
-use Rattle.im_core.proofs.writes.copies.Given as goal
-
--- the changes so far are copied
-abbrev pub invariant-loop-change : goal.invariant-loop-change
-invariant-loop-change l = l.copies.items ≡ take l.change-index l.changes

@@ -1,0 +1,272 @@
+-- What was fetched in pieces, piece by piece and row by row.
+use Rattle.std.proofs.Common.{◌≡◌, ℕ, zero, suc, ◌+◌, ◌-◌, ◌<◌, ◌≤◌, ◌^◌, Bool, true, false, if◌then◌else◌, List, [], ◌∷◌, ◌++◌, length, take, get_or, map, Option, None, Some, refl, sym, ap, subst, ◌∙◌, arith, append_assoc, append-nil}
+use Rattle.std.specs.List.{AllByRecursion, range_with_len, slice_get}
+use Rattle.std.proofs.lemmas.Grind.{flat_map-append}
+use Rattle.std.proofs.lemmas.List.{length-append, length-take-le, map-append, take_more}
+use Rattle.im_values.specs.declared.value.Value.{Value}
+use Rattle.im_syntax.specs.Condition.{CondOf}
+use Rattle.im_syntax.specs.declared.bound.Bound.{Bound}
+use Rattle.im_syntax.specs.BoundFits.{BoundFits}
+use Rattle.im_history.specs.declared.fetched.Piece.{Piece}
+use Rattle.im_history.specs.Fetched.{in_piece, in_pieces, run_from}
+use Rattle.im_history.specs.Rows.{Row}
+use Rattle.im_history.proofs.FetchedLaws.{in_pieces-push, length-run_from, run_from-next}
+use Rattle.im_group.specs.Partials.{IsPartOfFew, Numbered, Parts, keeps, partial}
+use Rattle.im_scan.specs.Parts.{MayAsk}
+use Rattle.im_scan.specs.inner.Pieces.{AreInOrder, HasRoomFor, TakesAt, numbered_all}
+use Rattle.im_scan.specs.inner.Steps.{GoesOnBy, numbered, numbered_from}
+use Rattle.im_scan.specs.inner.Walk.{AreClear}
+use Rattle.im_scan.proofs.WalkLemmas.{goes-unkept}
+use Rattle.im_scan.proofs.InPlace.{first-of, others-of, numbers_of, rows_of}
+
+pub numbers-run : (first : ℕ) (rows : List Row) → numbers_of (run_from first rows) ≡ range_with_len first (length rows)
+numbers-run first [] = refl
+numbers-run first (row ∷ rows) = ap (λ (l : List ℕ). first ∷ l) (numbers-run (first + 1) rows)
+
+-- ---- one piece more
+
+pub pieces-more : (pieces : List Piece) (i : ℕ) (piece : Piece) → i < length pieces → piece ≡ get_or pieces i piece
+    → in_pieces (take (i + 1) pieces) ≡ in_pieces (take i pieces) ++ in_piece piece
+pieces-more pieces i piece within is =
+    ap in_pieces (take_more pieces i piece within ∙ ap (λ (p : Piece). take i pieces ++ p ∷ []) (sym is))
+    ∙ in_pieces-push (take i pieces) piece
+
+few-pieces : (pieces : List Piece) (i : ℕ) → length (in_pieces (take i pieces)) ≤ length (in_pieces pieces)
+few-pieces [] zero = omega arith
+few-pieces [] (suc i) = omega arith
+few-pieces (p ∷ pieces) zero = omega arith
+few-pieces (p ∷ pieces) (suc i) =
+    let less = few-pieces pieces i in
+    omega (arith, less, length-append (in_piece p) (in_pieces (take i pieces)), length-append (in_piece p) (in_pieces pieces))
+
+pub pieces-within : (pieces : List Piece) (i : ℕ) (piece : Piece) → i < length pieces → piece ≡ get_or pieces i piece
+    → length (in_pieces (take i pieces)) + length (in_piece piece) ≤ length (in_pieces pieces)
+pieces-within pieces i piece within is =
+    let more = ap length (pieces-more pieces i piece within is) ∙ length-append (in_pieces (take i pieces)) (in_piece piece) in
+    let less = few-pieces pieces (i + 1) in
+    omega (arith, more, less)
+
+-- ---- row numbers in order
+
+range-append : (first n m : ℕ) → range_with_len first (n + m) ≡ range_with_len first n ++ range_with_len (first + n) m
+range-append first zero m =
+    let none : zero + m ≡ m = omega arith in
+    let here : first ≡ first + zero = omega arith in
+    ap (λ (k : ℕ). range_with_len first k) none ∙ ap (λ (k : ℕ). range_with_len k m) here
+range-append first (suc n) m =
+    let whole : suc n + m ≡ suc (n + m) = omega arith in
+    let next : first + 1 + n ≡ first + suc n = omega arith in
+    ap (λ (k : ℕ). range_with_len first k) whole
+    ∙ (ap (λ (l : List ℕ). first ∷ l) (range-append (first + 1) n m)
+    ∙ ap (λ (k : ℕ). first ∷ (range_with_len (first + 1) n ++ range_with_len k m)) next)
+
+length-range : (first n : ℕ) → length (range_with_len first n) ≡ n
+length-range first zero = refl
+length-range first (suc n) = ap suc (length-range (first + 1) n)
+
+length-numbers : (fetched : List (ℕ × Option Row)) → length (numbers_of fetched) ≡ length fetched
+length-numbers [] = refl
+length-numbers (f ∷ fetched) = ap suc (length-numbers fetched)
+
+-- what was gone over is in order, and this row number is the next
+pub record IsNextTo (first : ℕ) (fetched : List (ℕ × Option Row)) (next : ℕ) : Type 0 where
+  pub next_is : next ≡ first + length fetched
+  pub order : AreInOrder first fetched
+
+pub long-span : (rid count : ℕ) (piece : List (ℕ × Option Row)) → numbers_of piece ≡ range_with_len rid count → length piece ≡ count
+long-span rid count piece numbers = sym (length-numbers piece) ∙ (ap length numbers ∙ length-range rid count)
+
+next-more : (first rid count next : ℕ) (fetched piece : List (ℕ × Option Row)) → IsNextTo first fetched next → rid ≡ next
+    → numbers_of piece ≡ range_with_len rid count → IsNextTo first (fetched ++ piece) (next + count)
+next-more first rid count next fetched piece are here numbers = record {
+  next_is = omega (arith, are.next_is, all, long);
+  order =
+      map-append (λ f. f.0) fetched piece
+      ∙ (ap (λ (l : List ℕ). l ++ numbers_of piece) are.order
+      ∙ (ap (λ (l : List ℕ). range_with_len first (length fetched) ++ l) numbers
+      ∙ (ap (λ (k : ℕ). range_with_len first (length fetched) ++ range_with_len k count) (here ∙ are.next_is)
+      ∙ (sym (range-append first (length fetched) count) ∙ ap (range_with_len first) (ap (λ (k : ℕ). length fetched + k) (sym long) ∙ sym all)))));
+}
+  where
+    long : length piece ≡ count
+    long = long-span rid count piece numbers
+
+    all : length (fetched ++ piece) ≡ length fetched + length piece
+    all = length-append fetched piece
+
+pub in-order-more : (first rid count next i : ℕ) (pieces : List Piece) (piece : Piece) → i < length pieces → piece ≡ get_or pieces i piece
+    → IsNextTo first (in_pieces (take i pieces)) next → rid ≡ next → numbers_of (in_piece piece) ≡ range_with_len rid count
+    → IsNextTo first (in_pieces (take (i + 1) pieces)) (next + count)
+in-order-more first rid count next i pieces piece within is are here numbers =
+    subst (λ (l : List (ℕ × Option Row)). IsNextTo first l (next + count)) (sym (pieces-more pieces i piece within is))
+    (next-more first rid count next (in_pieces (take i pieces)) (in_piece piece) are here numbers)
+
+-- no row number overflows
+pub next-within : (first rid count next i : ℕ) (pieces : List Piece) (piece : Piece) → i < length pieces → piece ≡ get_or pieces i piece
+    → IsNextTo first (in_pieces (take i pieces)) next → numbers_of (in_piece piece) ≡ range_with_len rid count
+    → first + length (in_pieces pieces) < 2 ^ 64 → next + count < 2 ^ 64
+next-within first rid count next i pieces piece within is are numbers few =
+    omega (arith, are.next_is, long-span rid count (in_piece piece) numbers, pieces-within pieces i piece within is, few)
+
+-- in order, the rows each with its number are those from the first number on
+pub numbered-in-order : (first : ℕ) (fetched : List (ℕ × Option Row)) → AreInOrder first fetched
+    → numbered_all fetched ≡ numbered_from first (rows_of fetched)
+numbered-in-order first [] are = refl
+numbered-in-order first (f ∷ fetched) are =
+    let here : f.0 ≡ first = first-of f.0 first (numbers_of fetched) (range_with_len (first + 1) (length fetched)) are in
+    ap (λ (n : ℕ). numbered n f.1 ++ numbered_all fetched) here
+    ∙ ap (λ (l : List Numbered). numbered first f.1 ++ l)
+    (numbered-in-order (first + 1) fetched (others-of f.0 first (numbers_of fetched) (range_with_len (first + 1) (length fetched)) are))
+
+-- ---- a query may be asked
+
+all-front : {X : Type 0} (P : X → Type 0) (xs ys : List X) → AllByRecursion P (xs ++ ys) → AllByRecursion P xs
+all-front P [] ys all = tt
+all-front P (x ∷ xs) ys all = (all.0, all-front P xs ys all.1)
+
+all-back : {X : Type 0} (P : X → Type 0) (xs ys : List X) → AllByRecursion P (xs ++ ys) → AllByRecursion P ys
+all-back P [] ys all = all
+all-back P (x ∷ xs) ys all = all-back P xs ys all.1
+
+pub piece-fits : (bound : Bound) (pieces : List Piece) (i : ℕ) (piece : Piece) → i < length pieces → piece ≡ get_or pieces i piece
+    → AllByRecursion (λ row. MayAsk bound row.1) (in_pieces pieces) → AllByRecursion (λ row. MayAsk bound row.1) (in_piece piece)
+piece-fits bound [] i piece within is all = absurd (omega (arith, within))
+piece-fits bound (p ∷ pieces) zero piece within is all =
+    subst (λ (q : Piece). AllByRecursion (λ row. MayAsk bound row.1) (in_piece q)) (sym is)
+    (all-front (λ row. MayAsk bound row.1) (in_piece p) (in_pieces pieces) all)
+piece-fits bound (p ∷ pieces) (suc i) piece within is all =
+    piece-fits bound pieces i piece (omega (arith, within)) is (all-back (λ row. MayAsk bound row.1) (in_piece p) (in_pieces pieces) all)
+
+pub run-fits : (bound : Bound) (first : ℕ) (rows : List Row) → AllByRecursion (λ row. MayAsk bound row.1) (run_from first rows)
+    → AllByRecursion (λ row. BoundFits row bound) rows
+run-fits bound first [] all = tt
+run-fits bound first (row ∷ rows) all = (all.0 row refl, run-fits bound (first + 1) rows all.1)
+
+pub some-inj : {A : Type 0} {a b : A} → ◌≡◌ {A = Option A} (Some a) (Some b) → a ≡ b
+some-inj e = cc
+
+pub at-fits : (bound : Bound) (rows : List Row) (i : ℕ) (row : Row) → slice_get rows i ≡ Some row
+    → AllByRecursion (λ r. BoundFits r bound) rows → BoundFits row bound
+at-fits bound [] i row is all = absurd (cc is)
+at-fits bound (r ∷ rows) zero row is all = subst (λ (q : Row). BoundFits q bound) (some-inj is) all.0
+at-fits bound (r ∷ rows) (suc i) row is all = at-fits bound rows i row is all.1
+
+-- ---- rows of a run
+
+length-numbered-run : (first : ℕ) (rows : List Row) → length (numbered_all (run_from first rows)) ≡ length rows
+length-numbered-run first [] = refl
+length-numbered-run first (row ∷ rows) = ap suc (length-numbered-run (first + 1) rows)
+
+numbered-append : (xs ys : List (ℕ × Option Row)) → numbered_all (xs ++ ys) ≡ numbered_all xs ++ numbered_all ys
+numbered-append xs ys = flat_map-append (λ f. numbered f.0 f.1) xs ys
+
+pub goes-nowhere : (bound : Bound) (part : Parts) → GoesOnBy bound part [] part
+goes-nowhere bound part = record { goes = λ rows old. old ∙ ap (partial bound) (sym (append-nil rows)) }
+
+-- the part may take one more
+pub few-run : (bound : Bound) (first at : ℕ) (rows : List Row) (old now : Parts) → HasRoomFor bound (length rows) old → at < length rows
+    → GoesOnBy bound old (numbered_all (run_from first (take at rows))) now → IsPartOfFew bound now
+few-run bound first at rows old now room within goes = record {
+  rows = room.rows ++ numbered_all (run_from first (take at rows));
+  is = goes.goes room.rows room.is;
+  few =
+      let all = length-append room.rows (numbered_all (run_from first (take at rows))) in
+      let long = length-numbered-run first (take at rows) ∙ length-take-le at rows (omega (arith, within)) in
+      omega (arith, all, long, within, room.few);
+}
+
+pub run-more : (bound : Bound) (first at : ℕ) (rows : List Row) (old now new : Parts)
+    → GoesOnBy bound old (numbered_all (run_from first (take at rows))) now → TakesAt bound (first + at) rows at now new
+    → GoesOnBy bound old (numbered_all (run_from first (take (at + 1) rows))) new
+run-more bound first at rows old now new so_far takes = record {
+  goes = λ front is.
+      takes.on.goes (front ++ numbered_all (run_from first (take at rows))) (so_far.goes front is)
+      ∙ ap (partial bound)
+      (append_assoc front (numbered_all (run_from first (take at rows))) ((first + at, takes.row) ∷ [])
+      ∙ ap (λ (l : List Numbered). front ++ l)
+      (sym (ap numbered_all (run_from-next first rows at takes.row takes.there)
+      ∙ numbered-append (run_from first (take at rows)) ((first + at, Some takes.row) ∷ []))));
+}
+
+-- ---- rows of pieces
+
+few-one : (rid n : ℕ) (row : Option Row) (rows : List Numbered) → length rows ≤ n → length (numbered rid row ++ rows) ≤ suc n
+few-one rid n None rows less = omega (arith, less)
+few-one rid n (Some row) rows less = omega (arith, less)
+
+few-all : (fetched : List (ℕ × Option Row)) → length (numbered_all fetched) ≤ length fetched
+few-all [] = omega arith
+few-all (f ∷ fetched) = few-one f.0 (length fetched) f.1 (numbered_all fetched) (few-all fetched)
+
+pub room-piece : (bound : Bound) (pieces : List Piece) (i : ℕ) (piece : Piece) (part : Parts) → i < length pieces → piece ≡ get_or pieces i piece
+    → length (in_pieces pieces) < 2 ^ 64 → part ≡ partial bound (numbered_all (in_pieces (take i pieces)))
+    → HasRoomFor bound (length (in_piece piece)) part
+room-piece bound pieces i piece part within is few so_far = record {
+  rows = numbered_all (in_pieces (take i pieces));
+  is = so_far;
+  few = omega (arith, few-all (in_pieces (take i pieces)), pieces-within pieces i piece within is, few);
+}
+
+pub pieces-taken : (bound : Bound) (pieces : List Piece) (i : ℕ) (piece : Piece) (part new : Parts) → i < length pieces → piece ≡ get_or pieces i piece
+    → part ≡ partial bound (numbered_all (in_pieces (take i pieces))) → GoesOnBy bound part (numbered_all (in_piece piece)) new
+    → new ≡ partial bound (numbered_all (in_pieces (take (i + 1) pieces)))
+pieces-taken bound pieces i piece part new within is so_far goes =
+    goes.goes (numbered_all (in_pieces (take i pieces))) so_far
+    ∙ ap (partial bound)
+    (sym (ap numbered_all (pieces-more pieces i piece within is) ∙ numbered-append (in_pieces (take i pieces)) (in_piece piece)))
+
+-- a run has as many row numbers as rows
+pub room-run : (bound : Bound) (first : ℕ) (rows : List Row) (part : Parts) → HasRoomFor bound (length (run_from first rows)) part
+    → HasRoomFor bound (length rows) part
+room-run bound first rows part room = subst (λ (n : ℕ). HasRoomFor bound n part) (length-run_from first rows) room
+
+-- ---- rows of a run that a mask chooses
+
+pub chosen-at : (filter : Option (CondOf ℕ Value)) (rows : List Row) (at : ℕ) (row : Row) → slice_get rows at ≡ Some row
+    → get_or (map (keeps filter) rows) at false ≡ keeps filter row
+chosen-at filter [] at row is = absurd (cc is)
+chosen-at filter (r ∷ rows) zero row is = ap (keeps filter) (some-inj is)
+chosen-at filter (r ∷ rows) (suc at) row is = chosen-at filter rows at row is
+
+pub kept-row : (filter : Option (CondOf ℕ Value)) (rows : List Row) (at : ℕ) (row : Row) → slice_get rows at ≡ Some row
+    → get_or (map (keeps filter) rows) at false ≡ true → keeps filter row ≡ true
+kept-row filter rows at row is chosen = sym (chosen-at filter rows at row is) ∙ chosen
+
+-- a row that is not chosen
+run-pass : (bound : Bound) (first at : ℕ) (rows : List Row) (old now : Parts) (row : Row) → slice_get rows at ≡ Some row
+    → keeps bound.filter row ≡ false → GoesOnBy bound old (numbered_all (run_from first (take at rows))) now
+    → GoesOnBy bound old (numbered_all (run_from first (take (at + 1) rows))) now
+run-pass bound first at rows old now row is not so_far =
+    subst (λ (l : List Numbered). GoesOnBy bound old l now)
+    (sym (ap numbered_all (run_from-next first rows at row is) ∙ numbered-append (run_from first (take at rows)) ((first + at, Some row) ∷ [])))
+    (goes-unkept bound old now (numbered_all (run_from first (take at rows))) ((first + at, row) ∷ []) so_far
+    (ap (λ (b : Bool). if b then (first + at, row) ∷ [] else []) not))
+
+row-at : (rows : List Row) (at : ℕ) → at < length rows → (row : Row) × (slice_get rows at ≡ Some row)
+row-at [] at within = absurd (omega (arith, within))
+row-at (r ∷ rows) zero within = (r, refl)
+row-at (r ∷ rows) (suc at) within = row-at rows at (omega (arith, within))
+
+pass-more : (bound : Bound) (first at n : ℕ) (rows : List Row) (old now : Parts) → at + n ≤ length rows
+    → AreClear (map (keeps bound.filter) rows) at (at + n) → GoesOnBy bound old (numbered_all (run_from first (take at rows))) now
+    → GoesOnBy bound old (numbered_all (run_from first (take (at + n) rows))) now
+pass-more bound first at zero rows old now within clear so_far =
+    let same : at ≡ at + zero = omega arith in
+    subst (λ (k : ℕ). GoesOnBy bound old (numbered_all (run_from first (take k rows))) now) same so_far
+pass-more bound first at (suc n) rows old now within clear so_far =
+    let next : at + 1 + n ≡ at + suc n = omega arith in
+    let found = row-at rows at (omega (arith, within)) in
+    subst (λ (k : ℕ). GoesOnBy bound old (numbered_all (run_from first (take k rows))) now) next
+    (pass-more bound first (at + 1) n rows old now (omega (arith, within)) (λ k low high. clear k (omega (arith, low)) (omega (arith, high)))
+    (run-pass bound first at rows old now found.0 found.1
+    (sym (chosen-at bound.filter rows at found.0 found.1) ∙ clear at (omega arith) (omega arith)) so_far))
+
+-- none of the rows up to a place is chosen
+pub run-passes : (bound : Bound) (first at to : ℕ) (rows : List Row) (mask : List Bool) (old now : Parts) → mask ≡ map (keeps bound.filter) rows
+    → at ≤ to → to ≤ length rows → AreClear mask at to → GoesOnBy bound old (numbered_all (run_from first (take at rows))) now
+    → GoesOnBy bound old (numbered_all (run_from first (take to rows))) now
+run-passes bound first at to rows mask old now is from within clear so_far =
+    let whole : at + (to - at) ≡ to = omega (arith, from) in
+    subst (λ (k : ℕ). GoesOnBy bound old (numbered_all (run_from first (take k rows))) now) whole
+    (pass-more bound first at (to - at) rows old now (omega (arith, from, within))
+    (λ k low high. ap (λ (l : List Bool). get_or l k false) (sym is) ∙ clear k low (omega (arith, high, from))) so_far)

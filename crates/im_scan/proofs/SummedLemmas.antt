@@ -1,0 +1,243 @@
+-- The part of a query that takes the rows of a unit together, by a summary of each column.
+use Rattle.std.proofs.Common.{◌≡◌, ℕ, zero, suc, ◌+◌, ◌-◌, ◌*◌, ◌^◌, ◌<◌, ◌≤◌, Bool, true, false, if◌then◌else◌, List, [], ◌∷◌, length, map, filter, get_or, count_by, Option, Some, None, ℤ, pos, ◌+ℤ◌, ◌≤ℤ◌, neg_ℤ, refl, sym, ap, subst, ◌∙◌, arith}
+use Rattle.std.specs.List.{cons_option, fold}
+use Rattle.std.specs.Option.{option_copied, option_map, unwrap_or}
+use Rattle.std.specs.Int.RustNames.{unsigned_abs}
+use Rattle.std.proofs.lemmas.Int.{ints}
+use Rattle.std.specs.Prelude.{cond, nat_lt}
+use Rattle.std.proofs.lemmas.Bool.Decides.{nat_tests}
+use Rattle.std.proofs.lemmas.List.{length-map}
+use Rattle.std.proofs.lemmas.List.FromFn.{length-map-range_with_len}
+use Rattle.std.proofs.lemmas.List.Sums.{length-filter, sum_by-cons}
+use Rattle.im_values.specs.declared.value.Value.{Value}
+use Rattle.im_values.specs.declared.value.Value.TheVariants.{Int, Text, Null}
+use Rattle.im_syntax.specs.declared.bound.Bound.{Bound}
+use Rattle.im_history.specs.declared.view.View.{View}
+use Rattle.im_history.specs.Rows.{Row, present}
+use Rattle.im_history.specs.Units.{Content}
+use Rattle.im_codepred.specs.Tallies as code
+use Rattle.im_codepred.specs.declared.tally.Tally.{Tally}
+use Rattle.im_group.specs.declared.asked.Asked.{Asked}
+use Rattle.im_group.specs.MadeGroups.{AreGroupsOf, is_among, kept_values}
+use Rattle.im_group.specs.Partials.{Numbered, keeps, kept, members, keys_of, tallies_of}
+use Rattle.im_group.specs.Sums as sums
+use Rattle.im_group.specs.Tallies.{Tallied, asked_in, tallied, wanted}
+use Rattle.im_unit.specs.Holding.{columns_of, count_present, present_rows, row_of, values_in}
+use Rattle.im_unit.proofs.ForCallers.{count-present}
+use Rattle.im_scan.specs.Parts.{taken_row}
+use Rattle.im_scan.specs.inner.Beside.{Beside}
+use Rattle.im_scan.specs.inner.Summed.{StandsAlone, TakesTogether, rows_kept}
+use Rattle.im_scan.proofs.BesideLemmas.{fetched-beside}
+use Rattle.im_scan.proofs.PartLemmas.{beside-part}
+
+-- the values in two that are there are one
+pub some-inj : {A : Type 0} {a b : A} → ◌≡◌ {A = Option A} (Some a) (Some b) → a ≡ b
+some-inj e = cc
+
+-- ---- one summary
+
+-- both definitions of the number of a value are one
+same-number : (v : Value) → code.number v ≡ sums.number v
+same-number (Int n) = refl
+same-number (Text t) = refl
+same-number Null = refl
+
+-- and so are both sums, from any sum on
+same-fold : (vs : List Value) (s : ℤ) → fold (λ sum v. sum +ℤ code.number v) s vs ≡ fold (λ sum v. sum +ℤ sums.number v) s vs
+same-fold [] s = refl
+same-fold (v ∷ vs) s =
+    same-fold vs (s +ℤ code.number v) ∙ ap (λ (n : ℤ). fold (λ sum v. sum +ℤ sums.number v) (s +ℤ n) vs) (same-number v)
+
+-- an end that is there is the value, and else NULL
+some-end : (v : Value) → unwrap_or (code.some_of v) Null ≡ v
+some-end (Int n) = refl
+some-end (Text t) = refl
+some-end Null = refl
+
+-- an end is there, or NULL
+end-is : (asked : Bool) (end : Option Value) (v : Value) → end ≡ code.some_of v →
+    (if asked then unwrap_or end Null else Null) ≡ (if asked then v else Null)
+end-is true end v is = ap (λ (o : Option Value). unwrap_or o Null) is ∙ some-end v
+end-is false end v is = refl
+
+-- what values come to, with the ends that are asked for, is their summary
+summary-is : (asked : Asked) (vs : List Value) (tally : Tally) (end_low end_high : Value) (found : sums.SumsOf) → code.IsTallyOf vs tally →
+    end_low ≡ (if asked.least then code.least vs else Null) → end_high ≡ (if asked.greatest then code.greatest vs else Null) →
+    found ≡ record { values = tally.values; total = tally.sum; least = end_low; greatest = end_high } → found ≡ sums.sums_of asked vs
+summary-is asked vs tally end_low end_high found is low high made =
+    made
+    ∙ (ap (λ n. let s : sums.SumsOf = record { values = n; total = tally.sum; least = end_low; greatest = end_high } in s) is.values
+    ∙ (ap (λ n. let s : sums.SumsOf = record { values = length (sums.present vs); total = n; least = end_low; greatest = end_high } in s)
+    (is.sum ∙ same-fold vs (pos 0))
+    ∙ (ap (λ v. let s : sums.SumsOf = record { values = length (sums.present vs); total = sums.total vs; least = v; greatest = end_high } in s) low
+    ∙ ap (λ v. let s : sums.SumsOf = record { values = length (sums.present vs); total = sums.total vs; least = if asked.least then sums.least vs else Null; greatest = v } in s) high)))
+
+-- the same where the total was written and read back, and each end copied
+pub summary-as : (asked : Asked) (vs : List Value) (tally : Tally) (same : ℤ) (end_low end_high : Value) (found : sums.SumsOf) → code.IsTallyOf vs tally →
+    same ≡ tally.sum → end_low ≡ (if asked.least then unwrap_or (option_copied tally.least) Null else Null) →
+    end_high ≡ (if asked.greatest then unwrap_or (option_copied tally.greatest) Null else Null) →
+    found ≡ record { values = tally.values; total = same; least = end_low; greatest = end_high } → found ≡ sums.sums_of asked vs
+summary-as asked vs tally same end_low end_high found is sum low high made =
+    summary-is asked vs tally end_low end_high found is (low ∙ end-is asked.least (option_copied tally.least) (code.least vs) is.least)
+    (high ∙ end-is asked.greatest (option_copied tally.greatest) (code.greatest vs) is.greatest)
+    (made ∙ ap (λ n. let s : sums.SumsOf = record { values = tally.values; total = n; least = end_low; greatest = end_high } in s) sum)
+
+-- ---- the chosen values
+
+-- the values at the positions that a condition chooses are those of the rows that it keeps
+chosen-filter : (p : Row → Bool) (g : Row → Value) (rows : List Row) → code.chosen (map p rows) (map g rows) ≡ map g (filter p rows)
+chosen-filter p g [] = refl
+chosen-filter p g (row ∷ rows) = by (p row) (chosen-filter p g rows)
+  where
+    by : (b : Bool) → code.chosen (map p rows) (map g rows) ≡ map g (filter p rows) →
+        (if b then g row ∷ code.chosen (map p rows) (map g rows) else code.chosen (map p rows) (map g rows)) ≡
+        map g (if b then row ∷ filter p rows else filter p rows)
+    by true e = ap (λ (l : List Value). g row ∷ l) e
+    by false e = e
+
+-- as many positions are chosen as rows meet the condition
+count-mapped : (p : Row → Bool) (rows : List Row) → count_by (λ chosen. chosen) (map p rows) ≡ count_by p rows
+count-mapped p [] = refl
+count-mapped p (row ∷ rows) =
+    sum_by-cons (λ (chosen : Bool). cond chosen 1 0) (p row) (map p rows)
+    ∙ (ap (λ n. cond (p row) 1 0 + n) (count-mapped p rows) ∙ sym (sum_by-cons (λ (r : Row). cond (p r) 1 0) row rows))
+
+-- as many positions are chosen as rows are kept
+count-filter : (p : Row → Bool) (rows : List Row) → count_by (λ chosen. chosen) (map p rows) ≡ length (filter p rows)
+count-filter p rows = count-mapped p rows ∙ sym (length-filter p rows)
+
+-- ---- the rows of a unit
+
+-- the rows kept of so many row numbers, where what stands there is what a list of rows has, are those kept of the list
+values-of : (bound : Bound) (rows : List (Option Row)) (row_at : ℕ → Option Row) (first n : ℕ) → length rows ≤ n →
+    ((k : ℕ) → k < n → row_at (first + k) ≡ get_or rows k None) →
+    map (λ r. r.1) (kept bound (present row_at first n)) ≡ filter (keeps bound.filter) (present_rows rows)
+values-of bound [] row_at first zero few each = refl
+values-of bound [] row_at first (suc n) few each =
+    ap (λ (row : Option Row). map (λ r. r.1) (kept bound (cons_option (option_map (λ r. (first, r)) row) (present row_at (first + 1) n))))
+    (ap row_at (omega arith) ∙ each 0 (omega arith))
+    ∙ values-of bound [] row_at (first + 1) n (omega arith) (λ k below. ap row_at (omega arith) ∙ each (suc k) (omega (arith, below)))
+values-of bound (row ∷ rows) row_at first zero few each = absurd (omega (arith, few))
+values-of bound (row ∷ rows) row_at first (suc n) few each =
+    ap (λ (r : Option Row). map (λ r. r.1) (kept bound (cons_option (option_map (λ r. (first, r)) r) later)))
+    (ap row_at (omega arith) ∙ each 0 (omega arith))
+    ∙ by row
+    (values-of bound rows row_at (first + 1) n (omega (arith, few)) (λ k below. ap row_at (omega arith) ∙ each (suc k) (omega (arith, below))))
+  where
+    later : List Numbered
+    later = present row_at (first + 1) n
+
+    by : (r : Option Row) → map (λ r. r.1) (kept bound later) ≡ filter (keeps bound.filter) (present_rows rows) →
+        map (λ r. r.1) (kept bound (cons_option (option_map (λ r. (first, r)) r) later)) ≡ filter (keeps bound.filter) (present_rows (r ∷ rows))
+    by None e = e
+    by (Some r) e = if_kept (keeps bound.filter r) e
+      where
+        if_kept : (b : Bool) → map (λ r. r.1) (kept bound later) ≡ filter (keeps bound.filter) (present_rows rows) →
+            map (λ (r : Numbered). r.1) (if b then (first, r) ∷ kept bound later else kept bound later) ≡
+            (if b then r ∷ filter (keeps bound.filter) (present_rows rows) else filter (keeps bound.filter) (present_rows rows))
+        if_kept true e = ap (λ (l : List Row). r ∷ l) e
+        if_kept false e = e
+
+-- where nothing stands beside a unit, the rows that a query keeps of the extent are those that it keeps of the unit
+alone-kept : (bound : Bound) (content : Content) (fetched : Beside) (view : View) (first count : ℕ) → StandsAlone content fetched view first count →
+    kept_values bound (present (taken_row (Some content) fetched view) first count) ≡ rows_kept bound content
+alone-kept bound content fetched view first count alone =
+    ap (λ (l : List Numbered). kept_values bound l)
+    (sym (beside-part (Some content) fetched view first count []
+    (fetched-beside fetched view first count [] alone.unchanged (sym alone.nothing))))
+    ∙ values-of bound content.rows (row_of content) first count alone.within
+    (λ k below.
+    let begins = alone.begins in
+    let inside : nat_lt (first + k) content.first ≡ false = grind (arith, nat_tests, begins) in
+    let there : first + k - content.first ≡ k = omega (arith, begins) in
+    ap (λ (b : Bool). if b then None else get_or content.rows (first + k - content.first) None) inside
+    ∙ ap (λ n. get_or content.rows n None) there)
+
+-- ---- one group
+
+-- all rows are members of the group of the empty key
+all-members : (rows : List Row) → members [] rows [] ≡ rows
+all-members [] = refl
+all-members (row ∷ rows) = ap (λ (l : List Row). row ∷ l) (all-members rows)
+
+-- two functions that agree on each element
+map-same : {X Y : Type 0} (f g : X → Y) (xs : List X) → ((x : X) → f x ≡ g x) → map f xs ≡ map g xs
+map-same f g [] same = refl
+map-same f g (x ∷ xs) same = ap (λ y. y ∷ map f xs) (same x) ∙ ap (λ l. g x ∷ l) (map-same f g xs same)
+
+-- the group of the empty key, with the summaries of the chosen values, is the one group of the kept rows
+one-group : (bound : Bound) (content : Content) (spots : List Bool) (rows : List Numbered) (n : ℕ) (found : List sums.SumsOf) → TakesTogether bound →
+    spots ≡ map (keeps bound.filter) (present_rows content.rows) → kept_values bound rows ≡ rows_kept bound content →
+    n ≡ count_by (λ chosen. chosen) spots →
+    found ≡ map (λ a. sums.sums_of a (code.chosen spots (values_in a.column (present_rows content.rows)))) (asked_in (wanted bound)) →
+    AreGroupsOf bound rows (([], record { rows = n; sums = found }) ∷ [])
+one-group bound content spots rows n found together is values counted summed = record {
+  tallies = (
+    ap (λ k. let t : Tallied = record { rows = k; sums = found } in t)
+        (counted ∙ (ap (count_by (λ chosen. chosen)) is ∙ count-filter (keeps bound.filter) held))
+        ∙ (ap (λ l. let t : Tallied = record { rows = length (rows_kept bound content); sums = l } in t)
+        (summed ∙ map-same (λ a. sums.sums_of a (code.chosen spots (values_in a.column held)))
+        (λ a. sums.sums_of a (sums.column_of a.column (rows_kept bound content))) (asked_in (wanted bound))
+        (λ a. ap (sums.sums_of a)
+        (ap (λ m. code.chosen m (values_in a.column held)) is ∙ chosen-filter (keeps bound.filter) (λ (r : Row). get_or r a.column Null) held)))
+        ∙ sym (ap (λ vs. tallies_of bound vs []) values
+        ∙ (ap (λ cs. tallied (asked_in (wanted bound)) (members cs (rows_kept bound content) [])) together.whole
+        ∙ ap (tallied (asked_in (wanted bound))) (all-members (rows_kept bound content))))),
+    tt,
+  );
+  keys = λ key. ap (λ cs. is_among key (keys_of cs (kept_values bound rows))) (sym together.whole);
+}
+  where
+    held : List Row
+    held = present_rows content.rows
+
+-- ---- bounds
+
+-- a number whose size is not above a bound lies between it and its negative
+within-size : (most : ℕ) (z : ℤ) → unsigned_abs z ≤ most → (neg_ℤ (pos most) ≤ℤ z) × (z ≤ℤ pos most)
+within-size most z below = (omega (arith, ints, below), omega (arith, ints, below))
+
+-- a total whose size is not above so many times 2^63
+pub is-within : (values again size : ℕ) (total same : ℤ) → size ≤ again * 9223372036854775808 → again ≡ values → same ≡ total → size ≡ unsigned_abs same →
+    sums.IsWithin values total
+is-within values again size total same below is then_is sized =
+    let both = within-size (values * 2 ^ 63) total (omega (arith, below, is, sized, ap unsigned_abs then_is)) in
+    record { low = both.0; high = both.1 }
+
+-- ---- the columns of a unit
+
+-- a unit has so many columns
+pub columns-many : {X : Type 0} (f : X → List Value) (xs : List X) (content : Content) → map f xs ≡ columns_of content → length xs ≡ content.columns
+columns-many f xs content is =
+    sym (length-map xs f)
+    ∙ (ap length is ∙ length-map-range_with_len (λ column. values_in column (present_rows content.rows)) 0 content.columns)
+
+-- each has a value of each row that is present
+pub column-long : (column : ℕ) (rows : List (Option Row)) (vs : List Value) (spots : List Bool) → vs ≡ values_in column (present_rows rows) →
+    length spots ≡ count_present rows → length vs ≡ length spots
+column-long column rows vs spots is long =
+    ap length is ∙ (length-map (present_rows rows) (λ (row : Row). get_or row column Null) ∙ (sym (count-present rows) ∙ sym long))
+
+-- ---- what the calls give
+
+-- the groups that were pushed are the one group
+pub pushed-group : (bound : Bound) (content : Content) (spots : List Bool) (rows : List Numbered) (n : ℕ) (key : List Value) (asked : List Asked) (found : List sums.SumsOf)
+    (groups : List (List Value × Tallied)) → TakesTogether bound →
+    spots ≡ map (keeps bound.filter) (present_rows content.rows) → kept_values bound rows ≡ rows_kept bound content →
+    n ≡ count_by (λ chosen. chosen) spots → key ≡ [] → asked ≡ asked_in (wanted bound) →
+    found ≡ map (λ a. sums.sums_of a (code.chosen spots (values_in a.column (present_rows content.rows)))) asked →
+    groups ≡ (key, record { rows = n; sums = found }) ∷ [] →
+    AreGroupsOf bound rows groups
+pushed-group bound content spots rows n key asked found groups together is values counted empty asks summed made =
+    subst (AreGroupsOf bound rows)
+    (sym (made ∙ ap (λ k. let g : List Value × Tallied = (k, record { rows = n; sums = found }) in g ∷ []) empty))
+    (one-group bound content spots rows n found together is values counted
+    (summed ∙ ap (map (λ a. sums.sums_of a (code.chosen spots (values_in a.column (present_rows content.rows))))) asks))
+
+-- the kept rows of an extent whose face shows the unit alone
+pub face-kept : (bound : Bound) (shown : Option Content) (content : Content) (fetched : Beside) (view : View) (first count : ℕ) → shown ≡ Some content →
+    StandsAlone content fetched view first count →
+    kept_values bound (present (taken_row shown fetched view) first count) ≡ rows_kept bound content
+face-kept bound shown content fetched view first count is alone =
+    ap (λ (u : Option Content). kept_values bound (present (taken_row u fetched view) first count)) is
+    ∙ alone-kept bound content fetched view first count alone

@@ -1,0 +1,117 @@
+ghost use Rattle.std.specs.Prelude.{◌≡◌, ◌+◌, ◌<◌, ◌≤◌, ◌^◌, length, IfOk, Some, None};
+ghost use Rattle.std.specs.Bool.{OnTrue};
+ghost use Rattle.std.specs.Option.{ForSome};
+ghost use Rattle.im_scan.specs.inner.Beside.{AreBeside, IsPassed, IsRising, SkipsEqual};
+ghost use Rattle.im_scan.specs.inner.Walk.{lent_beside};
+
+use crate::slots::has_own;
+use im_history::View;
+use im_values::{NoMemory, Row};
+use std::alloc::Global;
+
+/// Lends rows, each with its row number, or none.
+fn lend<'a>(
+    alloc: Global,
+    rows: &'a [(u64, Option<Row>)],
+) -> Result<Vec<(u64, Option<&'a Row>)>, NoMemory>
+    ensures { IfOk result (λ lent. lent_beside lent.items ≡ rows.now) }
+{
+    let mut lent = Vec::with_capacity(alloc, rows.len())?;
+    for (rid, row) in rows {
+        lent.push((*rid, row.as_ref()))?;
+    }
+    Ok(lent)
+}
+
+/// Whether rows are of rising row numbers, all below one.
+fn is_rising(rows: &[(u64, Option<Row>)], end: u64) -> bool
+    ensures { OnTrue result (IsRising rows.now) }
+{
+    let mut low = 0;
+    for (rid, _) in rows {
+        if *rid < low || *rid >= end {
+            return false;
+        }
+        low = *rid + 1;
+    }
+    true
+}
+
+/// Puts what was fetched from one place on behind others, up to the first of it whose row number is not below one: the place of
+/// that.
+fn put_below<'a>(
+    fetched: &'a [(u64, Option<Row>)],
+    from: usize,
+    rid: u64,
+    rows: &mut Vec<(u64, Option<&'a Row>)>,
+) -> Result<usize, NoMemory>
+    requires { from ≤ length fetched.now }
+    ensures { IfOk result (λ next. IsPassed fetched.now from next rid (lent_beside rows.old.items) (lent_beside rows.new.items)) }
+{
+    let mut at = from;
+    while at < fetched.len() && fetched[at].0 < rid {
+        rows.push((fetched[at].0, fetched[at].1.as_ref()))?;
+        at += 1;
+    }
+    Ok(at)
+}
+
+/// The place behind one whose row number is this one, and else the same place.
+fn past_equal(fetched: &[(u64, Option<Row>)], at: usize, rid: u64) -> usize
+    requires { at ≤ length fetched.now }
+    ensures { SkipsEqual fetched.now at rid result }
+{
+    if at < fetched.len() && fetched[at].0 == rid {
+        at + 1
+    } else {
+        at
+    }
+}
+
+/// What was fetched, with what the view's own changes left in its place and between.
+fn merged<'a>(
+    alloc: Global,
+    fetched: &'a [(u64, Option<Row>)],
+    view: &'a View,
+    first: u64,
+    count: u64,
+) -> Result<Vec<(u64, Option<&'a Row>)>, NoMemory>
+    requires within { first + count < 2 ^ 64 }
+    requires rising { IsRising fetched.now }
+    ensures { IfOk result (λ rows. AreBeside fetched.now view.now first count (lent_beside rows.items)) }
+{
+    let mut rows = Vec::with_capacity(alloc, fetched.len())?;
+    let mut at = 0;
+    for (rid, row) in view.own.between(view.table, first, count) {
+        at = put_below(fetched, at, *rid, &mut rows)?;
+        at = past_equal(fetched, at, *rid);
+        rows.push((*rid, row.as_ref()))?;
+    }
+    put_below(fetched, at, first + count, &mut rows)?;
+    Ok(rows)
+}
+
+/// What stands beside an extent's unit: of each row number that was fetched or that the view changed, what the view has there. None
+/// where the view changed any and what was fetched is not in rising order of row numbers.
+///
+/// It costs what was fetched, a search, and those of the row numbers that the view's own changes are to.
+pub fn beside<'a>(
+    alloc: Global,
+    fetched: &'a [(u64, Option<Row>)],
+    view: &'a View,
+    first: u64,
+    count: u64,
+) -> Result<Option<Vec<(u64, Option<&'a Row>)>>, NoMemory>
+    requires { first + count < 2 ^ 64 }
+    ensures { IfOk result (λ rows. ForSome rows (λ rows. AreBeside fetched.now view.now first count (lent_beside rows.items))) }
+{
+    if !has_own(view, first, count) {
+        let rows = lend(alloc, fetched)?;
+        return Ok(Some(rows));
+    }
+    if !is_rising(fetched, first + count) {
+        return Ok(None);
+    }
+    let rows = merged(alloc, fetched, view, first, count)?;
+    Ok(Some(rows))
+}

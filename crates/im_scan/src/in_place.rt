@@ -1,0 +1,270 @@
+ghost use Rattle.std.specs.Prelude.{◌≡◌, ◌+◌, ◌^◌, ◌≤◌, ◌<◌, ◌++◌, All, false, get_or, length, map, true, None, IfOk, OnOk};
+ghost use Rattle.std.specs.List.{AllByRecursion, range_with_len};
+ghost use Rattle.std.specs.Option.{ForSome};
+ghost use Rattle.im_history.specs.Fetched as kept;
+ghost use Rattle.im_group.specs.Partials as group;
+ghost use Rattle.im_syntax.specs.BoundFits.{BoundFits, FilterFits};
+ghost use Rattle.im_scan.specs.Parts.{MayAsk};
+ghost use Rattle.im_scan.specs.inner.Pieces.{AreInOrder, HasRoomFor, TakesAt, numbered_all};
+ghost use Rattle.im_scan.specs.inner.Steps.{GoesOnBy, numbered_from, unit_rows, with_fetched};
+
+use crate::kept::next_chosen;
+use crate::parts::take_row;
+use im_codepred::select_rows;
+use im_group::{Asking, Partial};
+use im_history::{Fetched, Piece};
+use im_lanes::Mask;
+use im_syntax::Filter;
+use im_values::{NoMemory, Row, Rows, clone_row};
+use std::alloc::Global;
+
+/// The row numbers of a piece: the first, and how many there are in a row.
+fn span(piece: &Piece) -> (u64, u64)
+    ensures { map (λ f. f.0) (kept.in_piece piece.now) ≡ range_with_len result.0 result.1 }
+{
+    match piece {
+        Piece::Run(first, rows) => (*first, rows.len() as u64),
+        Piece::One(rid, _) => (*rid, 1),
+    }
+}
+
+/// Whether pieces are of all row numbers from the first on, in order.
+fn are_in_order(first: u64, pieces: &[Piece]) -> bool
+    requires { first + length (kept.in_pieces pieces.now) < 2 ^ 64 }
+    ensures { result ≡ true → AreInOrder first (kept.in_pieces pieces.now) }
+{
+    let mut next = first;
+    for piece in pieces {
+        let (rid, count) = span(piece);
+        if rid != next {
+            return false;
+        }
+        next += count;
+    }
+    true
+}
+
+/// The part takes a row of a run. The row stays where it is.
+fn take_at(
+    alloc: Global,
+    asking: &Asking<'_>,
+    rid: u64,
+    rows: &Rows,
+    at: usize,
+    part: &mut Partial,
+) -> Result<(), NoMemory>
+    requires within { at < length rows.now }
+    requires fits { AllByRecursion (λ row. BoundFits row asking.now) rows.now }
+    requires few { group.IsPartOfFew asking.now part.old }
+    ensures { OnOk result (TakesAt asking.now rid rows.now at part.old part.new) }
+{
+    if asking.bound().grouped {
+        part.take(alloc, asking, rid, rows.values(at))
+    } else {
+        let row = rows.row(at)?;
+        part.take_shared(alloc, asking, rid, &row)
+    }
+}
+
+/// The part takes rows at row numbers from the first on, in order. The condition is asked of each.
+fn take_each(
+    alloc: Global,
+    asking: &Asking<'_>,
+    first: u64,
+    rows: &Rows,
+    part: &mut Partial,
+) -> Result<(), NoMemory>
+    requires numbers { first + length rows.now ≤ 2 ^ 63 }
+    requires fits { AllByRecursion (λ row. BoundFits row asking.now) rows.now }
+    requires few { HasRoomFor asking.now (length rows.now) part.old }
+    ensures { OnOk result (GoesOnBy asking.now part.old (numbered_all (kept.run_from first rows.now)) part.new) }
+{
+    for at in 0..rows.len() {
+        take_at(alloc, asking, first + at as u64, rows, at, part)?;
+    }
+    Ok(())
+}
+
+/// Of which rows of a run a condition is true.
+fn chosen(alloc: Global, filter: &Option<Filter>, rows: &Rows) -> Result<Mask, NoMemory>
+    requires few { length rows.now < 2 ^ 31 }
+    requires fits { All (λ row. ForSome filter.now (FilterFits row)) rows.now }
+    ensures { IfOk result (λ mask. mask ≡ map (group.keeps filter.now) rows.now) }
+{
+    match filter {
+        Some(filter) => Ok(select_rows(alloc, filter, rows)?),
+        None => Ok(Mask::all(alloc, rows.len() as u64)?),
+    }
+}
+
+/// The part takes a row of a run that is kept. The condition is not asked again.
+fn take_chosen(
+    alloc: Global,
+    asking: &Asking<'_>,
+    rid: u64,
+    rows: &Rows,
+    at: usize,
+    part: &mut Partial,
+) -> Result<(), NoMemory>
+    requires within { at < length rows.now }
+    requires kept { get_or (map (group.keeps asking.now.filter) rows.now) at false ≡ true }
+    requires fits { AllByRecursion (λ row. BoundFits row asking.now) rows.now }
+    requires few { group.IsPartOfFew asking.now part.old }
+    ensures { OnOk result (TakesAt asking.now rid rows.now at part.old part.new) }
+{
+    if asking.bound().grouped {
+        part.take_kept(alloc, asking, rid, rows.values(at))
+    } else {
+        let row = rows.row(at)?;
+        part.take_made(alloc, asking, rid, row)
+    }
+}
+
+/// The part takes those rows that a mask chooses, at row numbers from the first on.
+fn take_masked(
+    alloc: Global,
+    asking: &Asking<'_>,
+    first: u64,
+    rows: &Rows,
+    mask: &Mask,
+    part: &mut Partial,
+) -> Result<(), NoMemory>
+    requires numbers { first + length rows.now ≤ 2 ^ 63 }
+    requires mask { mask.now ≡ map (group.keeps asking.now.filter) rows.now }
+    requires fits { AllByRecursion (λ row. BoundFits row asking.now) rows.now }
+    requires few { HasRoomFor asking.now (length rows.now) part.old }
+    ensures { OnOk result (GoesOnBy asking.now part.old (numbered_all (kept.run_from first rows.now)) part.new) }
+{
+    let mut at = 0;
+    while let Some(place) = next_chosen(mask, at, rows.len() as u64) {
+        take_chosen(alloc, asking, first + place, rows, place as usize, part)?;
+        at = place + 1;
+    }
+    Ok(())
+}
+
+/// The part takes rows at row numbers from the first on, in order. The condition is asked of their columns, as far as a mask reaches.
+fn take_run(
+    alloc: Global,
+    asking: &Asking<'_>,
+    first: u64,
+    rows: &Rows,
+    part: &mut Partial,
+) -> Result<(), NoMemory>
+    requires numbers { first + length rows.now ≤ 2 ^ 63 }
+    requires fits { AllByRecursion (λ row. BoundFits row asking.now) rows.now }
+    requires few { HasRoomFor asking.now (length rows.now) part.old }
+    ensures { OnOk result (GoesOnBy asking.now part.old (numbered_all (kept.run_from first rows.now)) part.new) }
+{
+    if rows.len() < 0x8000_0000 {
+        let mask = chosen(alloc, &asking.bound().filter, rows)?;
+        take_masked(alloc, asking, first, rows, &mask, part)
+    } else {
+        take_each(alloc, asking, first, rows, part)
+    }
+}
+
+/// The part takes the rows of a piece.
+fn take_piece(
+    alloc: Global,
+    asking: &Asking<'_>,
+    piece: &Piece,
+    part: &mut Partial,
+) -> Result<(), NoMemory>
+    requires numbers { kept.HasNumbers piece.now }
+    requires fits { AllByRecursion (λ row. MayAsk asking.now row.1) (kept.in_piece piece.now) }
+    requires few { HasRoomFor asking.now (length (kept.in_piece piece.now)) part.old }
+    ensures { OnOk result (GoesOnBy asking.now part.old (numbered_all (kept.in_piece piece.now)) part.new) }
+{
+    match piece {
+        Piece::Run(first, rows) => take_run(alloc, asking, *first, rows, part),
+        Piece::One(rid, row) => take_row(alloc, asking, *rid, row.as_ref(), part),
+    }
+}
+
+/// What the rows of pieces give.
+fn part_of_pieces(alloc: Global, asking: &Asking<'_>, pieces: &[Piece]) -> Result<Partial, NoMemory>
+    requires numbers { All kept.HasNumbers pieces.now }
+    requires few { length (kept.in_pieces pieces.now) < 2 ^ 64 }
+    requires fits { AllByRecursion (λ row. MayAsk asking.now row.1) (kept.in_pieces pieces.now) }
+    ensures { IfOk result (λ part. part ≡ group.partial asking.now (numbered_all (kept.in_pieces pieces.now))) }
+{
+    let mut part = Partial::new(alloc, asking)?;
+    for piece in pieces {
+        take_piece(alloc, asking, piece, &mut part)?;
+    }
+    Ok(part)
+}
+
+/// What rows that were fetched give, where these are of all row numbers from the first on, in order. They stay where they are.
+pub fn part_in_place(
+    alloc: Global,
+    asking: &Asking<'_>,
+    first: u64,
+    fetched: &Fetched,
+) -> Result<Option<Partial>, NoMemory>
+    requires within { first + length fetched.now < 2 ^ 64 }
+    requires fits { AllByRecursion (λ row. MayAsk asking.now row.1) fetched.now }
+    ensures { IfOk result (λ part. ForSome part (λ part.
+        part ≡ group.partial asking.now (numbered_from first (with_fetched first (unit_rows None first (length fetched.now)) fetched.now)))) }
+{
+    let pieces = fetched.pieces();
+    if are_in_order(first, pieces) {
+        let part = part_of_pieces(alloc, asking, pieces)?;
+        Ok(Some(part))
+    } else {
+        Ok(None)
+    }
+}
+
+/// Puts the rows of a run behind others, each with its number and shared.
+fn put_run(rows: &mut Vec<(u64, Option<Row>)>, first: u64, run: &Rows) -> Result<(), NoMemory>
+    requires { first + length run.now ≤ 2 ^ 63 }
+    ensures { OnOk result (rows.new.items ≡ rows.old.items ++ kept.run_from first run.now) }
+{
+    for at in 0..run.len() {
+        let row = run.row(at)?;
+        rows.push((first + at as u64, Some(row)))?;
+    }
+    Ok(())
+}
+
+/// The same row once more, or none.
+fn shared(alloc: Global, row: &Option<Row>) -> Result<Option<Row>, NoMemory>
+    ensures { IfOk result (λ copy. copy ≡ row.now) }
+{
+    match row {
+        Some(row) => Ok(Some(clone_row(alloc, row)?)),
+        None => Ok(None),
+    }
+}
+
+/// Puts the rows of a piece behind others, each with its number.
+fn put_piece(
+    alloc: Global,
+    rows: &mut Vec<(u64, Option<Row>)>,
+    piece: &Piece,
+) -> Result<(), NoMemory>
+    requires { kept.HasNumbers piece.now }
+    ensures { OnOk result (rows.new.items ≡ rows.old.items ++ kept.in_piece piece.now) }
+{
+    match piece {
+        Piece::Run(first, run) => put_run(rows, *first, run),
+        Piece::One(rid, row) => {
+            let row = shared(alloc, row)?;
+            rows.push((*rid, row))?;
+            Ok(())
+        }
+    }
+}
+
+/// The row numbers that were fetched, each with its row, which is shared or copied, or none.
+pub fn handles(alloc: Global, fetched: &Fetched) -> Result<Vec<(u64, Option<Row>)>, NoMemory>
+    ensures { IfOk result (λ rows. rows.items ≡ fetched.now) }
+{
+    let mut rows = Vec::new(alloc);
+    for piece in fetched.pieces() {
+        put_piece(alloc, &mut rows, piece)?;
+    }
+    Ok(rows)
+}

@@ -1,0 +1,178 @@
+ghost use Rattle.std.specs.Prelude.{◌≡◌, ◌+◌, ◌<◌, ◌^◌, IfOk, List, map, length, if◌then◌else◌};
+ghost use Rattle.std.specs.Bool.{OnTrue};
+ghost use Rattle.std.specs.Option.{ForSome, option_copied, unwrap_or};
+ghost use Rattle.im_values.specs.declared.value.Value.{Value};
+ghost use Rattle.im_values.specs.declared.value.Value.TheVariants.{Null};
+ghost use Rattle.im_codepred.specs.Tallies.{IsTallyOf, chosen};
+ghost use Rattle.im_history.specs.Rows.{present};
+ghost use Rattle.im_group.specs.MadeGroups.{kept_values};
+ghost use Rattle.im_group.specs.Partials as group;
+ghost use Rattle.im_group.specs.Sums as sums;
+ghost use Rattle.im_unit.specs.Holding.{count_present, present_rows, values_in};
+ghost use Rattle.im_scan.specs.Faces.{unit_of};
+ghost use Rattle.im_scan.specs.Parts.{taken_row};
+ghost use Rattle.im_scan.specs.inner.Steps.{MayScan};
+ghost use Rattle.im_scan.specs.inner.Summed.{StandsAlone, TakesTogether, rows_kept};
+
+use crate::faces::Face;
+use crate::kept::kept_spots;
+use crate::slots::has_own;
+use im_codepred::{Tally, tally_of};
+use im_group::{Asked, Asking, Group, Partial, Sums};
+use im_history::View;
+use im_lanes::{Mask, count};
+use im_syntax::Bound;
+use im_unit::ColumnUnit;
+use im_values::{NoMemory, Row, Value};
+use std::alloc::Global;
+
+/// Whether so many numbers of 64 bits can add up to a total.
+fn is_within(values: u64, total: i128) -> bool
+    ensures { OnTrue result (sums.IsWithin values total) }
+{
+    total.unsigned_abs() <= u128::from(values) * 0x8000_0000_0000_0000
+}
+
+/// A copy of an end of the values of a column, where it is asked for and there is one, and else NULL.
+fn end_of(alloc: Global, asked: bool, end: Option<&Value>) -> Result<Value, NoMemory>
+    ensures { IfOk result (λ value. value ≡ (if asked then unwrap_or (option_copied end.entry) Null else Null)) }
+{
+    if !asked {
+        return Ok(Value::Null);
+    }
+    match end {
+        Some(value) => Ok(value.copy(alloc)?),
+        None => Ok(Value::Null),
+    }
+}
+
+/// The sum that values come to.
+fn sum_in(tally: &Tally<'_>) -> i128
+    ensures { result ≡ tally.now.sum }
+{
+    tally.sum
+}
+
+/// The summary of values by what they come to. None where they cannot come to this.
+fn sums_by(alloc: Global, asked: Asked, tally: Tally<'_>) -> Result<Option<Sums>, NoMemory>
+    ensures { IfOk result (λ found. ForSome found (λ found. (vs : List Value) → IsTallyOf vs tally.entry → found ≡ sums.sums_of asked vs)) }
+{
+    let sum = sum_in(&tally);
+    if !is_within(tally.values, sum) {
+        return Ok(None);
+    }
+    let least = end_of(alloc, asked.least, tally.least)?;
+    let greatest = end_of(alloc, asked.greatest, tally.greatest)?;
+    Ok(Some(Sums::of(tally.values, sum, least, greatest)))
+}
+
+/// The summary of the chosen values of one column of a unit, of what a query asks of it. None where the unit has no such column.
+fn sums_of(
+    alloc: Global,
+    asked: Asked,
+    unit: &ColumnUnit,
+    spots: &Mask,
+) -> Result<Option<Sums>, NoMemory>
+    requires { length spots.now ≡ count_present unit.now.rows }
+    ensures { IfOk result (λ found. ForSome found (λ found.
+        found ≡ sums.sums_of asked (chosen spots.now (values_in asked.column (present_rows unit.now.rows))))) }
+{
+    if asked.column as usize >= unit.columns().len() {
+        return Ok(None);
+    }
+    sums_by(alloc, asked, tally_of(unit.column(asked.column), spots))
+}
+
+/// The summaries of all columns of which a query asks one.
+fn all_sums(
+    alloc: Global,
+    asked: &[Asked],
+    unit: &ColumnUnit,
+    spots: &Mask,
+) -> Result<Option<Vec<Sums>>, NoMemory>
+    requires { length spots.now ≡ count_present unit.now.rows }
+    ensures { IfOk result (λ found. ForSome found (λ found.
+        found.items ≡ map (λ a. sums.sums_of a (chosen spots.now (values_in a.column (present_rows unit.now.rows)))) asked.now)) }
+{
+    let mut all = Vec::with_capacity(alloc, asked.len())?;
+    for one in asked {
+        match sums_of(alloc, *one, unit, spots)? {
+            Some(found) => all.push(found)?,
+            None => return Ok(None),
+        }
+    }
+    Ok(Some(all))
+}
+
+/// The part of a query that takes the chosen rows of a unit together, made without a row.
+fn together(
+    alloc: Global,
+    asking: &Asking<'_>,
+    unit: &ColumnUnit,
+    spots: &Mask,
+) -> Result<Option<Partial>, NoMemory>
+    requires together { TakesTogether asking.now }
+    requires spots { spots.now ≡ map (group.keeps asking.now.filter) (present_rows unit.now.rows) }
+    ensures { IfOk result (λ part. ForSome part (λ part. (rows : List group.Numbered) →
+        kept_values asking.now rows ≡ rows_kept asking.now unit.now → part ≡ group.partial asking.now rows)) }
+{
+    let Some(sums) = all_sums(alloc, asking.asked(), unit, spots)? else {
+        return Ok(None);
+    };
+    let key = Vec::new(alloc);
+    let rows = count(spots);
+    let mut groups = Vec::with_capacity(alloc, 1)?;
+    groups.push(Group { key, rows, sums })?;
+    let part = Partial::of_groups(alloc, asking, groups)?;
+    Ok(Some(part))
+}
+
+/// Whether a query takes all rows together: it is grouped, and without GROUP BY.
+fn takes_together(bound: &Bound) -> bool
+    ensures { OnTrue result (TakesTogether bound.now) }
+{
+    bound.grouped && bound.groups.items().is_empty()
+}
+
+/// Whether nothing stands beside a unit, and it is of row numbers of the extent alone.
+fn stands_alone(
+    unit: &ColumnUnit,
+    fetched: &[(u64, Option<Row>)],
+    view: &View,
+    first: u64,
+    count: u64,
+) -> bool
+    requires { first + count < 2 ^ 64 }
+    ensures { OnTrue result (StandsAlone unit.now fetched.now view.now first count) }
+{
+    fetched.is_empty()
+        && !has_own(view, first, count)
+        && unit.first() == first
+        && unit.len() <= count
+}
+
+/// What an extent gives whose unit alone is scanned, for a query that takes its rows together: a summary of each column under the
+/// mask of the condition, and no row. None for any other.
+pub fn summed_part(
+    alloc: Global,
+    face: Face<'_>,
+    asking: &Asking<'_>,
+    fetched: &[(u64, Option<Row>)],
+    view: &View,
+    first: u64,
+    count: u64,
+) -> Result<Option<Partial>, NoMemory>
+    requires within { first + count < 2 ^ 64 }
+    requires fits { MayScan asking.now (unit_of face) fetched.now view.now.own }
+    ensures { IfOk result (λ part. ForSome part (λ part.
+        part ≡ group.partial asking.now (present (taken_row (unit_of face.entry) fetched.now view.now) first count))) }
+{
+    let Face::Whole(unit) = face else {
+        return Ok(None);
+    };
+    if !takes_together(asking.bound()) || !stands_alone(unit, fetched, view, first, count) {
+        return Ok(None);
+    }
+    let spots = kept_spots(alloc, unit, &asking.bound().filter)?;
+    together(alloc, asking, unit, &spots)
+}

@@ -1,0 +1,30 @@
+ghost use Rattle.std.specs.Prelude.{◌≡◌, ◌≢◌, ◌≤◌, ℕ, length, Some, None};
+ghost use Rattle.im_core.specs.declared.answers.Begun.{Begun};
+ghost use Rattle.im_history.specs.declared.entry.Mode.TheVariants as modes;
+ghost use Rattle.im_history.specs.declared.entry.Mode.{Mode};
+ghost use Rattle.im_history.specs.declared.entry.What.TheVariants as what;
+ghost use Rattle.im_history.specs.declared.view.View.{View};
+ghost use Rattle.im_history.specs.Commits.{scn};
+ghost use Rattle.im_history.specs.History.{History};
+ghost use Rattle.im_history.specs.Refusals.{begin_refusal, open_refusal};
+ghost use Rattle.im_history.specs.Rows.{scn_at, snapshot};
+ghost use Rattle.im_history.specs.Transactions.{begun as begun_at, mode};
+ghost use Rattle.im_history.specs.Views.{view_at};
+ghost use Rattle.im_reach.specs.Sides.{Added, Known};
+
+/// No side of a store falls back behind what it had seen.
+///
+/// Where a side opens a cursor or begins a transaction, the SCN is at least that of all that the side had seen before. The SCN at
+/// the place of its Open is the snapshot of a cursor under READ COMMITTED, and under another mode it is that at the place where
+/// the transaction began.
+pub fn no_side_falls_back()
+    ensures opened { (old new : Known) (who cursor table : ℕ) (view : View)
+        → (added : Added old new who (λ at. what.Open cursor table) (λ at.
+        (open_refusal at who cursor ≡ None) × (view ≡ view_at at who table))) → scn old.log ≤ scn added.at }
+    ensures begun { (old new : Known) (who : ℕ) (mode : Mode) (begun : Begun)
+        → (added : Added old new who (λ at. what.Begin mode) (λ at.
+        (begin_refusal at who ≡ None) × (begun ≡ record { place = length at; scn = scn at }))) → scn old.log ≤ scn added.at }
+    ensures committed { (at : History) (who : ℕ) → mode at who ≡ modes.Committed → snapshot at who ≡ scn at }
+    ensures fixed { (at : History) (who place : ℕ) → mode at who ≢ modes.Committed → begun_at at who ≡ Some place
+        → snapshot at who ≡ scn_at at place }
+{}
