@@ -61,7 +61,7 @@ counts-from counts (x ∷ codes) code inside =
     omega (arith, rest, more-is counts x code inside, one)
 
 -- the values of two codes are one where the codes are
-same-codes : (dict : List Value) (x y : ℕ) → IsDictionary dict → x < length (coded dict) → y < length (coded dict) →
+pub same-codes : (dict : List Value) (x y : ℕ) → IsDictionary dict → x < length (coded dict) → y < length (coded dict) →
     eqb x y ≡ is_eq (order (get_or (coded dict) x Null) (get_or (coded dict) y Null))
 same-codes dict zero zero is low high = refl
 same-codes dict zero (suc j) is low high = ne_eqb 0 (suc j) (λ e. absurd (omega (arith, e))) ∙ none-left (get_or dict j Null) (is.some j Null (omega (arith, high)))

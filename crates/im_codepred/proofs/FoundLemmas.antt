@@ -20,8 +20,8 @@ use Rattle.im_codes.specs.Runs.{codes_from}
 use Rattle.im_codepred.specs.inner.Walk.{AreTaken}
 use Rattle.im_codepred.proofs.BitsLemmas.{chosen-split, chosen-none}
 use Rattle.im_codepred.proofs.FormLemmas.{run-fits, left-next}
-use Rattle.im_codepred.specs.Tallies.{chosen, number, lesser, greater}
-use Rattle.im_codepred.specs.inner.Tallying.{FoundOf, taken, nothing, lesser_code, number_at, taken_run, times_of, IsWithin, IsInside, TotalsOf, totals, totals_of, no_totals, with_value}
+use Rattle.im_codepred.specs.Tallies.{IsWithin, chosen, number, lesser, greater}
+use Rattle.im_codepred.specs.inner.Tallying.{FoundOf, taken, nothing, lesser_code, number_at, taken_run, times_of, IsInside, TotalsOf, totals, totals_of, no_totals, with_value}
 
 -- how many are found
 pub record Grows (before after : FoundOf) (most : ℕ) : Type 0 where
@@ -32,7 +32,7 @@ grows-or : (b : Bool) (before after : FoundOf) → Grows before after 1 → Grow
 grows-or true before after more = record { low = omega arith; high = omega arith }
 grows-or false before after more = more
 
-taken-grows : (dict : List Value) (found : FoundOf) (code : ℕ) → Grows found (taken dict found code) 1
+pub taken-grows : (dict : List Value) (found : FoundOf) (code : ℕ) → Grows found (taken dict found code) 1
 taken-grows dict found code = grows-or (eqb code 0) found _ (record { low = omega arith; high = omega arith })
 
 pub found-grows : (dict : List Value) (found : FoundOf) (codes : List ℕ) → Grows found (fold (taken dict) found codes) (length codes)
@@ -119,7 +119,7 @@ greater-codes dict (suc j) k is low high =
     (cases_lt (suc j) (suc k)))
 
 -- one code more is one value more
-totals-taken : (dict : List Value) (found : FoundOf) (code : ℕ) → IsDictionary dict → IsInside dict found → code < length (coded dict) →
+pub totals-taken : (dict : List Value) (found : FoundOf) (code : ℕ) → IsDictionary dict → IsInside dict found → code < length (coded dict) →
     totals_of dict (taken dict found code) ≡ with_value (totals_of dict found) (get_or (coded dict) code Null)
 totals-taken dict found zero is inside low =
     same-totals _ _ _ _ _ _ _ _ (sym (add-zero found.values)) (sym (+ℤ_idr found.sum)) (sym (lesser-Null (get_or (coded dict) found.least Null))) refl
@@ -134,7 +134,7 @@ chosen-below : (b : Bool) (x y n : ℕ) → x < n → y < n → cond b x y < n
 chosen-below true x y n p q = p
 chosen-below false x y n p q = q
 
-inside-taken : (dict : List Value) (found : FoundOf) (code : ℕ) → IsInside dict found → code < length (coded dict) → IsInside dict (taken dict found code)
+pub inside-taken : (dict : List Value) (found : FoundOf) (code : ℕ) → IsInside dict found → code < length (coded dict) → IsInside dict (taken dict found code)
 inside-taken dict found zero inside low = inside
 inside-taken dict found (suc k) inside low =
     rw (past-null k) (record {

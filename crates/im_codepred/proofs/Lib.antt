@@ -8,3 +8,5 @@ mod SpanLemmas
 mod TallyLemmas
 mod WholeLemmas
 mod CountLemmas
+mod KeyedLemmas
+mod PairLemmas

@@ -24,7 +24,7 @@ chosen-all n (true ∷ mask) (code ∷ codes) all =
     All-cons (λ c. c < n) code (chosen mask codes) (All-head (λ c. c < n) code codes all) (chosen-all n mask codes (All-tail (λ c. c < n) code codes all))
 chosen-all n (false ∷ mask) (code ∷ codes) all = chosen-all n mask codes (All-tail (λ c. c < n) code codes all)
 
-inside-nothing : (dict : List Value) → IsInside dict nothing
+pub inside-nothing : (dict : List Value) → IsInside dict nothing
 inside-nothing dict = record { least = omega arith; greatest = omega arith }
 
 -- the ends that are found are codes

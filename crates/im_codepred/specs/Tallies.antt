@@ -1,5 +1,5 @@
 -- The values at the chosen positions of a column, and what they come to.
-use Rattle.std.specs.Prelude.{◌≡◌, ◌<◌, count_by, slice_index, slice_index_or, ℕ, Bool, List, [], ◌∷◌, Option, Some, None, length, fold, option_copied, ℤ, pos, ◌+ℤ◌, if◌then◌else◌}
+use Rattle.std.specs.Prelude.{◌≡◌, ◌<◌, ◌*◌, ◌^◌, count_by, slice_index, slice_index_or, ℕ, Bool, List, [], ◌∷◌, Option, Some, None, length, fold, option_copied, ℤ, pos, neg_ℤ, ◌+ℤ◌, ◌≤ℤ◌, if◌then◌else◌}
 use Rattle.std.specs.Ordering.{is_lt, is_eq}
 use Rattle.im_values.specs.declared.value.Value.{Value}
 use Rattle.im_values.specs.declared.value.Value.TheVariants.{Int, Text, Null}
@@ -50,6 +50,11 @@ pub record IsTallyOf (vs : List Value) (tally : Tally) : Type 0 where
   pub least : option_copied tally.least ≡ some_of (least vs)
   pub greatest : option_copied tally.greatest ≡ some_of (greatest vs)
 
+-- so many numbers of 64 bits add up to no more
+pub record IsWithin (values : ℕ) (sum : ℤ) : Type 0 where
+  pub low : neg_ℤ (pos (values * 2 ^ 63)) ≤ℤ sum
+  pub high : sum ≤ℤ pos (values * 2 ^ 63)
+
 -- how many of these values are one
 abbrev pub count_of : Value → List Value → ℕ
 count_of value vs = count_by (λ v. is_eq (order v value)) vs
@@ -58,3 +63,20 @@ count_of value vs = count_by (λ v. is_eq (order v value)) vs
 pub record AreCounts (vs values : List Value) (counts : List ℕ) : Type 0 where
   pub size : length counts ≡ length values
   pub each : (code : ℕ) → code < length values → slice_index counts code ≡ count_of (slice_index_or values code Null) vs
+
+-- of elements that stand beside values, those beside this one
+abbrev pub beside : {A : Type 0} → Value → List Value → List A → List A
+beside value [] xs = []
+beside value (v ∷ vs) [] = []
+beside value (v ∷ vs) (x ∷ xs) = if is_eq (order v value) then x ∷ beside value vs xs else beside value vs xs
+
+-- the values of a column at the chosen positions at which the keys have this value
+abbrev pub chosen_with : Value → List Bool → List Value → List Value → List Value
+chosen_with key mask keys column = beside key (chosen mask keys) (chosen mask column)
+
+-- of each of some values, what the values of a column come to where the keys have it, and that the sum is of numbers of 64 bits
+pub record AreTallies (mask : List Bool) (keys column values : List Value) (tallies : List Tally) : Type 0 where
+  pub size : length tallies ≡ length values
+  pub each : (code : ℕ) (d : Tally) → code < length values →
+      IsTallyOf (chosen_with (slice_index_or values code Null) mask keys column) (slice_index_or tallies code d)
+  pub within : (code : ℕ) (d : Tally) → code < length values → IsWithin (slice_index_or tallies code d).values (slice_index_or tallies code d).sum

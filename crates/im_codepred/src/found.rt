@@ -1,8 +1,8 @@
 ghost use Rattle.std.specs.Prelude.{◌≡◌, pos, ◌*ℤ◌, ◌+◌, ◌*◌, ◌^◌, ◌<◌, ◌≤◌, ℕ, All, fold, length, take, drop, option_copied, slice_index_or};
 ghost use Rattle.im_values.specs.declared.value.Value.TheVariants.{Null};
 ghost use Rattle.im_codes.specs.Dictionary.{coded, IsDictionary};
-ghost use Rattle.im_codepred.specs.Tallies.{chosen, some_of};
-ghost use Rattle.im_codepred.specs.inner.Tallying.{at_bits, lesser_code, nothing, number_at, taken, taken_run, totals_of, times_of, with_run, IsInside, IsWithin, Shows};
+ghost use Rattle.im_codepred.specs.Tallies.{IsWithin, chosen, some_of};
+ghost use Rattle.im_codepred.specs.inner.Tallying.{at_bits, lesser_code, nothing, number_at, taken, taken_run, totals_of, times_of, with_run, IsInside, Shows};
 
 use crate::tally::Tally;
 use im_bits::Bits;
@@ -22,7 +22,8 @@ pub struct Found {
 }
 
 impl Model for Found {
-    ghost use Rattle.im_codepred.specs.inner.Tallying.{FoundOf, IsWithin};
+    ghost use Rattle.im_codepred.specs.inner.Tallying.{FoundOf};
+    ghost use Rattle.im_codepred.specs.Tallies.{IsWithin};
 
     ghost Value = { FoundOf };
 
@@ -46,7 +47,7 @@ impl Found {
 
     /// Takes one code more.
     #[inline(always)]
-    fn take(&mut self, dict: &[Value], code: u32)
+    pub fn take(&mut self, dict: &[Value], code: u32)
         requires few { self.old.values < 2 ^ 63 }
         requires code { code < length (coded dict.now) }
         ensures { self.new ≡ taken dict.now self.old code }

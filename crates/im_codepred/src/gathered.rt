@@ -21,7 +21,8 @@ pub struct Gathered<'a> {
 }
 
 impl<'a> Model for Gathered<'a> {
-    ghost use Rattle.im_codepred.specs.inner.Tallying.{TotalsOf, IsWithin, value_or_null, IsSomeValue};
+    ghost use Rattle.im_codepred.specs.inner.Tallying.{TotalsOf, value_or_null, IsSomeValue};
+    ghost use Rattle.im_codepred.specs.Tallies.{IsWithin};
 
     ghost Value = { TotalsOf };
 

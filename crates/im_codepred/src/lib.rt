@@ -8,7 +8,7 @@
 //!
 //! [`tally_of`] of a column and [`tally_rows`] of a column of a run say what the values at the positions of a mask come to: how
 //! many there are, their sum, the least and the greatest; [`counts_by_code`] says how many of the positions have each code of a
-//! column.
+//! column, and [`tallies_by_code`] what the values of another column come to at those that have it.
 //!
 //! Start with `specs/Asked.antt` and `asked.rt`, then `form.rt`, `rows.rt` and `selection.rt`; of tallies with `specs/Tallies.antt`.
 #![tactic(auto)]
@@ -18,7 +18,9 @@ mod chosen;
 mod counts;
 mod form;
 mod found;
+mod found_by_key;
 mod gathered;
+mod keyed;
 mod numbers;
 mod rows;
 mod selection;
@@ -29,6 +31,7 @@ mod tally;
 pub use asked::{Asked, Wanted, asks};
 pub use counts::counts_by_code;
 pub use form::mask_of;
+pub use keyed::tallies_by_code;
 pub use rows::tally_rows;
 pub use selection::{select, select_rows};
 pub use tally::{Tally, tally_of};

@@ -11,4 +11,7 @@ mod NextLemmas
 mod WalkLemmas
 mod KeptPlaces
 mod BesideLemmas
+mod RunLemmas
+mod CodedLemmas
+mod ByCodeLemmas
 mod SummedLemmas

@@ -153,7 +153,7 @@ at-fits bound (r ∷ rows) (suc i) row is all = at-fits bound rows i row is all.
 
 -- ---- rows of a run
 
-length-numbered-run : (first : ℕ) (rows : List Row) → length (numbered_all (run_from first rows)) ≡ length rows
+pub length-numbered-run : (first : ℕ) (rows : List Row) → length (numbered_all (run_from first rows)) ≡ length rows
 length-numbered-run first [] = refl
 length-numbered-run first (row ∷ rows) = ap suc (length-numbered-run (first + 1) rows)
 

@@ -19,14 +19,14 @@ use Rattle.im_codepred.specs.Tallies as code
 use Rattle.im_codepred.specs.declared.tally.Tally.{Tally}
 use Rattle.im_group.specs.declared.asked.Asked.{Asked}
 use Rattle.im_group.specs.MadeGroups.{AreGroupsOf, is_among, kept_values}
-use Rattle.im_group.specs.Partials.{Numbered, keeps, kept, members, keys_of, tallies_of}
+use Rattle.im_group.specs.Partials.{Numbered, keeps, kept, members, keys_of}
 use Rattle.im_group.specs.Sums as sums
 use Rattle.im_group.specs.Tallies.{Tallied, asked_in, tallied, wanted}
 use Rattle.im_unit.specs.Holding.{columns_of, count_present, present_rows, row_of, values_in}
 use Rattle.im_unit.proofs.ForCallers.{count-present}
 use Rattle.im_scan.specs.Parts.{taken_row}
 use Rattle.im_scan.specs.inner.Beside.{Beside}
-use Rattle.im_scan.specs.inner.Summed.{StandsAlone, TakesTogether, rows_kept}
+use Rattle.im_scan.specs.inner.Summed.{StandsAlone, TakesTogether, rows_kept, with_sums}
 use Rattle.im_scan.proofs.BesideLemmas.{fetched-beside}
 use Rattle.im_scan.proofs.PartLemmas.{beside-part}
 
@@ -85,7 +85,7 @@ summary-as asked vs tally same end_low end_high found is sum low high made =
 -- ---- the chosen values
 
 -- the values at the positions that a condition chooses are those of the rows that it keeps
-chosen-filter : (p : Row → Bool) (g : Row → Value) (rows : List Row) → code.chosen (map p rows) (map g rows) ≡ map g (filter p rows)
+pub chosen-filter : (p : Row → Bool) (g : Row → Value) (rows : List Row) → code.chosen (map p rows) (map g rows) ≡ map g (filter p rows)
 chosen-filter p g [] = refl
 chosen-filter p g (row ∷ rows) = by (p row) (chosen-filter p g rows)
   where
@@ -161,35 +161,34 @@ all-members [] = refl
 all-members (row ∷ rows) = ap (λ (l : List Row). row ∷ l) (all-members rows)
 
 -- two functions that agree on each element
-map-same : {X Y : Type 0} (f g : X → Y) (xs : List X) → ((x : X) → f x ≡ g x) → map f xs ≡ map g xs
+pub map-same : {X Y : Type 0} (f g : X → Y) (xs : List X) → ((x : X) → f x ≡ g x) → map f xs ≡ map g xs
 map-same f g [] same = refl
 map-same f g (x ∷ xs) same = ap (λ y. y ∷ map f xs) (same x) ∙ ap (λ l. g x ∷ l) (map-same f g xs same)
 
--- the group of the empty key, with the summaries of the chosen values, is the one group of the kept rows
-one-group : (bound : Bound) (content : Content) (spots : List Bool) (rows : List Numbered) (n : ℕ) (found : List sums.SumsOf) → TakesTogether bound →
-    spots ≡ map (keeps bound.filter) (present_rows content.rows) → kept_values bound rows ≡ rows_kept bound content →
-    n ≡ count_by (λ chosen. chosen) spots →
-    found ≡ map (λ a. sums.sums_of a (code.chosen spots (values_in a.column (present_rows content.rows)))) (asked_in (wanted bound)) →
-    AreGroupsOf bound rows (([], record { rows = n; sums = found }) ∷ [])
-one-group bound content spots rows n found together is values counted summed = record {
+-- the group of the empty key, with what all kept rows give, is their one group
+one-group : (bound : Bound) (rows : List Numbered) (n : ℕ) (found : List sums.SumsOf) → TakesTogether bound →
+    with_sums n found ≡ tallied (asked_in (wanted bound)) (kept_values bound rows) → AreGroupsOf bound rows (([], with_sums n found) ∷ [])
+one-group bound rows n found together is = record {
   tallies = (
-    ap (λ k. let t : Tallied = record { rows = k; sums = found } in t)
-        (counted ∙ (ap (count_by (λ chosen. chosen)) is ∙ count-filter (keeps bound.filter) held))
-        ∙ (ap (λ l. let t : Tallied = record { rows = length (rows_kept bound content); sums = l } in t)
-        (summed ∙ map-same (λ a. sums.sums_of a (code.chosen spots (values_in a.column held)))
-        (λ a. sums.sums_of a (sums.column_of a.column (rows_kept bound content))) (asked_in (wanted bound))
-        (λ a. ap (sums.sums_of a)
-        (ap (λ m. code.chosen m (values_in a.column held)) is ∙ chosen-filter (keeps bound.filter) (λ (r : Row). get_or r a.column Null) held)))
-        ∙ sym (ap (λ vs. tallies_of bound vs []) values
-        ∙ (ap (λ cs. tallied (asked_in (wanted bound)) (members cs (rows_kept bound content) [])) together.whole
-        ∙ ap (tallied (asked_in (wanted bound))) (all-members (rows_kept bound content))))),
+    is
+        ∙ sym (ap (λ cs. tallied (asked_in (wanted bound)) (members cs (kept_values bound rows) [])) together.whole
+        ∙ ap (tallied (asked_in (wanted bound))) (all-members (kept_values bound rows))),
     tt,
   );
   keys = λ key. ap (λ cs. is_among key (keys_of cs (kept_values bound rows))) (sym together.whole);
 }
-  where
-    held : List Row
-    held = present_rows content.rows
+
+-- what rows give that a condition chooses, where each column was summed over the chosen values
+pub chosen-tallied : (p : Row → Bool) (asked : List Asked) (spots : List Bool) (held : List Row) (n : ℕ) (found : List sums.SumsOf) →
+    spots ≡ map p held → n ≡ count_by (λ chosen. chosen) spots →
+    found ≡ map (λ a. sums.sums_of a (code.chosen spots (values_in a.column held))) asked → with_sums n found ≡ tallied asked (filter p held)
+chosen-tallied p asked spots held n found is counted summed =
+    ap (λ k. with_sums k found) (counted ∙ (ap (count_by (λ chosen. chosen)) is ∙ count-filter p held))
+    ∙ ap (λ l. with_sums (length (filter p held)) l)
+    (summed
+    ∙ map-same (λ a. sums.sums_of a (code.chosen spots (values_in a.column held))) (λ a. sums.sums_of a (sums.column_of a.column (filter p held))) asked
+    (λ a. ap (sums.sums_of a)
+    (ap (λ m. code.chosen m (values_in a.column held)) is ∙ chosen-filter p (λ (r : Row). get_or r a.column Null) held)))
 
 -- ---- bounds
 
@@ -220,19 +219,23 @@ column-long column rows vs spots is long =
 
 -- ---- what the calls give
 
--- the groups that were pushed are the one group
-pub pushed-group : (bound : Bound) (content : Content) (spots : List Bool) (rows : List Numbered) (n : ℕ) (key : List Value) (asked : List Asked) (found : List sums.SumsOf)
-    (groups : List (List Value × Tallied)) → TakesTogether bound →
-    spots ≡ map (keeps bound.filter) (present_rows content.rows) → kept_values bound rows ≡ rows_kept bound content →
-    n ≡ count_by (λ chosen. chosen) spots → key ≡ [] → asked ≡ asked_in (wanted bound) →
-    found ≡ map (λ a. sums.sums_of a (code.chosen spots (values_in a.column (present_rows content.rows)))) asked →
-    groups ≡ (key, record { rows = n; sums = found }) ∷ [] →
-    AreGroupsOf bound rows groups
-pushed-group bound content spots rows n key asked found groups together is values counted empty asks summed made =
+-- the group that was pushed is the one group
+pub pushed-group : (bound : Bound) (rows : List Numbered) (n : ℕ) (key : List Value) (found : List sums.SumsOf)
+    (groups : List (List Value × Tallied)) → TakesTogether bound → key ≡ [] → groups ≡ (key, with_sums n found) ∷ [] →
+    with_sums n found ≡ tallied (asked_in (wanted bound)) (kept_values bound rows) → AreGroupsOf bound rows groups
+pushed-group bound rows n key found groups together empty made is =
     subst (AreGroupsOf bound rows)
-    (sym (made ∙ ap (λ k. let g : List Value × Tallied = (k, record { rows = n; sums = found }) in g ∷ []) empty))
-    (one-group bound content spots rows n found together is values counted
-    (summed ∙ ap (map (λ a. sums.sums_of a (code.chosen spots (values_in a.column (present_rows content.rows))))) asks))
+    (sym (made ∙ ap (λ k. let g : List Value × Tallied = (k, with_sums n found) in g ∷ []) empty)) (one-group bound rows n found together is)
+
+-- what the chosen rows of a unit give, of rows of which a query keeps the same
+pub unit-tallied : (bound : Bound) (content : Content) (spots : List Bool) (rows : List Numbered) (n : ℕ) (asked : List Asked)
+    (found : List sums.SumsOf) → spots ≡ map (keeps bound.filter) (present_rows content.rows) → kept_values bound rows ≡ rows_kept bound content →
+    n ≡ count_by (λ chosen. chosen) spots → asked ≡ asked_in (wanted bound) →
+    found ≡ map (λ a. sums.sums_of a (code.chosen spots (values_in a.column (present_rows content.rows)))) asked →
+    with_sums n found ≡ tallied (asked_in (wanted bound)) (kept_values bound rows)
+unit-tallied bound content spots rows n asked found is same counted asks summed =
+    chosen-tallied (keeps bound.filter) asked spots (present_rows content.rows) n found is counted summed
+    ∙ (ap (λ qs. tallied qs (rows_kept bound content)) asks ∙ ap (tallied (asked_in (wanted bound))) (sym same))
 
 -- the kept rows of an extent whose face shows the unit alone
 pub face-kept : (bound : Bound) (shown : Option Content) (content : Content) (fetched : Beside) (view : View) (first count : ℕ) → shown ≡ Some content →

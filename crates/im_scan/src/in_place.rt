@@ -10,6 +10,7 @@ ghost use Rattle.im_scan.specs.inner.Steps.{GoesOnBy, numbered_from, unit_rows, 
 
 use crate::kept::next_chosen;
 use crate::parts::take_row;
+use crate::summed_run::run_part;
 use im_codepred::select_rows;
 use im_group::{Asking, Partial};
 use im_history::{Fetched, Piece};
@@ -143,6 +144,27 @@ fn take_masked(
     Ok(())
 }
 
+/// The part takes those rows that a mask chooses: together, where the query takes its rows together, and else one by one.
+fn take_kept(
+    alloc: Global,
+    asking: &Asking<'_>,
+    first: u64,
+    rows: &Rows,
+    mask: &Mask,
+    part: &mut Partial,
+) -> Result<(), NoMemory>
+    requires numbers { first + length rows.now ≤ 2 ^ 63 }
+    requires mask { mask.now ≡ map (group.keeps asking.now.filter) rows.now }
+    requires fits { AllByRecursion (λ row. BoundFits row asking.now) rows.now }
+    requires few { HasRoomFor asking.now (length rows.now) part.old }
+    ensures { OnOk result (GoesOnBy asking.now part.old (numbered_all (kept.run_from first rows.now)) part.new) }
+{
+    match run_part(alloc, asking, rows, mask)? {
+        Some(more) => part.merge(more),
+        None => take_masked(alloc, asking, first, rows, mask, part),
+    }
+}
+
 /// The part takes rows at row numbers from the first on, in order. The condition is asked of their columns, as far as a mask reaches.
 fn take_run(
     alloc: Global,
@@ -158,7 +180,7 @@ fn take_run(
 {
     if rows.len() < 0x8000_0000 {
         let mask = chosen(alloc, &asking.bound().filter, rows)?;
-        take_masked(alloc, asking, first, rows, &mask, part)
+        take_kept(alloc, asking, first, rows, &mask, part)
     } else {
         take_each(alloc, asking, first, rows, part)
     }

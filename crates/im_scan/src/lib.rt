@@ -13,6 +13,7 @@
 #![tactic(auto)]
 
 mod beside;
+mod by_code;
 mod faces;
 mod in_place;
 mod kept;
@@ -21,6 +22,7 @@ mod parts;
 mod pinned;
 mod slots;
 mod summed;
+mod summed_run;
 mod walking;
 
 pub use faces::Face;

@@ -12,6 +12,7 @@ ghost use Rattle.im_scan.specs.Pinned.{IsPinned, seen_in};
 ghost use Rattle.im_scan.specs.inner.Steps.{GoesOnBy, MayScan, lent, numbered, numbered_from, unit_rows, with_fetched};
 
 use crate::beside::beside;
+use crate::by_code::coded_part;
 use crate::faces::Face;
 use crate::in_place::{handles, part_in_place};
 use crate::kept::{begins_by, kept_in};
@@ -137,6 +138,27 @@ fn laid_part(
     part_of_slots(alloc, asking, first, slots.as_slice())
 }
 
+/// What an extent gives whose unit alone is scanned, and of it the columns and no row.
+fn column_part(
+    alloc: Global,
+    face: Face<'_>,
+    asking: &Asking<'_>,
+    fetched: &[(u64, Option<Row>)],
+    view: &View,
+    first: u64,
+    count: u64,
+) -> Result<Option<Partial>, NoMemory>
+    requires within { first + count < 2 ^ 64 }
+    requires fits { MayScan asking.now (unit_of face) fetched.now view.now.own }
+    ensures { IfOk result (λ part. ForSome part (λ part.
+        part ≡ group.partial asking.now (present (taken_row (unit_of face.entry) fetched.now view.now) first count))) }
+{
+    match summed_part(alloc, face, asking, fetched, view, first, count)? {
+        Some(part) => Ok(Some(part)),
+        None => coded_part(alloc, face, asking, fetched, view, first, count),
+    }
+}
+
 /// What an extent with a unit gives, where nothing has to be laid out for it.
 fn beside_part(
     alloc: Global,
@@ -155,7 +177,7 @@ fn beside_part(
     match face {
         Face::Bare => Ok(None),
         Face::Edges(_) => walked_part(alloc, face, asking, fetched, view, first, count),
-        Face::Whole(_) => match summed_part(alloc, face, asking, fetched, view, first, count)? {
+        Face::Whole(_) => match column_part(alloc, face, asking, fetched, view, first, count)? {
             Some(part) => Ok(Some(part)),
             None => walked_part(alloc, face, asking, fetched, view, first, count),
         },

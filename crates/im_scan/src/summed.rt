@@ -8,11 +8,12 @@ ghost use Rattle.im_history.specs.Rows.{present};
 ghost use Rattle.im_group.specs.MadeGroups.{kept_values};
 ghost use Rattle.im_group.specs.Partials as group;
 ghost use Rattle.im_group.specs.Sums as sums;
+ghost use Rattle.im_group.specs.Tallies.{asked_in, tallied, wanted};
 ghost use Rattle.im_unit.specs.Holding.{count_present, present_rows, values_in};
 ghost use Rattle.im_scan.specs.Faces.{unit_of};
 ghost use Rattle.im_scan.specs.Parts.{taken_row};
 ghost use Rattle.im_scan.specs.inner.Steps.{MayScan};
-ghost use Rattle.im_scan.specs.inner.Summed.{StandsAlone, TakesTogether, rows_kept};
+ghost use Rattle.im_scan.specs.inner.Summed.{StandsAlone, TakesTogether, rows_kept, with_sums};
 
 use crate::faces::Face;
 use crate::kept::kept_spots;
@@ -54,7 +55,7 @@ fn sum_in(tally: &Tally<'_>) -> i128
 }
 
 /// The summary of values by what they come to. None where they cannot come to this.
-fn sums_by(alloc: Global, asked: Asked, tally: Tally<'_>) -> Result<Option<Sums>, NoMemory>
+pub fn sums_by(alloc: Global, asked: Asked, tally: Tally<'_>) -> Result<Option<Sums>, NoMemory>
     ensures { IfOk result (λ found. ForSome found (λ found. (vs : List Value) → IsTallyOf vs tally.entry → found ≡ sums.sums_of asked vs)) }
 {
     let sum = sum_in(&tally);
@@ -104,6 +105,23 @@ fn all_sums(
     Ok(Some(all))
 }
 
+/// The part of a query that takes all rows together, made of how many it keeps and of a summary of each column that it asks.
+pub fn whole_part(
+    alloc: Global,
+    asking: &Asking<'_>,
+    rows: u64,
+    sums: Vec<Sums>,
+) -> Result<Partial, NoMemory>
+    requires { TakesTogether asking.now }
+    ensures { IfOk result (λ part. (of : List group.Numbered) →
+        with_sums rows sums.items ≡ tallied (asked_in (wanted asking.now)) (kept_values asking.now of) → part ≡ group.partial asking.now of) }
+{
+    let key = Vec::new(alloc);
+    let mut groups = Vec::with_capacity(alloc, 1)?;
+    groups.push(Group { key, rows, sums })?;
+    Partial::of_groups(alloc, asking, groups)
+}
+
 /// The part of a query that takes the chosen rows of a unit together, made without a row.
 fn together(
     alloc: Global,
@@ -119,23 +137,19 @@ fn together(
     let Some(sums) = all_sums(alloc, asking.asked(), unit, spots)? else {
         return Ok(None);
     };
-    let key = Vec::new(alloc);
-    let rows = count(spots);
-    let mut groups = Vec::with_capacity(alloc, 1)?;
-    groups.push(Group { key, rows, sums })?;
-    let part = Partial::of_groups(alloc, asking, groups)?;
+    let part = whole_part(alloc, asking, count(spots), sums)?;
     Ok(Some(part))
 }
 
 /// Whether a query takes all rows together: it is grouped, and without GROUP BY.
-fn takes_together(bound: &Bound) -> bool
+pub fn takes_together(bound: &Bound) -> bool
     ensures { OnTrue result (TakesTogether bound.now) }
 {
     bound.grouped && bound.groups.items().is_empty()
 }
 
 /// Whether nothing stands beside a unit, and it is of row numbers of the extent alone.
-fn stands_alone(
+pub fn stands_alone(
     unit: &ColumnUnit,
     fetched: &[(u64, Option<Row>)],
     view: &View,

@@ -1,22 +1,17 @@
 -- Tallies while they are made.
 use Rattle.std.specs.Borrow.{Bor}
-use Rattle.std.specs.Prelude.{◌≡◌, option_copied, false, Option, Some, None, fold, ℕ, ◌+◌, ◌*◌, ◌/◌, ◌%◌, ◌^◌, ◌<◌, ◌==◌, ◌&&◌, ◌||◌, List, [], ◌∷◌, length, max, nat_lt, slice_index, slice_index_or, slice_set, ℤ, pos, neg_ℤ, ◌+ℤ◌, ◌*ℤ◌, ◌≤ℤ◌, if◌then◌else◌}
+use Rattle.std.specs.Prelude.{◌≡◌, option_copied, false, Option, Some, None, fold, ℕ, ◌+◌, ◌/◌, ◌%◌, ◌^◌, ◌<◌, ◌==◌, ◌&&◌, ◌||◌, List, [], ◌∷◌, length, max, nat_lt, slice_index, slice_index_or, slice_set, ℤ, pos, ◌+ℤ◌, ◌*ℤ◌, if◌then◌else◌}
 use Rattle.im_values.specs.declared.value.Value.{Value}
 use Rattle.im_values.specs.declared.value.Value.TheVariants.{Null}
 use Rattle.im_values.specs.Order.{is_null}
 use Rattle.im_codes.specs.Dictionary.{coded, present}
 use Rattle.im_codepred.specs.declared.tally.Tally.{Tally}
-use Rattle.im_codepred.specs.Tallies.{number, total, lesser, greater, least, greatest, some_of}
+use Rattle.im_codepred.specs.Tallies.{IsWithin, number, total, lesser, greater, least, greatest, some_of}
 
 -- the elements of a list at the bits of a word that are set, from the lowest on
 abbrev pub at_bits : {A : Type 0} → ℕ → List A → List A
 at_bits word [] = []
 at_bits word (x ∷ xs) = if word % 2 == 1 then x ∷ at_bits (word / 2) xs else at_bits (word / 2) xs
-
--- so many numbers of 64 bits add up to no more
-pub record IsWithin (values : ℕ) (sum : ℤ) : Type 0 where
-  pub low : neg_ℤ (pos (values * 2 ^ 63)) ≤ℤ sum
-  pub high : sum ≤ℤ pos (values * 2 ^ 63)
 
 -- what is found among codes: the least and the greatest are 0 where each code is that of NULL
 pub record FoundOf : Type 0 where
@@ -121,7 +116,31 @@ pub record Shows (t : TotalsOf) (tally : Tally) : Type 0 where
   pub sum : tally.sum ≡ t.sum
   pub least : option_copied tally.least ≡ some_of t.least
   pub greatest : option_copied tally.greatest ≡ some_of t.greatest
+  pub within : IsWithin tally.values tally.sum
 
 -- one code more is counted
 abbrev pub one_more : List ℕ → ℕ → List ℕ
 one_more counts code = slice_set counts code (slice_index counts code + 1)
+
+-- keys, each with its value: NULL where there is none
+abbrev pub keyed : List ℕ → List Value → List (ℕ × Value)
+keyed [] vs = []
+keyed (key ∷ keys) [] = (key, Null) ∷ keyed keys []
+keyed (key ∷ keys) (v ∷ vs) = (key, v) ∷ keyed keys vs
+
+-- one value more in the group of its key
+abbrev pub with_pair : List TotalsOf → ℕ × Value → List TotalsOf
+with_pair groups pair = slice_set groups pair.0 (with_value (slice_index_or groups pair.0 no_totals) pair.1)
+
+-- one code more is found with its key
+abbrev pub with_code : List Value → List FoundOf → ℕ × ℕ → List FoundOf
+with_code dict founds pair = slice_set founds pair.0 (taken dict (slice_index_or founds pair.0 nothing) pair.1)
+
+-- the ends that are found with each key are codes of a dictionary
+abbrev pub AreInside : List Value → List FoundOf → Type 0
+AreInside dict founds = (key : ℕ) → IsInside dict (slice_index_or founds key nothing)
+
+-- tallies that are lent have these totals, each its own
+pub record ShowEach (groups : List TotalsOf) (tallies : List Tally) : Type 0 where
+  pub size : length tallies ≡ length groups
+  pub each : (i : ℕ) (d : Tally) → i < length groups → Shows (slice_index_or groups i no_totals) (slice_index_or tallies i d)

@@ -1,0 +1,124 @@
+ghost use Rattle.std.specs.Prelude.{◌≡◌, ◌*◌, ◌^◌, ◌<◌, ◌≤◌, ℕ, All, IfOk, fold, length, map, replicate, slice_index_or, take, drop, zip};
+ghost use Rattle.im_codes.specs.Dictionary.{coded, IsDictionary};
+ghost use Rattle.im_codepred.specs.Tallies.{chosen};
+ghost use Rattle.im_codepred.specs.inner.Tallying.{at_bits, nothing, totals_of, with_code, AreInside, ShowEach};
+
+use crate::found::Found;
+use crate::tally::Tally;
+use im_bits::Bits;
+use im_lanes::Mask;
+use im_values::{NoMemory, Value};
+use std::alloc::Global;
+
+/// What is found among the chosen of packed codes with each packed key below one. Where 64 codes have no chosen one, they are
+/// not unpacked.
+pub fn found_by_key(
+    alloc: Global,
+    most: u32,
+    keys: &Bits,
+    dict: &[Value],
+    codes: &Bits,
+    mask: &Mask,
+) -> Result<Vec<Found>, NoMemory>
+    requires keys { length keys.now.codes ≡ length mask.now }
+    requires long { length codes.now.codes ≡ length mask.now }
+    requires below { All (λ code. code < most) keys.now.codes }
+    requires codes { All (λ code. code < length (coded dict.now)) codes.now.codes }
+    ensures { IfOk result (λ founds. founds.items ≡ fold (with_code dict.now) (replicate most nothing) (chosen mask.now (zip keys.now.codes codes.now.codes))) }
+{
+    let mut founds = none_found(alloc, most)?;
+    find_all(&mut founds, keys, dict, codes, mask);
+    Ok(founds)
+}
+
+/// Nothing yet with each key below one.
+fn none_found(alloc: Global, most: u32) -> Result<Vec<Found>, NoMemory>
+    ensures { IfOk result (λ founds. founds.items ≡ replicate most nothing) }
+{
+    let mut founds = Vec::with_capacity(alloc, most as usize)?;
+    for _ in 0..most {
+        founds.push(Found::none())?;
+    }
+    Ok(founds)
+}
+
+/// Takes the chosen of packed codes, each with its key.
+fn find_all(founds: &mut [Found], keys: &Bits, dict: &[Value], codes: &Bits, mask: &Mask)
+    requires none { founds.old ≡ replicate (length founds.old) nothing }
+    requires keys { length keys.now.codes ≡ length mask.now }
+    requires long { length codes.now.codes ≡ length mask.now }
+    requires below { All (λ code. code < length founds.old) keys.now.codes }
+    requires codes { All (λ code. code < length (coded dict.now)) codes.now.codes }
+    ensures { founds.new ≡ fold (with_code dict.now) founds.old (chosen mask.now (zip keys.now.codes codes.now.codes)) }
+{
+    let words = mask.words();
+    for place in 0..words.len() {
+        find_share(founds, keys, dict, codes, place as u64, words[place]);
+    }
+}
+
+/// Takes of 64 packed codes from a place on those at the bits of a word that are set.
+fn find_share(
+    founds: &mut [Found],
+    keys: &Bits,
+    dict: &[Value],
+    codes: &Bits,
+    place: u64,
+    word: u64,
+)
+    requires few { (key : ℕ) → (slice_index_or founds.old key nothing).values < 2 ^ 62 }
+    requires inside { place * 64 < length keys.now.codes }
+    requires near { place < 2 ^ 32 }
+    requires long { length keys.now.codes ≡ length codes.now.codes }
+    requires below { All (λ code. code < length founds.old) keys.now.codes }
+    requires codes { All (λ code. code < length (coded dict.now)) codes.now.codes }
+    requires word { word < 2 ^ length (take 64 (drop (place * 64) (zip keys.now.codes codes.now.codes))) }
+    ensures { founds.new ≡ fold (with_code dict.now) founds.old (at_bits word (take 64 (drop (place * 64) (zip keys.now.codes codes.now.codes)))) }
+{
+    if word == 0 {
+        return;
+    }
+    let first = place * 64;
+    let left = (keys.len() - first).min(64) as usize;
+    let mut some_keys = [0; 64];
+    keys.codes_from(first, &mut some_keys);
+    let mut some_codes = [0; 64];
+    codes.codes_from(first, &mut some_codes);
+    find_word(founds, &some_keys[..left], dict, &some_codes[..left], word);
+}
+
+/// Takes the codes at the bits of a word that are set, each with its key.
+fn find_word(founds: &mut [Found], keys: &[u32], dict: &[Value], codes: &[u32], word: u64)
+    requires few { (key : ℕ) → (slice_index_or founds.old key nothing).values < 2 ^ 62 }
+    requires short { length keys.now ≤ 64 }
+    requires long { length keys.now ≡ length codes.now }
+    requires below { All (λ code. code < length founds.old) keys.now }
+    requires codes { All (λ code. code < length (coded dict.now)) codes.now }
+    requires word { word < 2 ^ length keys.now }
+    ensures { founds.new ≡ fold (with_code dict.now) founds.old (at_bits word (zip keys.now codes.now)) }
+{
+    let mut rest = word;
+    while rest != 0 {
+        let i = rest.trailing_zeros() as usize;
+        let key = keys[i] as usize;
+        founds[key].take(dict, codes[i]);
+        rest &= rest - 1;
+    }
+}
+
+/// What is found with each key, as values.
+pub fn tallies_found<'a>(
+    alloc: Global,
+    founds: &[Found],
+    dict: &'a [Value],
+) -> Result<Vec<Tally<'a>>, NoMemory>
+    requires inside { AreInside dict.now founds.now }
+    requires dictionary { IsDictionary dict.now }
+    ensures { IfOk result (λ tallies. ShowEach (map (totals_of dict.now) founds.now) tallies.items) }
+{
+    let mut tallies = Vec::with_capacity(alloc, founds.len())?;
+    for found in founds {
+        tallies.push(found.tally(dict))?;
+    }
+    Ok(tallies)
+}
