@@ -1,5 +1,5 @@
 -- How the values of a row are kept, and how a block of values is cut into rows.
-use Rattle.std.specs.Prelude.{◌≡◌, List, ℕ, ◌<◌, ◌≤◌, ◌+◌, ◌-◌, [], ◌∷◌, zero, suc, take, drop, length}
+use Rattle.std.specs.Prelude.{List, ℕ, ◌≤◌, ◌+◌, [], ◌∷◌, zero, suc, take, drop, length}
 use Rattle.std.specs.List.{slice_range}
 use Rattle.std.specs.Arc.{arc_value}
 use Rattle.im_values.specs.declared.row.Form.{Form}
@@ -20,9 +20,3 @@ IsInside (Stretch block first count) = first + count ≤ length (arc_value block
 abbrev pub cut : ℕ → ℕ → List Value → List (List Value)
 cut zero width values = []
 cut (suc count) width values = take width values ∷ cut count width (drop width values)
-
--- a row of so many values, of which there is one at least, stands in a block right before a place
-pub record StandBefore (block : List Value) (first width : ℕ) (row : List Value) : Type 0 where
-  pub some : 0 < width
-  pub within : width ≤ first
-  pub is : row ≡ slice_range block (first - width) first

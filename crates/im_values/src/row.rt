@@ -11,7 +11,7 @@ use std::sync::Arc;
 
 /// How the values of a row are kept.
 #[derive(Drop)]
-pub(crate) enum Form {
+enum Form {
     /// In memory of the row's own.
     Owned(Vec<Value>),
     /// In a block that rows share: from this place on, so many.
@@ -24,7 +24,7 @@ pub(crate) enum Form {
 /// its values. A block lives as long as any of its rows.
 #[derive(Drop)]
 pub struct Row {
-    pub(crate) form: Form,
+    form: Form,
 }
 
 impl Model for Row {

@@ -1,9 +1,9 @@
-ghost use Rattle.std.specs.Prelude.{◌≡◌, ◌+◌, ◌-◌, ◌*◌, ◌<◌, ◌≤◌, ◌==◌, drop, length, slice_get, take, IfErr, IfOk, Some, true, false, [], ◌∷◌};
+ghost use Rattle.std.specs.Prelude.{◌≡◌, ◌+◌, ◌-◌, ◌*◌, ◌<◌, ◌≤◌, ◌==◌, drop, length, slice_get, take, IfOk, Some};
 ghost use Rattle.std.specs.List.{slice_range};
-ghost use Rattle.im_values.specs.Stretches.{StandBefore, cut};
+ghost use Rattle.im_values.specs.Stretches.{cut};
 
 use crate::no_memory::NoMemory;
-use crate::row::{Form, Row};
+use crate::row::Row;
 use crate::value::Value;
 use std::alloc::Global;
 use std::marker::Model;
@@ -52,37 +52,6 @@ impl Rows {
             width,
             count,
         })
-    }
-
-    /// The run of one row that lies in a block, or the row handed back where it has memory of its own. It takes no memory.
-    pub fn of_row(row: Row) -> Result<Rows, Row>
-        ensures ok { IfOk result (λ rows. rows ≡ row ∷ []) }
-        ensures err { IfErr result (λ back. back ≡ row) }
-    {
-        let Row { form } = row;
-        match form {
-            Form::Stretch(block, first, width) => Ok(Rows {
-                block,
-                first,
-                width,
-                count: 1,
-            }),
-            Form::Owned(values) => Err(Row::of(values)),
-        }
-    }
-
-    /// Puts a row in front where its values stand in the block right before the run, and tells whether they do. It takes no
-    /// memory.
-    pub fn put_before(&mut self, row: &Row) -> bool
-        ensures put { result ≡ true → self.new ≡ row.now ∷ self.old }
-        ensures not { result ≡ false → self.new ≡ self.old }
-    {
-        if !stand_before(&self.block, self.first, self.width, row.values()) {
-            return false;
-        }
-        self.first -= self.width;
-        self.count += 1;
-        true
     }
 
     /// How many rows there are.
@@ -180,19 +149,4 @@ fn start_of(block: &Vec<Value>, first: usize, width: usize, count: usize, rows: 
 {
     let _ = block.len();
     first + rows * width
-}
-
-/// Whether values stand in a block right before a place, and are a row of this width, which is not empty.
-fn stand_before(block: &Vec<Value>, first: usize, width: usize, values: &[Value]) -> bool
-    requires { first ≤ length block.now.items }
-    ensures { result ≡ true → StandBefore block.now.items first width values.now }
-{
-    0 < width && width <= first && same_values(values, &block.as_slice()[first - width..first])
-}
-
-/// Whether two rows have the same values.
-fn same_values(values: &[Value], others: &[Value]) -> bool
-    ensures { result ≡ true → values.now ≡ others.now }
-{
-    values == others
 }

@@ -1,5 +1,4 @@
-use Rattle.std.proofs.Common.{◌≡◌, ◌+◌, ◌-◌, ◌*◌, ◌<◌, ◌≤◌, ℕ, List, length, take, drop, Option, Some, ap, ◌∙◌, arith}
-use Rattle.im_values.specs.declared.value.Value.{Value}
+use Rattle.std.proofs.Common.{◌+◌, ◌≤◌, ℕ, drop, ap, ◌∙◌, arith}
 use Rattle.im_values.specs.Stretches.{cut}
 use Rattle.im_values.proofs.RunLemmas.{length-cut, part-cut, more_rows}
 use Rattle.im_values.proofs.rows.part_place.Goals as goal

@@ -1,6 +1,4 @@
-use Rattle.std.proofs.Common.{◌≡◌, ◌+◌, ◌-◌, ◌*◌, ◌<◌, ◌≤◌, ℕ, List, length, take, drop, Option, Some, ap, ◌∙◌, arith}
-use Rattle.im_values.specs.declared.value.Value.{Value}
-use Rattle.im_values.specs.Stretches.{cut}
+use Rattle.std.proofs.Common.{◌+◌, ◌*◌, ◌<◌, drop, Some, ap, ◌∙◌, arith}
 use Rattle.im_values.proofs.RunLemmas.{length-cut, get-cut, one_row, row_range}
 use Rattle.im_values.proofs.rows.place_of.Goals as goal
 
