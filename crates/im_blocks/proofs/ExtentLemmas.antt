@@ -18,6 +18,8 @@ use Rattle.im_blocks.specs.Chains.{AllVersions, run_at, slot_at, versions_at, ro
 use Rattle.im_blocks.specs.Runs.{holds, rows_in, version_in}
 use Rattle.im_blocks.specs.declared.blocks.extents.Asked.{Asked}
 use Rattle.im_blocks.specs.declared.slot.Slot.{Slot}
+use Rattle.im_blocks.specs.declared.gathered.Gathered.{Gathered}
+use Rattle.im_blocks.specs.inner.Gathering.{Gathers, gathered}
 use Rattle.im_blocks.specs.inner.Reading.{AreRead, EndsIn}
 use Rattle.im_blocks.specs.inner.Seen.{AreSeen}
 use Rattle.im_blocks.proofs.RunLemmas.{found_run, in_rows-from, in_rows-true, is_in-from, is_in-true, run-shown}
@@ -115,6 +117,22 @@ rows_at-run b table number scn run at table_is upto (suc count) rid from inside 
     (rows_at-run b table number scn run at table_is upto count (rid + 1) (omega (arith, from)) (omega (arith, inside))
     (λ r low high. slots r (omega (arith, low)) (omega (arith, high))))
 
+-- the same rows, said in another way
+Gathers-same : (old new : Gathered) (these those : List (ℕ × Option (List Value))) → these ≡ those → Gathers old new these → Gathers old new those
+Gathers-same old new these those same gathers = record {
+  rows = gathers.rows ∙ ap (λ (l : List (ℕ × Option (List Value))). gathered old ++ l) same;
+  whole = gathers.whole;
+}
+
+-- one row number was read
+pub AreRead-one : (b : AllVersions) (asked : Asked) (rid : ℕ) (row : Option (List Value)) (old new : Gathered) → rid < asked.end
+    → row ≡ row_at (versions_at b asked.table rid) asked.scn → Gathers old new ((rid, row) ∷ []) → AreRead b asked rid (rid + 1) old new
+AreRead-one b asked rid row old new before is gathers = record {
+  from = omega arith;
+  upto = omega (arith, before);
+  rows = Gathers-same old new _ _ (rows_at-one b asked.table rid asked.scn row is) gathers;
+}
+
 -- ---- as far as row numbers in a row are in a run
 
 -- a row number has a slot, and lies in so many from a first one on
@@ -152,9 +170,9 @@ slots-upto b table rid number next cells is slot behind r from to =
     (cases_eq r rid)
 
 -- rows of a run that were seen, read up to a row number
-pub AreRead-run : (b : AllVersions) (asked : Asked) (rid number first next : ℕ) (rows : List (List Value)) (old new : List (ℕ × Option (List Value)))
+pub AreRead-run : (b : AllVersions) (asked : Asked) (rid number first next : ℕ) (rows : List (List Value)) (old new : Gathered)
     → AreSeen (run_at b.runs number asked.table rid) first rows asked.scn → EndsIn b asked rid number first (length rows) next
-    → new ≡ old ++ run_from rid (take (next - rid) (drop (rid - first) rows)) → AreRead b asked rid next old new
+    → Gathers old new (run_from rid (take (next - rid) (drop (rid - first) rows))) → AreRead b asked rid next old new
 AreRead-run b asked rid number first next rows old new seen ends is =
     let run = seen.run in
     let found = found_run b.runs number asked.table rid run seen.is in
@@ -170,7 +188,7 @@ AreRead-run b asked rid number first next rows old new seen ends is =
     record {
       from = from;
       upto = ends.upto;
-      rows = is ∙ ap (λ (l : List (ℕ × Option (List Value))). old ++ l)
+      rows = Gathers-same old new _ _
           (ap (λ (n : ℕ). run_from rid (take (next - rid) (drop (rid - n) rows))) (sym first_is)
-          ∙ (ap (λ (l : List (List Value)). run_from rid (take (next - rid) (drop (rid - run.first) l))) (sym seen.rows_are) ∙ sym read));
+          ∙ (ap (λ (l : List (List Value)). run_from rid (take (next - rid) (drop (rid - run.first) l))) (sym seen.rows_are) ∙ sym read)) is;
     }

@@ -1,6 +1,7 @@
 mod EnterLemmas
 mod ExtentLemmas
 pub mod ForCallers
+mod GatherLemmas
 mod HandingLemmas
 mod Places
 mod RoomLemmas

@@ -1,3 +1,4 @@
+pub mod Gathering
 pub mod Handing
 pub mod Puts
 pub mod Readying

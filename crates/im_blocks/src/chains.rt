@@ -4,7 +4,7 @@ ghost use Rattle.im_blocks.specs.Chains.{chain_at, chain_versions, newest_scn};
 ghost use Rattle.im_blocks.specs.inner.Puts.{IsChained};
 
 use crate::touched::Touched;
-use im_values::{NoMemory, Row, Steps, Value, clone_row};
+use im_values::{NoMemory, Steps, Value};
 use im_versions::Chain;
 use std::alloc::Global;
 use std::sync::ledger::Ledger;
@@ -31,25 +31,6 @@ pub fn values_at<'a, L: Ledger>(
     ensures few { steps.new ≤ steps.old + 1 }
 {
     Some(touched?.chain.at(scn, steps)?.values())
-}
-
-/// A copy of the row of a row number at an SCN, by its chain. It is one step at most.
-pub fn row_at<L: Ledger>(
-    alloc: Global,
-    touched: Option<&Touched>,
-    scn: u64,
-    steps: &mut Steps<L>,
-) -> Result<Option<Row>, NoMemory>
-    ensures row { IfOk result (λ row. row ≡ versions.row_at (chain_versions (option_copied touched.entry)) scn) }
-    ensures few { steps.new ≤ steps.old + 1 }
-{
-    let Some(touched) = touched else {
-        return Ok(None);
-    };
-    match touched.chain.at(scn, steps) {
-        Some(row) => Ok(Some(clone_row(alloc, row)?)),
-        None => Ok(None),
-    }
 }
 
 /// The SCN of the newest version of a row number, by its chain.

@@ -15,6 +15,7 @@
 mod blocks;
 mod chains;
 mod entering;
+mod gathered;
 mod ready;
 mod run;
 mod runs;

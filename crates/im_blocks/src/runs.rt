@@ -54,16 +54,6 @@ pub fn values_at(run: Option<&Run>, rid: u64, scn: u64) -> Option<&[Value]>
     run.values(rid)
 }
 
-/// A copy of the row of a row number at an SCN, by its run.
-pub fn row_at(alloc: Global, run: Option<&Run>, rid: u64, scn: u64) -> Result<Option<Row>, NoMemory>
-    ensures { IfOk result (λ row. row ≡ versions.row_at (run_versions rid (option_copied run.entry)) scn) }
-{
-    match run {
-        Some(run) if run.scn <= scn => run.row(alloc, rid),
-        _ => Ok(None),
-    }
-}
-
 /// The SCN of the newest version of each row number that a run holds.
 pub fn newest(run: Option<&Run>) -> u64
     ensures { (rid : ℕ) → result ≡ newest_scn (run_versions rid (option_copied run.entry)) }

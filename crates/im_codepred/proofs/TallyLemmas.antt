@@ -42,6 +42,7 @@ tally-shown vs t tally shows is = record {
   sum = shows.sum ∙ ap (λ t. t.sum) is;
   least = shows.least ∙ ap (λ t. some_of t.least) is;
   greatest = shows.greatest ∙ ap (λ t. some_of t.greatest) is;
+  within = shows.within;
 }
 
 codes-come : (dict : List Value) (mask : List Bool) (codes : List ℕ) (found : FoundOf) (tally : Tally) → IsDictionary dict →

@@ -43,17 +43,19 @@ some_of (Int n) = Some (Int n)
 some_of (Text t) = Some (Text t)
 some_of Null = None
 
--- what these values come to: how many are not NULL, their sum, and the least and the greatest, or none
+-- so many numbers of 64 bits add up to no more
+pub record IsWithin (values : ℕ) (sum : ℤ) : Type 0 where
+  pub low : neg_ℤ (pos (values * 2 ^ 63)) ≤ℤ sum
+  pub high : sum ≤ℤ pos (values * 2 ^ 63)
+
+-- what these values come to: how many are not NULL, their sum, which is one of as many numbers of 64 bits, and the least and the
+-- greatest, or none
 pub record IsTallyOf (vs : List Value) (tally : Tally) : Type 0 where
   pub values : tally.values ≡ length (present vs)
   pub sum : tally.sum ≡ total vs
   pub least : option_copied tally.least ≡ some_of (least vs)
   pub greatest : option_copied tally.greatest ≡ some_of (greatest vs)
-
--- so many numbers of 64 bits add up to no more
-pub record IsWithin (values : ℕ) (sum : ℤ) : Type 0 where
-  pub low : neg_ℤ (pos (values * 2 ^ 63)) ≤ℤ sum
-  pub high : sum ≤ℤ pos (values * 2 ^ 63)
+  pub within : IsWithin tally.values tally.sum
 
 -- how many of these values are one
 abbrev pub count_of : Value → List Value → ℕ

@@ -11,7 +11,7 @@ use crate::asked::{Asked, Wanted};
 use crate::gathered::Gathered;
 use crate::numbers::Probe;
 use crate::tally::Tally;
-use im_lanes::{Mask, with_bit, word_count};
+use im_lanes::{Mask, count, with_bit, word_count};
 use im_values::{NoMemory, Rows, Value};
 use std::alloc::Global;
 
@@ -79,7 +79,7 @@ fn value_in(rows: &Rows, at: usize, column: u32) -> &Value
 
 /// What the values of a column at the chosen rows of a run come to. It takes no memory.
 ///
-/// It costs a step for each chosen row, and less where 64 rows that lie in one word of the mask are all chosen.
+/// It costs a step for each chosen row, and less where each is chosen, or 64 that lie in one word of the mask.
 pub fn tally_rows<'a>(rows: &'a Rows, column: u32, mask: &Mask) -> Tally<'a>
     requires long { length mask.now ≡ length rows.now }
     requires inside { All (λ row. HasColumn row column) rows.now }
@@ -91,6 +91,29 @@ pub fn tally_rows<'a>(rows: &'a Rows, column: u32, mask: &Mask) -> Tally<'a>
 
 /// What they come to, as it is gathered.
 fn gathered_rows<'a>(rows: &'a Rows, column: u32, mask: &Mask) -> Gathered<'a>
+    requires long { length mask.now ≡ length rows.now }
+    requires inside { All (λ row. HasColumn row column) rows.now }
+    ensures { result ≡ fold with_value no_totals (chosen mask.now (column_of rows.now column)) }
+{
+    if count(mask) == mask.len() {
+        return gathered_whole(rows, column);
+    }
+    gathered_words(rows, column, mask)
+}
+
+/// What the values of all rows come to.
+fn gathered_whole<'a>(rows: &'a Rows, column: u32) -> Gathered<'a>
+    requires few { length rows.now < 2 ^ 31 }
+    requires inside { All (λ row. HasColumn row column) rows.now }
+    ensures { result ≡ fold with_value no_totals (column_of rows.now column) }
+{
+    let mut gathered = Gathered::none();
+    gather_all(&mut gathered, rows, column, 0, rows.len());
+    gathered
+}
+
+/// What those of the chosen rows come to, word by word.
+fn gathered_words<'a>(rows: &'a Rows, column: u32, mask: &Mask) -> Gathered<'a>
     requires long { length mask.now ≡ length rows.now }
     requires inside { All (λ row. HasColumn row column) rows.now }
     ensures { result ≡ fold with_value no_totals (chosen mask.now (column_of rows.now column)) }
@@ -119,21 +142,27 @@ fn gather_word<'a>(
     ensures { gathered.new ≡ fold with_value gathered.old (at_bits word (take 64 (drop first (column_of rows.now column)))) }
 {
     if word == u64::MAX {
-        gather_all(gathered, rows, column, first);
+        gather_all(gathered, rows, column, first, 64);
     } else {
         gather_some(gathered, rows, column, first, word);
     }
 }
 
-/// Gathers the values of 64 rows.
-fn gather_all<'a>(gathered: &mut Gathered<'a>, rows: &'a Rows, column: u32, first: usize)
+/// Gathers the values of so many rows from a place on.
+fn gather_all<'a>(
+    gathered: &mut Gathered<'a>,
+    rows: &'a Rows,
+    column: u32,
+    first: usize,
+    count: usize,
+)
     requires inside { All (λ row. HasColumn row column) rows.now }
-    requires within { first + 64 ≤ length rows.now }
+    requires within { first + count ≤ length rows.now }
     requires rows { length rows.now < 2 ^ 31 }
     requires few { gathered.old.values < 2 ^ 62 }
-    ensures { gathered.new ≡ fold with_value gathered.old (take 64 (drop first (column_of rows.now column))) }
+    ensures { gathered.new ≡ fold with_value gathered.old (take count (drop first (column_of rows.now column))) }
 {
-    for i in 0..64 {
+    for i in 0..count {
         gathered.take(value_in(rows, first + i, column));
     }
 }

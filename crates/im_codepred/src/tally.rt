@@ -1,5 +1,6 @@
-ghost use Rattle.std.specs.Prelude.{◌≡◌, ◌<◌, All, length};
-ghost use Rattle.im_codepred.specs.Tallies.{chosen, IsTallyOf};
+ghost use Rattle.std.specs.Prelude.{◌≡◌, ◌^◌, ◌<◌, All, IfSome, length};
+ghost use Rattle.std.specs.Bool.{OnTrue};
+ghost use Rattle.im_codepred.specs.Tallies.{chosen, IsTallyOf, IsWithin};
 ghost use Rattle.im_codes.specs.Dictionary.{coded, values_at};
 
 use crate::found::{found_among, found_in};
@@ -35,8 +36,18 @@ pub fn tally_of<'a>(column: &'a Column, mask: &Mask) -> Tally<'a>
     ensures { IsTallyOf (chosen mask.now column.now) result }
 {
     if count(mask) == mask.len() {
-        return whole_tally(column);
+        if let Some(tally) = whole_tally(column) {
+            return tally;
+        }
     }
+    form_tally(column, mask)
+}
+
+/// The same, by the form of the column.
+fn form_tally<'a>(column: &'a Column, mask: &Mask) -> Tally<'a>
+    requires { length column.now ≡ length mask.now }
+    ensures { IsTallyOf (chosen mask.now column.now) result }
+{
     match column.form() {
         Form::Plain(values) => gathered_in(values, mask).tally(),
         Form::Coded(dict, bits) => coded_tally(dict, bits, mask),
@@ -44,17 +55,32 @@ pub fn tally_of<'a>(column: &'a Column, mask: &Mask) -> Tally<'a>
     }
 }
 
-/// What all values of a column come to, by what it keeps.
-fn whole_tally<'a>(column: &'a Column) -> Tally<'a>
-    ensures { IsTallyOf column.now result }
+/// What all values of a column come to, by what it keeps. None where the sum that it keeps is not one of so many numbers of 64
+/// bits, which it does not say.
+fn whole_tally<'a>(column: &'a Column) -> Option<Tally<'a>>
+    ensures { IfSome result (IsTallyOf column.now) }
 {
     let bounds = column.bounds();
-    Tally {
-        values: column.len() - bounds.nulls,
-        sum: column.sum(),
+    let values = column.len() - bounds.nulls;
+    let sum = column.sum();
+    if !is_within(values, sum) {
+        return None;
+    }
+    Some(Tally {
+        values,
+        sum,
         least: bounds.least.as_ref(),
         greatest: bounds.greatest.as_ref(),
-    }
+    })
+}
+
+/// Whether so many numbers of 64 bits can add up to a sum.
+fn is_within(values: u64, sum: i128) -> bool
+    requires { values < 2 ^ 31 }
+    ensures { OnTrue result (IsWithin values sum) }
+{
+    let most = i128::from(values) * 0x8000_0000_0000_0000;
+    -most <= sum && sum <= most
 }
 
 /// What the chosen of packed codes come to.

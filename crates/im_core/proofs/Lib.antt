@@ -3,6 +3,8 @@ mod CountLemmas
 mod FetchLemmas
 mod HoldsLemmas
 mod LendLemmas
+mod OpenLemmas
+mod PinLemmas
 mod RefusalLemmas
 mod RewriteLemmas
 mod SeenLemmas

@@ -1,3 +1,4 @@
 pub mod inner
 pub mod Answers
+pub mod Pins
 pub mod Seen

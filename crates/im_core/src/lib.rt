@@ -7,7 +7,8 @@
 //! reserved when the cursor was opened and the transaction began.
 //!
 //! The main promise is that the history is legal: no write is lost, since a row that another session has changed, or that
-//! was committed after the writer's snapshot, is refused at once.
+//! was committed after the writer's snapshot, is refused at once. [`pins_of_a_cursor_are_one`] is the law that a cursor sees the
+//! same rows of an extent at any two moments, whichever units it was lent.
 //!
 //! Start with `specs/Seen.antt` and `store.rt`; `specs/inner/Holds.antt` says how what is kept agrees with the history.
 #![tactic(auto)]
@@ -15,6 +16,7 @@
 mod answers;
 mod chronicle;
 mod cursors;
+mod laws;
 mod refusals;
 mod store;
 mod tables;
@@ -25,4 +27,5 @@ mod writes;
 
 pub use answers::{Begun, Committed, Evicted, Made, Offer, Pin, Switched, Wrote};
 pub use im_history::Fetched;
+pub use laws::pins_of_a_cursor_are_one;
 pub use store::Core;

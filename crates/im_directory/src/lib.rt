@@ -15,10 +15,10 @@
 //! Start with `specs/Slots.antt`, then `directory.rt`, `specs/Effects.antt`, `specs/Lists.antt` and `specs/Agrees.antt`.
 #![tactic(auto)]
 
-mod agreement;
 mod builds;
 mod directory;
 mod journals;
+mod laws;
 mod lists;
 mod marks;
 mod noting;
@@ -26,5 +26,5 @@ mod range;
 mod shelves;
 mod slot;
 
-pub use agreement::agreement_is_kept;
 pub use directory::Directory;
+pub use laws::agreement_is_kept;

@@ -20,4 +20,6 @@ mod OrderFree
 mod MadeLaws
 mod CountLaws
 mod QueryLemmas
+mod PlaceLaws
+mod TogetherLaws
 pub mod ForCallers

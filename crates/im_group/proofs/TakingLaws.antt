@@ -20,7 +20,7 @@ part_of b bound found = cond b (parts_of [] (groups_of bound (map (λ r. r.1) fo
 module _ {K : Type 0} (f : K → List Value) (bound : Bound) (part : Parts) (es : List (K × Tallied)) (of : held f es ≡ part.groups)
     (grouped : bound.grouped ≡ true) where
   -- the groups that are held are those of the rows
-  groups-are : (rows : List Numbered) → part ≡ partial bound rows → GroupsAre bound (map (λ r. r.1) (kept bound rows)) (keyed f es)
+  pub groups-are : (rows : List Numbered) → part ≡ partial bound rows → GroupsAre bound (map (λ r. r.1) (kept bound rows)) (keyed f es)
   groups-are rows is = record {
     at = λ q.
         sym (map_of.get-from_entries key_total (keyed f es) q)

@@ -2,3 +2,4 @@ pub mod Steps
 pub mod Holding
 pub mod PartialCode
 pub mod Narrowing
+pub mod Places

@@ -4,12 +4,15 @@ ghost use Rattle.std.specs.Option.{ForSome};
 ghost use Rattle.indexmap.specs.IndexMap.{spare};
 ghost use Rattle.im_syntax.specs.BoundFits.{BoundFits, FilterFits};
 ghost use Rattle.im_group.specs.inner.Holding.{CanJoinGroups, CanTake, as_groups, asked_by, own, with_first, with_group, with_taken};
+ghost use Rattle.im_group.specs.MadeGroups.{with_sums};
 ghost use Rattle.im_group.specs.Partials as spec;
 ghost use Rattle.im_group.specs.inner.Steps.{stands_at, tallies_at, first_groups, one_group};
 ghost use Rattle.im_group.specs.Tallies.{CanJoin, tallied};
 
 use crate::asked::Asked;
+use crate::hints::{Hints, slot_of};
 use crate::near::near;
+use crate::sums::Sums;
 use crate::tallies::Tallies;
 use im_eval::holds;
 use im_syntax::{Bound, Filter};
@@ -20,10 +23,10 @@ use std::alloc::Global;
 /// The groups of a query, by the values in the columns of GROUP BY.
 pub type Groups = IndexMap<Vec<Value>, Tallies>;
 
-/// What is kept from row to row: where the group of the last row stands, and room for the key of a row.
+/// What is kept from row to row: where groups stood, and room for the key of a row.
 #[derive(Drop)]
 pub struct Room {
-    last: usize,
+    hints: Hints,
     key: Vec<Value>,
 }
 
@@ -31,7 +34,7 @@ impl Room {
     /// Room before the first row. It takes no memory.
     pub fn new(alloc: Global) -> Room {
         Room {
-            last: 0,
+            hints: Hints::new(),
             key: Vec::new(alloc),
         }
     }
@@ -118,7 +121,7 @@ fn take_looked_up(
     asked: &[Asked],
     key: &[Value],
     row: &[Value],
-    last: &mut usize,
+    found: &mut usize,
     groups: &mut Groups,
 ) -> Result<(), NoMemory>
     requires fits { AllByRecursion (λ a. a.column < length row.now) asked.now }
@@ -128,17 +131,18 @@ fn take_looked_up(
 {
     match groups.get_index_of(key) {
         Some(place) => {
-            *last = place;
+            *found = place;
             take_there(alloc, columns, asked, place, row, groups)
         }
         None => {
-            *last = groups.len();
+            *found = groups.len();
             put_group(alloc, asked, key, row, groups)
         }
     }
 }
 
 /// The group of the key of a row takes the row. The key is looked up where the group is not near.
+#[inline(always)]
 fn take_grouped(
     alloc: Global,
     columns: &[u32],
@@ -152,22 +156,16 @@ fn take_grouped(
     requires few { CanTake asked.now (own groups.old.entries) (spec.key_of columns.now row.now) }
     ensures { OnOk result (own groups.new.entries ≡ with_taken asked.now (own groups.old.entries) (spec.key_of columns.now row.now) row.now) }
 {
-    match near(columns, row, groups, room.last) {
-        Some(place) => {
-            room.last = place;
-            take_there(alloc, columns, asked, place, row, groups)
-        }
+    let slot = slot_of(columns, row);
+    match near(columns, row, groups, room.hints.place(slot)) {
+        Some(place) => take_there(alloc, columns, asked, place, row, groups),
         None => {
             write_key(alloc, columns, row, &mut room.key)?;
-            take_looked_up(
-                alloc,
-                columns,
-                asked,
-                room.key.as_slice(),
-                row,
-                &mut room.last,
-                groups,
-            )
+            let key = room.key.as_slice();
+            let mut found = 0;
+            take_looked_up(alloc, columns, asked, key, row, &mut found, groups)?;
+            room.hints.point(slot, found);
+            Ok(())
         }
     }
 }
@@ -238,6 +236,18 @@ fn join_group(groups: &mut Groups, key: Vec<Value>, tallies: Tallies)
         None => {
             groups.insert(key, tallies).unwrap();
         }
+    }
+}
+
+/// The group at the first place, which is that of the empty key, takes so many rows with these summaries.
+pub fn join_first(groups: &mut Groups, rows: u64, sums: Vec<Sums>)
+    requires there { stands_at (own groups.old.entries) [] 0 ≡ true }
+    requires few { ForSome (tallies_at (own groups.old.entries) []) (λ old. CanJoin old (with_sums rows sums.items)) }
+    ensures { own groups.new.entries ≡ with_group (own groups.old.entries) [] (with_sums rows sums.items) }
+{
+    match groups.get_index_mut(0) {
+        Some(tallies) => tallies.join(Tallies::of(rows, sums)),
+        None => {}
     }
 }
 

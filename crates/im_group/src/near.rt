@@ -8,10 +8,8 @@ ghost use Rattle.im_group.specs.Partials as spec;
 use crate::grouping::Groups;
 use im_values::Value;
 
-/// Where there are so few groups, their keys are compared one by one before a key is looked up.
-const FEW: usize = 8;
-
 /// Whether a row has this key. Nothing is copied or hashed.
+#[inline(always)]
 fn has_key(columns: &[u32], row: &[Value], key: &[Value]) -> bool
     requires { AllByRecursion (λ column. column < length row.now) columns.now }
     ensures { result ≡ spec.is_key (spec.key_of columns.now row.now) key.now }
@@ -28,6 +26,7 @@ fn has_key(columns: &[u32], row: &[Value], key: &[Value]) -> bool
 }
 
 /// Whether the group at a place has the key of a row.
+#[inline(always)]
 fn is_at(columns: &[u32], row: &[Value], groups: &Groups, place: usize) -> bool
     requires { AllByRecursion (λ column. column < length row.now) columns.now }
     ensures { result ≡ stands_at (own groups.now.entries) (spec.key_of columns.now row.now) place }
@@ -38,20 +37,15 @@ fn is_at(columns: &[u32], row: &[Value], groups: &Groups, place: usize) -> bool
     }
 }
 
-/// Where the group of the key of a row stands, if it is that of the last row or one of few. It takes no memory.
-pub fn near(columns: &[u32], row: &[Value], groups: &Groups, last: usize) -> Option<usize>
+/// Where the group of the key of a row stands, if it is at a place that is only thought of. It takes no memory.
+#[inline(always)]
+pub fn near(columns: &[u32], row: &[Value], groups: &Groups, thought: usize) -> Option<usize>
     requires { AllByRecursion (λ column. column < length row.now) columns.now }
     ensures { ForSome result (λ place. stands_at (own groups.now.entries) (spec.key_of columns.now row.now) place ≡ true) }
 {
-    if is_at(columns, row, groups, last) {
-        return Some(last);
+    if is_at(columns, row, groups, thought) {
+        Some(thought)
+    } else {
+        None
     }
-    if groups.len() <= FEW {
-        for place in 0..groups.len() {
-            if is_at(columns, row, groups, place) {
-                return Some(place);
-            }
-        }
-    }
-    None
 }

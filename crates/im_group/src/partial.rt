@@ -3,6 +3,7 @@ ghost use Rattle.std.specs.List.{AllByRecursion};
 ghost use Rattle.im_syntax.specs.BoundFits.{BoundFits};
 ghost use Rattle.im_syntax.specs.BoundQuery.{IsOfGroup, IsQuery};
 ghost use Rattle.im_group.specs.inner.Holding.{AreKeyed, as_groups, entry_order, held_records};
+ghost use Rattle.im_group.specs.MadeGroups.{GoesOnTogether, HasRoomTogether};
 ghost use Rattle.im_group.specs.Partials as spec;
 ghost use Rattle.im_group.specs.Tallies as group;
 ghost use Rattle.im_group.specs.Answers.{finished, group_records, in_order, part_records};
@@ -10,9 +11,13 @@ ghost use Rattle.im_group.specs.Answers.{finished, group_records, in_order, part
 use crate::asked::{Asked, asked_in};
 use crate::asking::{Asking, wanted};
 use crate::cell::Cell;
-use crate::grouping::{Groups, Room, copy_groups, join_groups, keeps, no_groups, take_row};
+use crate::grouping::{
+    Groups, Room, copy_groups, join_first, join_groups, keeps, no_groups, take_row,
+};
+use crate::places::Places;
 use crate::record::Record;
 use crate::records::{group_record, projected, put_in_order, row_records};
+use crate::sums::Sums;
 use im_syntax::{Bound, Item};
 use im_values::{NoMemory, Row, Value, clone_row, copied};
 use indexmap::IndexMap;
@@ -101,9 +106,18 @@ fn put_records(
     requires keyed { AreKeyed (length bound.now.groups) groups.entries }
     ensures { OnOk result (records.new.items ≡ records.old.items ++ held_records bound.now.groups asked.now wanted.now groups.entries) }
 {
+    let columns = bound.groups.items();
+    let places = Places::of(alloc, columns)?;
     for (key, tallies) in groups {
-        let columns = bound.groups.items();
-        records.push(group_record(alloc, columns, asked, wanted, key.as_slice(), &tallies)?)?;
+        records.push(group_record(
+            alloc,
+            columns,
+            &places,
+            asked,
+            wanted,
+            key.as_slice(),
+            &tallies,
+        )?)?;
     }
     Ok(())
 }
@@ -255,6 +269,19 @@ impl Partial {
             self.rows.push((number, row))?;
             Ok(())
         }
+    }
+
+    /// Takes rows that follow those so far all together, and without a row: how many of them the query keeps, and a summary of
+    /// each column of [`Asking::asked`], in that order, NULL in place of an end that is not asked for.
+    ///
+    /// The one group takes them. Nothing is looked up, and it takes no memory.
+    pub fn take_together(&mut self, _asking: &Asking<'_>, rows: u64, sums: Vec<Sums>)
+        requires grouped { _asking.now.grouped ≡ true }
+        requires whole { _asking.now.groups ≡ [] }
+        requires few { HasRoomTogether _asking.now self.old rows sums.items }
+        ensures { GoesOnTogether _asking.now self.old rows sums.items self.new }
+    {
+        join_first(&mut self.groups, rows, sums);
     }
 
     /// The group of a row that a grouped query keeps takes it.

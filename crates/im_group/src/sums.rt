@@ -153,6 +153,7 @@ impl Sums {
     }
 
     /// Counts a value and adds it up. NULL is neither counted nor added.
+    #[inline(always)]
     fn add(&mut self, value: &Value)
         requires { self.old.values + 1 < 2 ^ 64 }
         ensures { self.new ≡ spec.added self.old value.now }
@@ -176,6 +177,7 @@ impl Sums {
     }
 
     /// Takes the value of one row more. Where memory is out, what the summary is then is not said.
+    #[inline(always)]
     pub(crate) fn take(
         &mut self,
         alloc: Global,
@@ -188,7 +190,11 @@ impl Sums {
     {
         let value = &row[asked.column as usize];
         self.add(value);
-        self.compare(alloc, asked, value)
+        if asked.least || asked.greatest {
+            self.compare(alloc, asked, value)
+        } else {
+            Ok(())
+        }
     }
 
     /// Takes what another summary of the same column has taken. It takes no memory.

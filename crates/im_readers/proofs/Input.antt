@@ -2,7 +2,7 @@
 use Rattle.std.proofs.Common.{◌≡◌, ℕ, zero, suc, ◌-◌, ◌≤◌, ◌<◌, Bool, false, List, [], ◌∷◌, ◌++◌, length, length-append, take, refl, sym, ap, subst, ◌∙◌, append_assoc, arith}
 use Rattle.std.proofs.lemmas.List.{append-nil, take_at}
 use Rattle.im_readers.specs.Reading.{Read, Found, Stopped, ended, all_of}
-use Rattle.im_readers.specs.Grammar.{Ends, at_end, at_other, SameFirst, one_first, BeginsGood, Takes, Stops, Outcome, Reads, IsLongest}
+use Rattle.im_readers.specs.Grammar.{Ends, at_end, at_other, SameFirst, one_first, BeginsGood, Takes, Stops, ParseResult, Reads, IsLongest}
 
 -- a front that is longer than another has the token behind that one
 take-past : {T : Type 0} (front : List T) (t : T) (rest : List T) (m : ℕ) → length front < m
@@ -41,7 +41,7 @@ module _ {T A : Type 0} {spell : A → List T} {good : A → Type 0} {goes : A �
   pub all_only : (a : A) → good a → all_of p (spell a) ≡ Found a []
   all_only a g = ap (λ (r : Read T A). ended r) (read_alone a g)
 
-  found_is : (ts : List T) (r : Read T A) → Outcome spell good goes p ts r → (a : A) (rest : List T) → ended r ≡ Found a rest → (ts ≡ spell a) × good a
+  found_is : (ts : List T) (r : Read T A) → ParseResult spell good goes p ts r → (a : A) (rest : List T) → ended r ≡ Found a rest → (ts ≡ spell a) × good a
   found_is ts (Found a []) o b rest e =
       let same : a ≡ b = cc in
       subst (λ (x : A). (ts ≡ spell x) × good x) same (o.parts ∙ append-nil (spell a), o.is_good)
@@ -81,7 +81,7 @@ module _ {T A : Type 0} {spell : A → List T} {good : A → Type 0} {goes : A �
   other_fails : (a : A) (t : T) (us : List T) → Ends (goes a) (t ∷ us) → goes a t ≡ false
   other_fails a t us (at_other v vs e) = e
 
-  place_is : (ts : List T) (r : Read T A) → Outcome spell good goes p ts r → (left : ℕ) → ended r ≡ Stopped left → Place ts left
+  place_is : (ts : List T) (r : Read T A) → ParseResult spell good goes p ts r → (left : ℕ) → ended r ≡ Stopped left → Place ts left
   place_is ts (Found a []) o left e = absurd cc
   place_is ts (Found a (t ∷ us)) o left e =
       let is : length (t ∷ us) ≡ left = cc in

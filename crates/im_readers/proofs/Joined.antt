@@ -3,7 +3,7 @@ use Rattle.std.proofs.Common.{◌≡◌, ℕ, zero, suc, ◌+◌, ◌≤◌, ◌
 use Rattle.std.specs.Prelude.{◌||◌}
 use Rattle.std.specs.List.{AllByRecursion}
 use Rattle.im_readers.specs.Reading.{Read, Found, Stopped, and_then, both, made, after, optional, with_first, all_others, further, others, joined, joined_up_to}
-use Rattle.im_readers.specs.Grammar.{Ends, at_end, at_other, begins_with, Takes, Outcome, Reads, goes_both, goes_optional, spell_both, spell_optional, GoodBoth, GoodOptional, spell_others, spell_joined, UpTo, is_nil, GoodJoined, GoodJoinedUpTo, goes_further, goes_others, goes_joined, goes_joined_up_to}
+use Rattle.im_readers.specs.Grammar.{Ends, at_end, at_other, begins_with, Takes, ParseResult, Reads, goes_both, goes_optional, spell_both, spell_optional, GoodBoth, GoodOptional, spell_others, spell_joined, UpTo, is_nil, GoodJoined, GoodJoinedUpTo, goes_further, goes_others, goes_joined, goes_joined_up_to}
 use Rattle.im_readers.proofs.Steps.{flat, stepped, further-step, stepped-true}
 use Rattle.im_readers.proofs.Parts.{IsMark, Makes, both_law, made_law, after_law, optional_law}
 
@@ -15,7 +15,7 @@ module _ {T A : Type 0} {w : T} {is : T → Bool} {s : A → List T} {g : A → 
 
   -- ---- at most so many
 
-  none_answers : (ts : List T) → Outcome (spell_others w s) (UpTo 0 g) (goes_further w is s e 0) (further is p 0) ts (further is p 0 ts)
+  none_answers : (ts : List T) → ParseResult (spell_others w s) (UpTo 0 g) (goes_further w is s e 0) (further is p 0) ts (further is p 0 ts)
   unfolding further
   none_answers ts = record { parts = refl; is_good = record { each = tt; count = omega arith }; ends = Ends-none ts }
     where
@@ -83,7 +83,7 @@ module _ {T A : Type 0} {w : T} {is : T → Bool} {s : A → List T} {g : A → 
   rest_stops (Found xs rest) a n e = absurd cc
   rest_stops (Stopped left) a n e = cc
 
-  flat_stops : (j k : ℕ) (ts : List T) (n : ℕ) (r : Read T A) → Outcome s g e p ts r → length ts ≤ k
+  flat_stops : (j k : ℕ) (ts : List T) (n : ℕ) (r : Read T A) → ParseResult s g e p ts r → length ts ≤ k
       → ((mid : List T) → length mid ≤ k → further is p j mid ≡ Stopped n → further is p k mid ≡ Stopped n)
       → flat is p r (further is p j) ≡ Stopped n → flat is p r (further is p k) ≡ Stopped n
   unfolding flat
@@ -127,8 +127,8 @@ module _ {T A : Type 0} {w : T} {is : T → Bool} {s : A → List T} {g : A → 
   Ends-room k xs (t ∷ rest) le (at_other u us ends) = at_other t rest (sym (goes-enough k xs t (omega arith)) ∙ ends)
 
   others_answers : (ts : List T) (r : Read T (List A)) → further is p (length ts) ts ≡ r
-      → Outcome (spell_others w s) (UpTo (length ts) g) (goes_further w is s e (length ts)) (further is p (length ts)) ts r
-      → Outcome (spell_others w s) (AllByRecursion g) (goes_others w is s e) (others is p) ts r
+      → ParseResult (spell_others w s) (UpTo (length ts) g) (goes_further w is s e (length ts)) (further is p (length ts)) ts r
+      → ParseResult (spell_others w s) (AllByRecursion g) (goes_others w is s e) (others is p) ts r
   unfolding others
   others_answers ts (Found xs rest) h o = record {
     parts = o.parts;

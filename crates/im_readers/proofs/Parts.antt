@@ -1,7 +1,7 @@
 -- The law of each way to put readers together.
 use Rattle.std.proofs.Common.{◌≡◌, Bool, true, false, cond, List, [], ◌∷◌, ◌++◌, length, Option, Some, None, refl, sym, ap, subst, ◌∙◌, append_assoc}
 use Rattle.im_readers.specs.Reading.{Read, Found, Stopped, and_then, taken, one, mark, both, made, after, before, optional, picked}
-use Rattle.im_readers.specs.Grammar.{Ends, at_end, at_other, BeginsWith, begins_with, SameFirst, no_first, one_first, Takes, Stops, Outcome, Reads, goes_behind, never, Any, spell_both, goes_both, GoodBoth, spell_optional, GoodOptional, goes_optional}
+use Rattle.im_readers.specs.Grammar.{Ends, at_end, at_other, BeginsWith, begins_with, SameFirst, no_first, one_first, Takes, Stops, ParseResult, Reads, goes_behind, never, Any, spell_both, goes_both, GoodBoth, spell_optional, GoodOptional, goes_optional}
 use Rattle.im_readers.proofs.Fronts.{SameFirst-append, Ends-same, BeginsWith-same, BeginsWith-append, Ends-by, Ends-behind, Ends-first, Ends-second}
 
 -- ---- one value, and behind it another
@@ -10,8 +10,8 @@ module _ {T A B : Type 0} {sp : A → List T} {gp : A → Type 0} {ep : A → T 
     {sq : B → List T} {gq : B → Type 0} {eq : B → T → Bool} {q : List T → Read T B}
     (lp : Reads sp gp ep p) (lq : Reads sq gq eq q)
     (apart : (a : A) (b : B) → gp a → gq b → Ends (ep a) (sq b)) where
-  both_second : (ts : List T) (a : A) (mid : List T) → Takes sp gp ep ts a mid → p ts ≡ Found a mid → (r : Read T B) → q mid ≡ r → Outcome sq gq eq q mid r
-      → Outcome (spell_both sp sq) (GoodBoth gp gq) (goes_both sq ep eq) (both p q) ts (and_then r (λ b behind. Found (a, b) behind))
+  both_second : (ts : List T) (a : A) (mid : List T) → Takes sp gp ep ts a mid → p ts ≡ Found a mid → (r : Read T B) → q mid ≡ r → ParseResult sq gq eq q mid r
+      → ParseResult (spell_both sp sq) (GoodBoth gp gq) (goes_both sq ep eq) (both p q) ts (and_then r (λ b behind. Found (a, b) behind))
   both_second ts a mid first at_first (Found b rest) at_second second = record {
     parts = first.parts ∙ ap (λ (x : List T). sp a ++ x) second.parts ∙ sym (append_assoc (sp a) (sq b) rest);
     is_good = (first.is_good, second.is_good);
@@ -37,8 +37,8 @@ module _ {T A B : Type 0} {sp : A → List T} {gp : A → Type 0} {ep : A → T 
         ∙ ap (λ (r : Read T B). and_then r (λ b behind. Found (a, b) behind)) (second.again other same);
   }
 
-  both_answers : (ts : List T) (r : Read T A) → p ts ≡ r → Outcome sp gp ep p ts r
-      → Outcome (spell_both sp sq) (GoodBoth gp gq) (goes_both sq ep eq) (both p q) ts
+  both_answers : (ts : List T) (r : Read T A) → p ts ≡ r → ParseResult sp gp ep p ts r
+      → ParseResult (spell_both sp sq) (GoodBoth gp gq) (goes_both sq ep eq) (both p q) ts
       (and_then r (λ a rest. and_then (q rest) (λ b behind. Found (a, b) behind)))
   both_answers ts (Found a mid) at_first first = both_second ts a mid first at_first (q mid) refl (lq.answers mid)
   both_answers ts (Stopped left) at_first first = record {
@@ -79,7 +79,7 @@ module _ {T A B : Type 0} {sa : A → List T} {ga : A → Type 0} {ea : A → T 
     (sb : B → List T) (gb : B → Type 0) (eb : B → T → Bool) (f : A → B) (lp : Reads sa ga ea p)
     (forth : (a : A) → ga a → gb (f a)) (back : (b : B) → gb b → Makes f ga b)
     (spells : (a : A) → ga a → sb (f a) ≡ sa a) (goes : (a : A) → ga a → (t : T) → eb (f a) t ≡ ea a t) where
-  made_answers : (ts : List T) (r : Read T A) → Outcome sa ga ea p ts r → Outcome sb gb eb (made f p) ts (and_then r (λ a rest. Found (f a) rest))
+  made_answers : (ts : List T) (r : Read T A) → ParseResult sa ga ea p ts r → ParseResult sb gb eb (made f p) ts (and_then r (λ a rest. Found (f a) rest))
   made_answers ts (Found a rest) first = record {
     parts = first.parts ∙ ap (λ (x : List T). x ++ rest) (sym (spells a first.is_good));
     is_good = forth a first.is_good;
@@ -126,7 +126,7 @@ module _ {T A : Type 0} {s : A → List T} {g : A → Type 0} {e : A → T → B
     (s2 : A → List T) (g2 : A → Type 0) (e2 : A → T → Bool) (lp : Reads s g e p)
     (forth : (a : A) → g a → g2 a) (back : (a : A) → g2 a → g a)
     (spells : (a : A) → g a → s2 a ≡ s a) (goes : (a : A) → g a → (t : T) → e2 a t ≡ e a t) where
-  agreed_answers : (ts : List T) (r : Read T A) → Outcome s g e p ts r → Outcome s2 g2 e2 p ts r
+  agreed_answers : (ts : List T) (r : Read T A) → ParseResult s g e p ts r → ParseResult s2 g2 e2 p ts r
   agreed_answers ts (Found a rest) first = record {
     parts = first.parts ∙ ap (λ (x : List T). x ++ rest) (sym (spells a first.is_good));
     is_good = forth a first.is_good;
@@ -185,7 +185,7 @@ module _ {T A : Type 0} {token : A → T} {good : A → Type 0} {value : T → O
       one_again : (other : List T) → SameFirst (t ∷ ts) other → one value other ≡ Stopped (length other)
       one_again other (one_first u us vs) = ap (λ (o : Option A). taken o t vs) e
 
-  one_answers : (t : T) (ts : List T) (o : Option A) → value t ≡ o → Outcome (λ a. token a ∷ []) good never (one value) (t ∷ ts) (taken o t ts)
+  one_answers : (t : T) (ts : List T) (o : Option A) → value t ≡ o → ParseResult (λ a. token a ∷ []) good never (one value) (t ∷ ts) (taken o t ts)
   one_answers t ts (Some a) e = record { parts = ap (λ (x : T). x ∷ ts) (table.sound t a e).0; is_good = (table.sound t a e).1; ends = Ends-never ts }
     where
       Ends-never : (ts : List T) → Ends (λ t. false) ts
@@ -193,7 +193,7 @@ module _ {T A : Type 0} {token : A → T} {good : A → Type 0} {value : T → O
       Ends-never (t ∷ ts) = at_other t ts refl
   one_answers t ts None e = stops_first t ts e
 
-  one_at : (ts : List T) → Outcome (λ a. token a ∷ []) good never (one value) ts (one value ts)
+  one_at : (ts : List T) → ParseResult (λ a. token a ∷ []) good never (one value) ts (one value ts)
   one_at [] = record {
     front = [];
     rest = [];
@@ -266,8 +266,8 @@ module _ {T A : Type 0} {sp : A → List T} {gp : A → Type 0} {ep : A → T �
   optional_at : (ts : List T) → BeginsWith begins ts → optional begins p ts ≡ made Some p ts
   optional_at ts (begins_with t us e) = ap (λ (b : Bool). cond b (made Some p (t ∷ us)) (Found None (t ∷ us))) e
 
-  some_answers : (ts : List T) → BeginsWith begins ts → (r : Read T A) → Outcome sp gp ep p ts r
-      → Outcome (spell_optional sp) (GoodOptional gp) (goes_optional begins ep) (optional begins p) ts (and_then r (λ a rest. Found (Some a) rest))
+  some_answers : (ts : List T) → BeginsWith begins ts → (r : Read T A) → ParseResult sp gp ep p ts r
+      → ParseResult (spell_optional sp) (GoodOptional gp) (goes_optional begins ep) (optional begins p) ts (and_then r (λ a rest. Found (Some a) rest))
   some_answers ts b (Found a rest) first = record { parts = first.parts; is_good = first.is_good; ends = first.ends }
   some_answers ts b (Stopped left) first = record {
     front = first.front;
@@ -283,12 +283,12 @@ module _ {T A : Type 0} {sp : A → List T} {gp : A → Type 0} {ep : A → T �
   }
 
   optional_answers : (t : T) (ts : List T) (b : Bool) → begins t ≡ b
-      → Outcome (spell_optional sp) (GoodOptional gp) (goes_optional begins ep) (optional begins p) (t ∷ ts)
+      → ParseResult (spell_optional sp) (GoodOptional gp) (goes_optional begins ep) (optional begins p) (t ∷ ts)
       (cond b (made Some p (t ∷ ts)) (Found None (t ∷ ts)))
   optional_answers t ts true e = some_answers (t ∷ ts) (begins_with t ts e) (p (t ∷ ts)) (lp.answers (t ∷ ts))
   optional_answers t ts false e = record { parts = refl; is_good = tt; ends = at_other t ts e }
 
-  optional_answers_at : (ts : List T) → Outcome (spell_optional sp) (GoodOptional gp) (goes_optional begins ep) (optional begins p) ts (optional begins p ts)
+  optional_answers_at : (ts : List T) → ParseResult (spell_optional sp) (GoodOptional gp) (goes_optional begins ep) (optional begins p) ts (optional begins p ts)
   optional_answers_at [] = record { parts = refl; is_good = tt; ends = at_end }
   optional_answers_at (t ∷ ts) = optional_answers t ts (begins t) refl
 
@@ -343,8 +343,8 @@ module _ {T A K : Type 0} (spell : A → List T) (good : A → Type 0) (goes : A
   picked_at : (k : K) (ts : List T) → FirstKind kind k ts → picked kind choose ts ≡ choose k ts
   picked_at k ts (first_kind t us e) = ap (λ (x : K). choose x (t ∷ us)) e
 
-  chosen_answers : (k : K) (ts : List T) → FirstKind kind k ts → (r : Read T A) → Outcome spell (GoodFirst good first k) goes (choose k) ts r
-      → Outcome spell good goes (picked kind choose) ts r
+  chosen_answers : (k : K) (ts : List T) → FirstKind kind k ts → (r : Read T A) → ParseResult spell (GoodFirst good first k) goes (choose k) ts r
+      → ParseResult spell good goes (picked kind choose) ts r
   chosen_answers k ts f (Found a rest) o = record { parts = o.parts; is_good = o.is_good.is_good; ends = o.ends }
   chosen_answers k ts f (Stopped left) o = record {
     front = o.front;
@@ -364,10 +364,10 @@ module _ {T A K : Type 0} (spell : A → List T) (good : A → Type 0) (goes : A
   none_again t ts other stops (one_first u us vs) = stops (t ∷ vs)
 
   first_answers : (t : T) (ts : List T) → Choice spell good goes first (kind t) (choose (kind t))
-      → Outcome spell good goes (picked kind choose) (t ∷ ts) (choose (kind t) (t ∷ ts))
+      → ParseResult spell good goes (picked kind choose) (t ∷ ts) (choose (kind t) (t ∷ ts))
   first_answers t ts (chosen l) = chosen_answers (kind t) (t ∷ ts) (first_kind t ts refl) (choose (kind t) (t ∷ ts)) (l.answers (t ∷ ts))
   first_answers t ts (none_chosen stops none) =
-      let o : Outcome spell good goes (picked kind choose) (t ∷ ts) (Stopped (length (t ∷ ts))) = record {
+      let o : ParseResult spell good goes (picked kind choose) (t ∷ ts) (Stopped (length (t ∷ ts))) = record {
         front = [];
         rest = t ∷ ts;
         parts = refl;
@@ -375,12 +375,12 @@ module _ {T A K : Type 0} (spell : A → List T) (good : A → Type 0) (goes : A
         begun = record { of = some; is_good = some_good; more = spell some; spells = refl };
         again = λ other same. none_again t ts other stops same;
       } in
-      subst (λ (r : Read T A). Outcome spell good goes (picked kind choose) (t ∷ ts) r) (sym (stops (t ∷ ts))) o
+      subst (λ (r : Read T A). ParseResult spell good goes (picked kind choose) (t ∷ ts) r) (sym (stops (t ∷ ts))) o
 
   empty_again : (other : List T) → SameFirst [] other → picked kind choose other ≡ Stopped (length other)
   empty_again other no_first = refl
 
-  picked_answers : (ts : List T) → Outcome spell good goes (picked kind choose) ts (picked kind choose ts)
+  picked_answers : (ts : List T) → ParseResult spell good goes (picked kind choose) ts (picked kind choose ts)
   picked_answers [] = record {
     front = [];
     rest = [];

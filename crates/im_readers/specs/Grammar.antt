@@ -39,15 +39,16 @@ pub record Stops {T A : Type 0} (spell : A → List T) (good : A → Type 0) (re
   pub begun : BeginsGood spell good front
   pub again : (other : List T) → SameFirst rest other → read (front ++ other) ≡ Stopped (length other)
 
-abbrev pub Outcome : {T A : Type 0} → (A → List T) → (A → Type 0) → (A → T → Bool) → (List T → Read T A) → List T → Read T A → Type 0
-Outcome spell good goes read ts (Found a rest) = Takes spell good goes ts a rest
-Outcome spell good goes read ts (Stopped left) = Stops spell good read ts left
+-- what a reader says by its result, whether it found a value or stopped
+abbrev pub ParseResult : {T A : Type 0} → (A → List T) → (A → Type 0) → (A → T → Bool) → (List T → Read T A) → List T → Read T A → Type 0
+ParseResult spell good goes read ts (Found a rest) = Takes spell good goes ts a rest
+ParseResult spell good goes read ts (Stopped left) = Stops spell good read ts left
 
 -- The reader reads a part of a grammar: some value is good, whatever it answers is so, and the spelling of each good value is read again.
 pub record Reads {T A : Type 0} (spell : A → List T) (good : A → Type 0) (goes : A → T → Bool) (read : List T → Read T A) : Type 0 where
   pub some : A
   pub some_good : good some
-  pub answers : (ts : List T) → Outcome spell good goes read ts (read ts)
+  pub answers : (ts : List T) → ParseResult spell good goes read ts (read ts)
   pub whole : (a : A) (rest : List T) → good a → Ends (goes a) rest → read (spell a ++ rest) ≡ Found a rest
 
 -- ---- the spelling, the rule and the tokens that go on, for values put together

@@ -12,7 +12,7 @@ use Rattle.im_group.specs.Sums.{SumsOf, sums_of}
 use Rattle.im_group.specs.Tallies.{Tallied}
 use Rattle.im_unit.specs.Holding.{values_in}
 use Rattle.im_scan.specs.inner.ByCode.{AreAllTallies, ComeTo, group_for, groups_for}
-use Rattle.im_scan.specs.inner.Summed.{with_sums}
+use Rattle.im_group.specs.MadeGroups.{with_sums}
 
 -- ---- tallies of all columns
 

@@ -1,5 +1,5 @@
 -- The groups of the rows of a unit, by the values of one column.
-use Rattle.std.proofs.Common.{◌≡◌, Contains, ℕ, zero, suc, ◌+◌, ◌==◌, ◌<◌, Bool, true, false, if◌then◌else◌, List, [], ◌∷◌, length, map, filter, slice_index_or, slice_index, refl, sym, ap, subst, ◌∙◌, arith}
+use Rattle.std.proofs.Common.{◌≡◌, Contains, ℕ, zero, suc, ◌+◌, ◌==◌, ◌<◌, Bool, true, false, if◌then◌else◌, List, [], ◌∷◌, length, map, slice_index_or, slice_index, refl, sym, ap, subst, ◌∙◌, arith}
 use Rattle.std.specs.Prelude.{cond}
 use Rattle.std.specs.List.{AllByRecursion}
 use Rattle.std.specs.Ordering.{is_eq, ordering_reverse, ordering_then}
@@ -20,15 +20,14 @@ use Rattle.im_history.specs.Units.{Content}
 use Rattle.im_codes.specs.Dictionary.{StandAt, values_at}
 use Rattle.im_codepred.specs.Tallies.{AreCounts, beside, chosen, count_of}
 use Rattle.im_group.specs.declared.asked.Asked.{Asked}
-use Rattle.im_group.specs.MadeGroups.{AreGroupsOf, kept_values}
-use Rattle.im_group.specs.Partials.{Numbered, is_key, keeps, key_of, keys_of, members, tallies_of}
+use Rattle.im_group.specs.MadeGroups.{AreGroupsOf, kept_values, with_sums}
+use Rattle.im_group.specs.Partials.{Numbered, is_key, key_of, keys_of, members, tallies_of}
 use Rattle.im_group.specs.Sums.{column_of, sums_of}
 use Rattle.im_group.specs.Tallies.{Tallied, asked_in, tallied, wanted}
 use Rattle.im_group.proofs.ForCallers.{AreGroupsOf-both}
 use Rattle.im_unit.specs.Holding.{present_rows, values_in}
 use Rattle.im_scan.specs.inner.ByCode.{AreByCode, IsGroupedBy, group_for, groups_for}
-use Rattle.im_scan.specs.inner.Summed.{rows_kept, with_sums}
-use Rattle.im_scan.proofs.SummedLemmas.{chosen-filter, map-same}
+use Rattle.im_scan.proofs.SummedLemmas.{chosen-map, map-same}
 
 -- ---- values that tie
 
@@ -235,44 +234,39 @@ keys-back column rows asked values (r ∷ some) there among = (
   keys-back column rows asked values some there.1 among.1,
 )
 
--- what holds of the values of rows holds of those that are kept
-all-kept : (Q : Value → Type 0) (f : Row → Value) (p : Row → Bool) (rows : List Row) → AllByRecursion Q (map f rows) →
-    AllByRecursion Q (map f (filter p rows))
-all-kept Q f p [] all = tt
-all-kept Q f p (r ∷ rows) all = by (p r) (all-kept Q f p rows all.1)
-  where
-    by : (b : Bool) → AllByRecursion Q (map f (filter p rows)) → AllByRecursion Q (map f (if b then r ∷ filter p rows else filter p rows))
-    by true later = (all.0, later)
-    by false later = later
+-- what holds of the values of rows holds of those that are chosen
+all-chosen : (Q : Value → Type 0) (f : Row → Value) (mask : List Bool) (rows : List Row) → AllByRecursion Q (map f rows) →
+    AllByRecursion Q (map f (chosen mask rows))
+all-chosen Q f [] rows all = tt
+all-chosen Q f (here ∷ mask) [] all = tt
+all-chosen Q f (true ∷ mask) (r ∷ rows) all = (all.0, all-chosen Q f mask rows all.1)
+all-chosen Q f (false ∷ mask) (r ∷ rows) all = all-chosen Q f mask rows all.1
 
 -- ---- the groups of the chosen rows
 
--- they are those of the kept rows
+-- they are those of any rows of which a query keeps the chosen ones
 pub by-code-groups : (bound : Bound) (column : ℕ) (content : Content) (spots : List Bool) (keys : List Value) (rows : List Numbered)
     (asked : List Asked) (groups : List (List Value × Tallied)) → IsGroupedBy column bound →
-    spots ≡ map (keeps bound.filter) (present_rows content.rows) → kept_values bound rows ≡ rows_kept bound content →
+    kept_values bound rows ≡ chosen spots (present_rows content.rows) →
     asked ≡ asked_in (wanted bound) → keys ≡ values_in column (present_rows content.rows) →
     AreByCode spots keys (present_rows content.rows) asked groups → AreGroupsOf bound rows groups
-by-code-groups bound column content spots keys rows asked groups by_one is same asks keys_are are =
+by-code-groups bound column content spots keys rows asked groups by_one same asks keys_are are =
     subst (AreGroupsOf bound rows) (sym made) (AreGroupsOf-both bound rows found tallies there back)
   where
     held : List Row
     held = present_rows content.rows
 
-    kept_rows : List Row
-    kept_rows = rows_kept bound content
+    taken : List Row
+    taken = chosen spots held
 
     found : List (List Value × Tallied)
-    found = coded_groups column kept_rows asked are.values
+    found = coded_groups column taken asked are.values
 
-    same_key : chosen spots keys ≡ map (λ r. value_at r column) kept_rows
-    same_key =
-        ap (λ (m : List Bool). chosen m keys) is
-        ∙ (ap (λ (ks : List Value). chosen (map (keeps bound.filter) held) ks) keys_are ∙ chosen-filter (keeps bound.filter) (λ r. value_at r column) held)
+    same_key : chosen spots keys ≡ map (λ r. value_at r column) taken
+    same_key = ap (λ (ks : List Value). chosen spots ks) keys_are ∙ chosen-map spots (λ r. value_at r column) held
 
-    same_column : (a : Asked) → chosen spots (values_in a.column held) ≡ values_in a.column kept_rows
-    same_column a =
-        ap (λ (m : List Bool). chosen m (values_in a.column held)) is ∙ chosen-filter (keeps bound.filter) (λ r. value_at r a.column) held
+    same_column : (a : Asked) → chosen spots (values_in a.column held) ≡ values_in a.column taken
+    same_column a = chosen-map spots (λ r. value_at r a.column) held
 
     made : groups ≡ found
     made =
@@ -282,26 +276,26 @@ by-code-groups bound column content spots keys rows asked groups by_one is same 
     tallies : AllByRecursion (λ g. g.1 ≡ tallies_of bound (kept_values bound rows) g.0) found
     tallies =
         subst (λ (vs : List Row). AllByRecursion (λ g. g.1 ≡ tallies_of bound vs g.0) found) (sym same)
-        (subst (λ (qs : List Asked). AllByRecursion (λ g. g.1 ≡ tallied qs (members bound.groups kept_rows g.0)) found) asks
-        (subst (λ (cs : List ℕ). AllByRecursion (λ g. g.1 ≡ tallied asked (members cs kept_rows g.0)) found) (sym by_one.alone)
-        (all-tallied column kept_rows asked are.values)))
+        (subst (λ (qs : List Asked). AllByRecursion (λ g. g.1 ≡ tallied qs (members bound.groups taken g.0)) found) asks
+        (subst (λ (cs : List ℕ). AllByRecursion (λ g. g.1 ≡ tallied asked (members cs taken g.0)) found) (sym by_one.alone)
+        (all-tallied column taken asked are.values)))
 
     there : AllByRecursion (Contains (keys_of bound.groups (kept_values bound rows))) (map (λ g. g.0) found)
     there =
         subst (λ (vs : List Row). AllByRecursion (Contains (keys_of bound.groups vs)) (map (λ g. g.0) found)) (sym same)
-        (subst (λ (cs : List ℕ). AllByRecursion (Contains (keys_of cs kept_rows)) (map (λ g. g.0) found)) (sym by_one.alone)
-        (keys-there column kept_rows asked are.values))
+        (subst (λ (cs : List ℕ). AllByRecursion (Contains (keys_of cs taken)) (map (λ g. g.0) found)) (sym by_one.alone)
+        (keys-there column taken asked are.values))
 
-    among : AllByRecursion (Contains are.values) (map (λ r. value_at r column) kept_rows)
+    among : AllByRecursion (Contains are.values) (map (λ r. value_at r column) taken)
     among =
-        all-kept (Contains are.values) (λ r. value_at r column) (keeps bound.filter) held
+        all-chosen (Contains are.values) (λ r. value_at r column) spots held
         (subst (λ (ks : List Value). AllByRecursion (Contains are.values) ks) keys_are are.all)
 
     back : AllByRecursion (Contains (map (λ g. g.0) found)) (keys_of bound.groups (kept_values bound rows))
     back =
         subst (λ (vs : List Row). AllByRecursion (Contains (map (λ g. g.0) found)) (keys_of bound.groups vs)) (sym same)
-        (subst (λ (cs : List ℕ). AllByRecursion (Contains (map (λ g. g.0) found)) (keys_of cs kept_rows)) (sym by_one.alone)
-        (keys-back column kept_rows asked are.values kept_rows (all-among (map (λ r. value_at r column) kept_rows)) among))
+        (subst (λ (cs : List ℕ). AllByRecursion (Contains (map (λ g. g.0) found)) (keys_of cs taken)) (sym by_one.alone)
+        (keys-back column taken asked are.values taken (all-among (map (λ r. value_at r column) taken)) among))
 
 -- ---- codes
 

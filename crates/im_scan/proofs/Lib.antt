@@ -15,3 +15,5 @@ mod RunLemmas
 mod CodedLemmas
 mod ByCodeLemmas
 mod SummedLemmas
+mod LeftLemmas
+mod LeftPart

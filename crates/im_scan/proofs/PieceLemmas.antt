@@ -157,7 +157,7 @@ pub length-numbered-run : (first : ℕ) (rows : List Row) → length (numbered_a
 length-numbered-run first [] = refl
 length-numbered-run first (row ∷ rows) = ap suc (length-numbered-run (first + 1) rows)
 
-numbered-append : (xs ys : List (ℕ × Option Row)) → numbered_all (xs ++ ys) ≡ numbered_all xs ++ numbered_all ys
+pub numbered-append : (xs ys : List (ℕ × Option Row)) → numbered_all (xs ++ ys) ≡ numbered_all xs ++ numbered_all ys
 numbered-append xs ys = flat_map-append (λ f. numbered f.0 f.1) xs ys
 
 pub goes-nowhere : (bound : Bound) (part : Parts) → GoesOnBy bound part [] part
@@ -194,7 +194,7 @@ few-one : (rid n : ℕ) (row : Option Row) (rows : List Numbered) → length row
 few-one rid n None rows less = omega (arith, less)
 few-one rid n (Some row) rows less = omega (arith, less)
 
-few-all : (fetched : List (ℕ × Option Row)) → length (numbered_all fetched) ≤ length fetched
+pub few-all : (fetched : List (ℕ × Option Row)) → length (numbered_all fetched) ≤ length fetched
 few-all [] = omega arith
 few-all (f ∷ fetched) = few-one f.0 (length fetched) f.1 (numbered_all fetched) (few-all fetched)
 

@@ -1,22 +1,23 @@
 -- The part of a query that takes the rows of a run together, by a summary of each column.
-use Rattle.std.proofs.Common.{◌≡◌, All, ℕ, ◌+◌, Bool, true, false, if◌then◌else◌, List, [], ◌∷◌, length, map, filter, count_by, refl, sym, ap, subst, ◌∙◌, arith}
+use Rattle.std.proofs.Common.{◌≡◌, All, ℕ, ◌+◌, Bool, true, false, if◌then◌else◌, List, [], ◌∷◌, length, map, filter, count_by, Some, refl, sym, ap, subst, ◌∙◌, arith}
 use Rattle.std.specs.List.{AllByRecursion}
 use Rattle.std.proofs.lemmas.List.Elements.{All-from_recursion}
 use Rattle.im_syntax.specs.declared.bound.Bound.{Bound}
-use Rattle.im_syntax.specs.BoundFits.{BoundFits, HasColumn}
+use Rattle.im_syntax.specs.BoundFits.{BoundFits, FilterFits, HasColumn}
+use Rattle.im_syntax.specs.Condition.{CondOf}
+use Rattle.im_values.specs.declared.value.Value.{Value}
 use Rattle.im_history.specs.Fetched.{run_from}
 use Rattle.im_history.specs.Rows.{Row}
 use Rattle.im_codepred.specs.Tallies.{chosen}
 use Rattle.im_group.specs.declared.asked.Asked.{Asked}
-use Rattle.im_group.specs.MadeGroups.{kept_values}
-use Rattle.im_group.specs.Partials.{CanMerge, IsPartOfBoth, Numbered, Parts, keeps, kept, partial}
+use Rattle.im_group.specs.MadeGroups.{GoesOnTogether, HasRoomTogether, kept_values, with_sums}
+use Rattle.im_group.specs.Partials.{Numbered, Parts, keeps, kept}
 use Rattle.im_group.specs.Sums.{SumsOf, sums_of}
 use Rattle.im_group.specs.Tallies.{asked_in, tallied, wanted}
-use Rattle.im_group.proofs.ForCallers.{CanMerge-parts, asked-fit}
+use Rattle.im_group.proofs.ForCallers.{asked-fit}
 use Rattle.im_unit.specs.Holding.{values_in}
-use Rattle.im_scan.specs.inner.Pieces.{HasRoomFor, numbered_all}
+use Rattle.im_scan.specs.inner.Pieces.{AreOfRun, HasRoomFor, numbered_all}
 use Rattle.im_scan.specs.inner.Steps.{GoesOnBy}
-use Rattle.im_scan.specs.inner.Summed.{with_sums}
 use Rattle.im_scan.proofs.PieceLemmas.{length-numbered-run}
 use Rattle.im_scan.proofs.SummedLemmas.{chosen-tallied}
 
@@ -75,17 +76,31 @@ run-inside bound rows asked asks fits =
     (All-from_recursion (λ a. All (λ row. HasColumn row a.column) rows) (asked_in (wanted bound))
     (swapped (λ row a. HasColumn row a.column) rows (asked_in (wanted bound)) (each-fits bound rows fits)))
 
--- the part of a run may be merged into one that has room for its rows
-pub run-merges : (bound : Bound) (first : ℕ) (rows : List Row) (part more : Parts) → HasRoomFor bound (length rows) part →
-    more ≡ partial bound (numbered_all (run_from first rows)) → CanMerge part more
-run-merges bound first rows part more room is =
-    CanMerge-parts bound room.rows (numbered_all (run_from first rows)) part more room.is is
-    (omega (arith, room.few, length-numbered-run first rows))
+-- of each row of a run a condition may be asked
+pub run-asks : (bound : Bound) (filter : CondOf ℕ Value) (rows : List Row) → bound.filter ≡ Some filter →
+    AllByRecursion (λ row. BoundFits row bound) rows → All (λ row. FilterFits row filter) rows
+run-asks bound filter rows is fits = All-from_recursion (λ row. FilterFits row filter) rows (each rows fits)
+  where
+    each : (rows : List Row) → AllByRecursion (λ row. BoundFits row bound) rows → AllByRecursion (λ row. FilterFits row filter) rows
+    each [] all = tt
+    each (row ∷ rows) all = (all.0.filter filter is, each rows all.1)
 
--- and it goes on by them
-pub run-merged : (bound : Bound) (first : ℕ) (rows : List Row) (part more new : Parts) →
-    more ≡ partial bound (numbered_all (run_from first rows)) → IsPartOfBoth part more new →
+-- a part that has room for the rows of a run has room for what they come to
+pub run-room : (bound : Bound) (first : ℕ) (rows : List Row) (mask : List Bool) (n : ℕ) (found : List SumsOf) (part : Parts) →
+    HasRoomFor bound (length rows) part → AreOfRun bound rows mask found → n ≡ count_by (λ chosen. chosen) mask →
+    HasRoomTogether bound part n found
+run-room bound first rows mask n found part room are counted = record {
+  front = room.rows;
+  back = numbered_all (run_from first rows);
+  is = room.is;
+  these = ap (λ k. with_sums k found) counted ∙ are.come first;
+  few = omega (arith, room.few, length-numbered-run first rows);
+}
+
+-- and goes on by them
+pub run-goes : (bound : Bound) (first : ℕ) (rows : List Row) (mask : List Bool) (n : ℕ) (found : List SumsOf) (part new : Parts) →
+    AreOfRun bound rows mask found → n ≡ count_by (λ chosen. chosen) mask → GoesOnTogether bound part n found new →
     GoesOnBy bound part (numbered_all (run_from first rows)) new
-run-merged bound first rows part more new is both = record {
-  goes = λ front here. both bound front (numbered_all (run_from first rows)) here is;
+run-goes bound first rows mask n found part new are counted goes = record {
+  goes = λ front is. goes.goes front (numbered_all (run_from first rows)) is (ap (λ k. with_sums k found) counted ∙ are.come first);
 }

@@ -1,34 +1,28 @@
 -- The part of a query that takes the rows of a unit together, by a summary of each column.
-use Rattle.std.proofs.Common.{◌≡◌, ℕ, zero, suc, ◌+◌, ◌-◌, ◌*◌, ◌^◌, ◌<◌, ◌≤◌, Bool, true, false, if◌then◌else◌, List, [], ◌∷◌, length, map, filter, get_or, count_by, Option, Some, None, ℤ, pos, ◌+ℤ◌, ◌≤ℤ◌, neg_ℤ, refl, sym, ap, subst, ◌∙◌, arith}
-use Rattle.std.specs.List.{cons_option, fold}
-use Rattle.std.specs.Option.{option_copied, option_map, unwrap_or}
+use Rattle.std.proofs.Common.{◌≡◌, ℕ, ◌+◌, ◌-◌, ◌*◌, ◌^◌, ◌≤◌, Bool, true, false, if◌then◌else◌, List, [], ◌∷◌, length, map, filter, get_or, count_by, Option, Some, ℤ, pos, ◌+ℤ◌, ◌≤ℤ◌, neg_ℤ, refl, sym, ap, subst, ◌∙◌, arith}
+use Rattle.std.specs.List.{fold}
+use Rattle.std.specs.Option.{option_copied, unwrap_or}
 use Rattle.std.specs.Int.RustNames.{unsigned_abs}
 use Rattle.std.proofs.lemmas.Int.{ints}
-use Rattle.std.specs.Prelude.{cond, nat_lt}
-use Rattle.std.proofs.lemmas.Bool.Decides.{nat_tests}
+use Rattle.std.specs.Prelude.{cond}
 use Rattle.std.proofs.lemmas.List.{length-map}
 use Rattle.std.proofs.lemmas.List.FromFn.{length-map-range_with_len}
-use Rattle.std.proofs.lemmas.List.Sums.{length-filter, sum_by-cons}
+use Rattle.std.proofs.lemmas.List.Sums.{sum_by-cons}
 use Rattle.im_values.specs.declared.value.Value.{Value}
 use Rattle.im_values.specs.declared.value.Value.TheVariants.{Int, Text, Null}
 use Rattle.im_syntax.specs.declared.bound.Bound.{Bound}
-use Rattle.im_history.specs.declared.view.View.{View}
-use Rattle.im_history.specs.Rows.{Row, present}
+use Rattle.im_history.specs.Rows.{Row}
 use Rattle.im_history.specs.Units.{Content}
 use Rattle.im_codepred.specs.Tallies as code
 use Rattle.im_codepred.specs.declared.tally.Tally.{Tally}
 use Rattle.im_group.specs.declared.asked.Asked.{Asked}
-use Rattle.im_group.specs.MadeGroups.{AreGroupsOf, is_among, kept_values}
-use Rattle.im_group.specs.Partials.{Numbered, keeps, kept, members, keys_of}
+use Rattle.im_group.specs.MadeGroups.{AreGroupsOf, is_among, kept_values, with_sums}
+use Rattle.im_group.specs.Partials.{Numbered, members, keys_of}
 use Rattle.im_group.specs.Sums as sums
 use Rattle.im_group.specs.Tallies.{Tallied, asked_in, tallied, wanted}
-use Rattle.im_unit.specs.Holding.{columns_of, count_present, present_rows, row_of, values_in}
+use Rattle.im_unit.specs.Holding.{columns_of, count_present, present_rows, values_in}
 use Rattle.im_unit.proofs.ForCallers.{count-present}
-use Rattle.im_scan.specs.Parts.{taken_row}
-use Rattle.im_scan.specs.inner.Beside.{Beside}
-use Rattle.im_scan.specs.inner.Summed.{StandsAlone, TakesTogether, rows_kept, with_sums}
-use Rattle.im_scan.proofs.BesideLemmas.{fetched-beside}
-use Rattle.im_scan.proofs.PartLemmas.{beside-part}
+use Rattle.im_scan.specs.inner.Summed.{TakesTogether}
 
 -- the values in two that are there are one
 pub some-inj : {A : Type 0} {a b : A} → ◌≡◌ {A = Option A} (Some a) (Some b) → a ≡ b
@@ -84,74 +78,29 @@ summary-as asked vs tally same end_low end_high found is sum low high made =
 
 -- ---- the chosen values
 
--- the values at the positions that a condition chooses are those of the rows that it keeps
-pub chosen-filter : (p : Row → Bool) (g : Row → Value) (rows : List Row) → code.chosen (map p rows) (map g rows) ≡ map g (filter p rows)
-chosen-filter p g [] = refl
-chosen-filter p g (row ∷ rows) = by (p row) (chosen-filter p g rows)
+-- the values at the positions that a mask chooses are those of the rows that it chooses
+pub chosen-map : (mask : List Bool) (g : Row → Value) (rows : List Row) → code.chosen mask (map g rows) ≡ map g (code.chosen mask rows)
+chosen-map [] g rows = refl
+chosen-map (here ∷ mask) g [] = refl
+chosen-map (true ∷ mask) g (row ∷ rows) = ap (λ (l : List Value). g row ∷ l) (chosen-map mask g rows)
+chosen-map (false ∷ mask) g (row ∷ rows) = chosen-map mask g rows
+
+-- the rows at the positions that a condition chooses are those that it keeps
+chosen-kept : (p : Row → Bool) (rows : List Row) → code.chosen (map p rows) rows ≡ filter p rows
+chosen-kept p [] = refl
+chosen-kept p (row ∷ rows) = ap (λ (l : List Row). if p row then row ∷ l else l) (chosen-kept p rows)
+
+-- as many rows are chosen as positions
+count-chosen : (mask : List Bool) (rows : List Row) → length mask ≡ length rows → count_by (λ chosen. chosen) mask ≡ length (code.chosen mask rows)
+count-chosen [] rows long = refl
+count-chosen (here ∷ mask) [] long = absurd (omega (arith, long))
+count-chosen (here ∷ mask) (row ∷ rows) long =
+    sum_by-cons (λ (chosen : Bool). cond chosen 1 0) here mask ∙ by here (count-chosen mask rows (omega (arith, long)))
   where
-    by : (b : Bool) → code.chosen (map p rows) (map g rows) ≡ map g (filter p rows) →
-        (if b then g row ∷ code.chosen (map p rows) (map g rows) else code.chosen (map p rows) (map g rows)) ≡
-        map g (if b then row ∷ filter p rows else filter p rows)
-    by true e = ap (λ (l : List Value). g row ∷ l) e
-    by false e = e
-
--- as many positions are chosen as rows meet the condition
-count-mapped : (p : Row → Bool) (rows : List Row) → count_by (λ chosen. chosen) (map p rows) ≡ count_by p rows
-count-mapped p [] = refl
-count-mapped p (row ∷ rows) =
-    sum_by-cons (λ (chosen : Bool). cond chosen 1 0) (p row) (map p rows)
-    ∙ (ap (λ n. cond (p row) 1 0 + n) (count-mapped p rows) ∙ sym (sum_by-cons (λ (r : Row). cond (p r) 1 0) row rows))
-
--- as many positions are chosen as rows are kept
-count-filter : (p : Row → Bool) (rows : List Row) → count_by (λ chosen. chosen) (map p rows) ≡ length (filter p rows)
-count-filter p rows = count-mapped p rows ∙ sym (length-filter p rows)
-
--- ---- the rows of a unit
-
--- the rows kept of so many row numbers, where what stands there is what a list of rows has, are those kept of the list
-values-of : (bound : Bound) (rows : List (Option Row)) (row_at : ℕ → Option Row) (first n : ℕ) → length rows ≤ n →
-    ((k : ℕ) → k < n → row_at (first + k) ≡ get_or rows k None) →
-    map (λ r. r.1) (kept bound (present row_at first n)) ≡ filter (keeps bound.filter) (present_rows rows)
-values-of bound [] row_at first zero few each = refl
-values-of bound [] row_at first (suc n) few each =
-    ap (λ (row : Option Row). map (λ r. r.1) (kept bound (cons_option (option_map (λ r. (first, r)) row) (present row_at (first + 1) n))))
-    (ap row_at (omega arith) ∙ each 0 (omega arith))
-    ∙ values-of bound [] row_at (first + 1) n (omega arith) (λ k below. ap row_at (omega arith) ∙ each (suc k) (omega (arith, below)))
-values-of bound (row ∷ rows) row_at first zero few each = absurd (omega (arith, few))
-values-of bound (row ∷ rows) row_at first (suc n) few each =
-    ap (λ (r : Option Row). map (λ r. r.1) (kept bound (cons_option (option_map (λ r. (first, r)) r) later)))
-    (ap row_at (omega arith) ∙ each 0 (omega arith))
-    ∙ by row
-    (values-of bound rows row_at (first + 1) n (omega (arith, few)) (λ k below. ap row_at (omega arith) ∙ each (suc k) (omega (arith, below))))
-  where
-    later : List Numbered
-    later = present row_at (first + 1) n
-
-    by : (r : Option Row) → map (λ r. r.1) (kept bound later) ≡ filter (keeps bound.filter) (present_rows rows) →
-        map (λ r. r.1) (kept bound (cons_option (option_map (λ r. (first, r)) r) later)) ≡ filter (keeps bound.filter) (present_rows (r ∷ rows))
-    by None e = e
-    by (Some r) e = if_kept (keeps bound.filter r) e
-      where
-        if_kept : (b : Bool) → map (λ r. r.1) (kept bound later) ≡ filter (keeps bound.filter) (present_rows rows) →
-            map (λ (r : Numbered). r.1) (if b then (first, r) ∷ kept bound later else kept bound later) ≡
-            (if b then r ∷ filter (keeps bound.filter) (present_rows rows) else filter (keeps bound.filter) (present_rows rows))
-        if_kept true e = ap (λ (l : List Row). r ∷ l) e
-        if_kept false e = e
-
--- where nothing stands beside a unit, the rows that a query keeps of the extent are those that it keeps of the unit
-alone-kept : (bound : Bound) (content : Content) (fetched : Beside) (view : View) (first count : ℕ) → StandsAlone content fetched view first count →
-    kept_values bound (present (taken_row (Some content) fetched view) first count) ≡ rows_kept bound content
-alone-kept bound content fetched view first count alone =
-    ap (λ (l : List Numbered). kept_values bound l)
-    (sym (beside-part (Some content) fetched view first count []
-    (fetched-beside fetched view first count [] alone.unchanged (sym alone.nothing))))
-    ∙ values-of bound content.rows (row_of content) first count alone.within
-    (λ k below.
-    let begins = alone.begins in
-    let inside : nat_lt (first + k) content.first ≡ false = grind (arith, nat_tests, begins) in
-    let there : first + k - content.first ≡ k = omega (arith, begins) in
-    ap (λ (b : Bool). if b then None else get_or content.rows (first + k - content.first) None) inside
-    ∙ ap (λ n. get_or content.rows n None) there)
+    by : (b : Bool) → count_by (λ chosen. chosen) mask ≡ length (code.chosen mask rows) →
+        cond b 1 0 + count_by (λ chosen. chosen) mask ≡ length (if b then row ∷ code.chosen mask rows else code.chosen mask rows)
+    by true e = omega (arith, e)
+    by false e = omega (arith, e)
 
 -- ---- one group
 
@@ -178,17 +127,25 @@ one-group bound rows n found together is = record {
   keys = λ key. ap (λ cs. is_among key (keys_of cs (kept_values bound rows))) (sym together.whole);
 }
 
--- what rows give that a condition chooses, where each column was summed over the chosen values
+-- what rows give that a mask chooses, where each column was summed over the chosen values
+mask-tallied : (asked : List Asked) (spots : List Bool) (held : List Row) (n : ℕ) (found : List sums.SumsOf) → length spots ≡ length held →
+    n ≡ count_by (λ chosen. chosen) spots → found ≡ map (λ a. sums.sums_of a (code.chosen spots (values_in a.column held))) asked →
+    with_sums n found ≡ tallied asked (code.chosen spots held)
+mask-tallied asked spots held n found long counted summed =
+    ap (λ k. with_sums k found) (counted ∙ count-chosen spots held long)
+    ∙ ap (λ l. with_sums (length (code.chosen spots held)) l)
+    (summed
+    ∙ map-same (λ a. sums.sums_of a (code.chosen spots (values_in a.column held)))
+    (λ a. sums.sums_of a (sums.column_of a.column (code.chosen spots held))) asked
+    (λ a. ap (sums.sums_of a) (chosen-map spots (λ (r : Row). get_or r a.column Null) held)))
+
+-- the same where a condition chooses them
 pub chosen-tallied : (p : Row → Bool) (asked : List Asked) (spots : List Bool) (held : List Row) (n : ℕ) (found : List sums.SumsOf) →
     spots ≡ map p held → n ≡ count_by (λ chosen. chosen) spots →
     found ≡ map (λ a. sums.sums_of a (code.chosen spots (values_in a.column held))) asked → with_sums n found ≡ tallied asked (filter p held)
 chosen-tallied p asked spots held n found is counted summed =
-    ap (λ k. with_sums k found) (counted ∙ (ap (count_by (λ chosen. chosen)) is ∙ count-filter p held))
-    ∙ ap (λ l. with_sums (length (filter p held)) l)
-    (summed
-    ∙ map-same (λ a. sums.sums_of a (code.chosen spots (values_in a.column held))) (λ a. sums.sums_of a (sums.column_of a.column (filter p held))) asked
-    (λ a. ap (sums.sums_of a)
-    (ap (λ m. code.chosen m (values_in a.column held)) is ∙ chosen-filter p (λ (r : Row). get_or r a.column Null) held)))
+    mask-tallied asked spots held n found (ap length is ∙ length-map held p) counted summed
+    ∙ ap (tallied asked) (ap (λ (m : List Bool). code.chosen m held) is ∙ chosen-kept p held)
 
 -- ---- bounds
 
@@ -229,18 +186,11 @@ pushed-group bound rows n key found groups together empty made is =
 
 -- what the chosen rows of a unit give, of rows of which a query keeps the same
 pub unit-tallied : (bound : Bound) (content : Content) (spots : List Bool) (rows : List Numbered) (n : ℕ) (asked : List Asked)
-    (found : List sums.SumsOf) → spots ≡ map (keeps bound.filter) (present_rows content.rows) → kept_values bound rows ≡ rows_kept bound content →
+    (found : List sums.SumsOf) → length spots ≡ count_present content.rows →
+    kept_values bound rows ≡ code.chosen spots (present_rows content.rows) →
     n ≡ count_by (λ chosen. chosen) spots → asked ≡ asked_in (wanted bound) →
     found ≡ map (λ a. sums.sums_of a (code.chosen spots (values_in a.column (present_rows content.rows)))) asked →
     with_sums n found ≡ tallied (asked_in (wanted bound)) (kept_values bound rows)
-unit-tallied bound content spots rows n asked found is same counted asks summed =
-    chosen-tallied (keeps bound.filter) asked spots (present_rows content.rows) n found is counted summed
-    ∙ (ap (λ qs. tallied qs (rows_kept bound content)) asks ∙ ap (tallied (asked_in (wanted bound))) (sym same))
-
--- the kept rows of an extent whose face shows the unit alone
-pub face-kept : (bound : Bound) (shown : Option Content) (content : Content) (fetched : Beside) (view : View) (first count : ℕ) → shown ≡ Some content →
-    StandsAlone content fetched view first count →
-    kept_values bound (present (taken_row shown fetched view) first count) ≡ rows_kept bound content
-face-kept bound shown content fetched view first count is alone =
-    ap (λ (u : Option Content). kept_values bound (present (taken_row u fetched view) first count)) is
-    ∙ alone-kept bound content fetched view first count alone
+unit-tallied bound content spots rows n asked found long same counted asks summed =
+    mask-tallied asked spots (present_rows content.rows) n found (long ∙ count-present content.rows) counted summed
+    ∙ (ap (λ qs. tallied qs (code.chosen spots (present_rows content.rows))) asks ∙ ap (tallied (asked_in (wanted bound))) (sym same))

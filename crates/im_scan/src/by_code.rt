@@ -1,4 +1,4 @@
-ghost use Rattle.std.specs.Prelude.{◌≡◌, ◌+◌, ◌^◌, ◌<◌, ◌≤◌, All, Contains, IfOk, List, length, map, slice_index_or};
+ghost use Rattle.std.specs.Prelude.{◌≡◌, ◌+◌, ◌<◌, ◌≤◌, All, Contains, IfOk, List, length, map, slice_index_or};
 ghost use Rattle.std.specs.List.{AllByRecursion};
 ghost use Rattle.std.specs.Option.{ForSome};
 ghost use Rattle.im_values.specs.Sizes.{dictionary};
@@ -6,29 +6,21 @@ ghost use Rattle.im_values.specs.declared.value.Value.{Value};
 ghost use Rattle.im_values.specs.declared.value.Value.TheVariants.{Null};
 ghost use Rattle.im_codes.specs.Dictionary.{coded};
 ghost use Rattle.im_codepred.specs.Tallies.{AreTallies, IsTallyOf};
-ghost use Rattle.im_history.specs.Rows.{present};
-ghost use Rattle.im_group.specs.MadeGroups.{groups_in, group_of, kept_values};
-ghost use Rattle.im_group.specs.Partials as group;
+ghost use Rattle.im_group.specs.MadeGroups.{groups_in, group_of};
 ghost use Rattle.im_group.specs.Sums as sums;
 ghost use Rattle.im_unit.specs.Holding.{count_present, present_rows, values_in};
-ghost use Rattle.im_scan.specs.Faces.{unit_of};
-ghost use Rattle.im_scan.specs.Parts.{taken_row};
 ghost use Rattle.im_scan.specs.inner.ByCode.{AreAllTallies, AreByCode, ComeTo, IsGroupedBy, group_for, groups_for};
-ghost use Rattle.im_scan.specs.inner.Steps.{MayScan};
-ghost use Rattle.im_scan.specs.inner.Summed.{rows_kept};
+ghost use Rattle.im_scan.specs.inner.Left.{IsPartOfChosen};
 
-use crate::faces::Face;
-use crate::kept::kept_spots;
-use crate::summed::{stands_alone, sums_by};
+use crate::summed::sums_by;
 use im_codepred::{Tally, counts_by_code, tallies_by_code};
 use im_codes::Dict;
 use im_column::{Column, Form};
 use im_group::{Asked, Asking, Group, Partial, Sums};
-use im_history::View;
 use im_lanes::Mask;
 use im_syntax::Bound;
 use im_unit::ColumnUnit;
-use im_values::{NoMemory, Row, Value};
+use im_values::{NoMemory, Value};
 use std::alloc::Global;
 
 /// A column has few codes where there are this many values for each: a tally is kept of every code, whether a row has it or not.
@@ -250,9 +242,8 @@ fn by_code(
 ) -> Result<Option<Partial>, NoMemory>
     requires grouped { IsGroupedBy column asking.now }
     requires within { column < unit.now.columns }
-    requires spots { spots.now ≡ map (group.keeps asking.now.filter) (present_rows unit.now.rows) }
-    ensures { IfOk result (λ part. ForSome part (λ part. (rows : List group.Numbered) →
-        kept_values asking.now rows ≡ rows_kept asking.now unit.now → part ≡ group.partial asking.now rows)) }
+    requires spots { length spots.now ≡ count_present unit.now.rows }
+    ensures { IfOk result (λ part. ForSome part (IsPartOfChosen asking.now unit.now spots.now)) }
 {
     match made_groups(alloc, asking.asked(), unit.column(column), unit, spots)? {
         Some(groups) => {
@@ -263,34 +254,31 @@ fn by_code(
     }
 }
 
-/// What an extent gives whose unit alone is scanned, for a query that is grouped by one column which the unit keeps as few codes: a
-/// group for each code that a kept row has, and no row. None for any other.
-pub fn coded_part(
-    alloc: Global,
-    face: Face<'_>,
-    asking: &Asking<'_>,
-    fetched: &[(u64, Option<Row>)],
-    view: &View,
-    first: u64,
-    count: u64,
-) -> Result<Option<Partial>, NoMemory>
-    requires within { first + count < 2 ^ 64 }
-    requires fits { MayScan asking.now (unit_of face) fetched.now view.now.own }
-    ensures { IfOk result (λ part. ForSome part (λ part.
-        part ≡ group.partial asking.now (present (taken_row (unit_of face.entry) fetched.now view.now) first count))) }
+/// The column by which a query is grouped, where it is one and a unit keeps it as few codes.
+pub fn coded_key(bound: &Bound, unit: &ColumnUnit) -> Option<u32>
+    ensures grouped { ForSome result (λ column. IsGroupedBy column bound.now) }
+    ensures within { ForSome result (λ column. column < unit.now.columns) }
 {
-    let Face::Whole(unit) = face else {
-        return Ok(None);
-    };
-    let Some(column) = key_column(asking.bound()) else {
-        return Ok(None);
-    };
-    if column as usize >= unit.columns().len() || !stands_alone(unit, fetched, view, first, count) {
-        return Ok(None);
+    let column = key_column(bound)?;
+    if column as usize >= unit.columns().len() || !has_few_codes(unit.column(column)) {
+        return None;
     }
-    if !has_few_codes(unit.column(column)) {
-        return Ok(None);
+    Some(column)
+}
+
+/// The part of a query that is grouped by one column which a unit keeps as few codes, made of the chosen rows of the unit: a group for
+/// each code that one of them has, and no row. None for any other.
+pub fn coded(
+    alloc: Global,
+    asking: &Asking<'_>,
+    unit: &ColumnUnit,
+    spots: &Mask,
+) -> Result<Option<Partial>, NoMemory>
+    requires { length spots.now ≡ count_present unit.now.rows }
+    ensures { IfOk result (λ part. ForSome part (IsPartOfChosen asking.now unit.now spots.now)) }
+{
+    match coded_key(asking.bound(), unit) {
+        Some(column) => by_code(alloc, asking, column, unit, spots),
+        None => Ok(None),
     }
-    let spots = kept_spots(alloc, unit, &asking.bound().filter)?;
-    by_code(alloc, asking, column, unit, &spots)
 }

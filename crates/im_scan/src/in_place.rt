@@ -1,4 +1,4 @@
-ghost use Rattle.std.specs.Prelude.{◌≡◌, ◌+◌, ◌^◌, ◌≤◌, ◌<◌, ◌++◌, All, false, get_or, length, map, true, None, IfOk, OnOk};
+ghost use Rattle.std.specs.Prelude.{◌≡◌, ◌+◌, ◌^◌, ◌≤◌, ◌<◌, ◌++◌, All, false, get_or, length, map, true, None, Some, IfOk, OnOk};
 ghost use Rattle.std.specs.List.{AllByRecursion, range_with_len};
 ghost use Rattle.std.specs.Option.{ForSome};
 ghost use Rattle.im_history.specs.Fetched as kept;
@@ -8,16 +8,20 @@ ghost use Rattle.im_scan.specs.Parts.{MayAsk};
 ghost use Rattle.im_scan.specs.inner.Pieces.{AreInOrder, HasRoomFor, TakesAt, numbered_all};
 ghost use Rattle.im_scan.specs.inner.Steps.{GoesOnBy, numbered_from, unit_rows, with_fetched};
 
+use crate::every_row::EveryRow;
 use crate::kept::next_chosen;
 use crate::parts::take_row;
-use crate::summed_run::run_part;
+use crate::summed_run::sums_together;
 use im_codepred::select_rows;
 use im_group::{Asking, Partial};
 use im_history::{Fetched, Piece};
-use im_lanes::Mask;
+use im_lanes::{Mask, count};
 use im_syntax::Filter;
 use im_values::{NoMemory, Row, Rows, clone_row};
 use std::alloc::Global;
+
+/// As few rows of a run as this are each asked the condition: a mask would cost more.
+const FEW: usize = 3;
 
 /// The row numbers of a piece: the first, and how many there are in a row.
 fn span(piece: &Piece) -> (u64, u64)
@@ -86,18 +90,6 @@ fn take_each(
     Ok(())
 }
 
-/// Of which rows of a run a condition is true.
-fn chosen(alloc: Global, filter: &Option<Filter>, rows: &Rows) -> Result<Mask, NoMemory>
-    requires few { length rows.now < 2 ^ 31 }
-    requires fits { All (λ row. ForSome filter.now (FilterFits row)) rows.now }
-    ensures { IfOk result (λ mask. mask ≡ map (group.keeps filter.now) rows.now) }
-{
-    match filter {
-        Some(filter) => Ok(select_rows(alloc, filter, rows)?),
-        None => Ok(Mask::all(alloc, rows.len() as u64)?),
-    }
-}
-
 /// The part takes a row of a run that is kept. The condition is not asked again.
 fn take_chosen(
     alloc: Global,
@@ -159,18 +151,72 @@ fn take_kept(
     requires few { HasRoomFor asking.now (length rows.now) part.old }
     ensures { OnOk result (GoesOnBy asking.now part.old (numbered_all (kept.run_from first rows.now)) part.new) }
 {
-    match run_part(alloc, asking, rows, mask)? {
-        Some(more) => part.merge(more),
+    match sums_together(alloc, asking, rows, mask)? {
+        Some(sums) => {
+            part.take_together(asking, count(mask), sums);
+            Ok(())
+        }
         None => take_masked(alloc, asking, first, rows, mask, part),
     }
 }
 
-/// The part takes rows at row numbers from the first on, in order. The condition is asked of their columns, as far as a mask reaches.
+/// Of which rows of a run a condition is true.
+fn chosen(alloc: Global, filter: &Filter, rows: &Rows) -> Result<Mask, NoMemory>
+    requires few { length rows.now < 2 ^ 31 }
+    requires fits { All (λ row. FilterFits row filter.now) rows.now }
+    ensures { IfOk result (λ mask. mask ≡ map (group.keeps (Some filter.now)) rows.now) }
+{
+    Ok(select_rows(alloc, filter, rows)?)
+}
+
+/// The part takes those rows of a run that a condition keeps. It is asked of their columns.
+fn take_where(
+    alloc: Global,
+    asking: &Asking<'_>,
+    filter: &Filter,
+    first: u64,
+    rows: &Rows,
+    part: &mut Partial,
+) -> Result<(), NoMemory>
+    requires filter { asking.now.filter ≡ Some filter.now }
+    requires short { length rows.now < 2 ^ 31 }
+    requires numbers { first + length rows.now ≤ 2 ^ 63 }
+    requires fits { AllByRecursion (λ row. BoundFits row asking.now) rows.now }
+    requires few { HasRoomFor asking.now (length rows.now) part.old }
+    ensures { OnOk result (GoesOnBy asking.now part.old (numbered_all (kept.run_from first rows.now)) part.new) }
+{
+    let mask = chosen(alloc, filter, rows)?;
+    take_kept(alloc, asking, first, rows, &mask, part)
+}
+
+/// The part takes all rows of a run, for a query without a condition.
+fn take_all(
+    alloc: Global,
+    asking: &Asking<'_>,
+    first: u64,
+    rows: &Rows,
+    every: &mut EveryRow,
+    part: &mut Partial,
+) -> Result<(), NoMemory>
+    requires filter { asking.now.filter ≡ None }
+    requires short { length rows.now < 2 ^ 31 }
+    requires numbers { first + length rows.now ≤ 2 ^ 63 }
+    requires fits { AllByRecursion (λ row. BoundFits row asking.now) rows.now }
+    requires few { HasRoomFor asking.now (length rows.now) part.old }
+    ensures { OnOk result (GoesOnBy asking.now part.old (numbered_all (kept.run_from first rows.now)) part.new) }
+{
+    every.fit(alloc, rows.len() as u64)?;
+    take_kept(alloc, asking, first, rows, every.mask(), part)
+}
+
+/// The part takes rows at row numbers from the first on, in order. Where there are not few, they are taken under a mask, as far as
+/// a mask reaches.
 fn take_run(
     alloc: Global,
     asking: &Asking<'_>,
     first: u64,
     rows: &Rows,
+    every: &mut EveryRow,
     part: &mut Partial,
 ) -> Result<(), NoMemory>
     requires numbers { first + length rows.now ≤ 2 ^ 63 }
@@ -178,11 +224,12 @@ fn take_run(
     requires few { HasRoomFor asking.now (length rows.now) part.old }
     ensures { OnOk result (GoesOnBy asking.now part.old (numbered_all (kept.run_from first rows.now)) part.new) }
 {
-    if rows.len() < 0x8000_0000 {
-        let mask = chosen(alloc, &asking.bound().filter, rows)?;
-        take_kept(alloc, asking, first, rows, &mask, part)
-    } else {
-        take_each(alloc, asking, first, rows, part)
+    if rows.len() <= FEW || rows.len() >= 0x8000_0000 {
+        return take_each(alloc, asking, first, rows, part);
+    }
+    match &asking.bound().filter {
+        Some(filter) => take_where(alloc, asking, filter, first, rows, part),
+        None => take_all(alloc, asking, first, rows, every, part),
     }
 }
 
@@ -191,6 +238,7 @@ fn take_piece(
     alloc: Global,
     asking: &Asking<'_>,
     piece: &Piece,
+    every: &mut EveryRow,
     part: &mut Partial,
 ) -> Result<(), NoMemory>
     requires numbers { kept.HasNumbers piece.now }
@@ -199,7 +247,7 @@ fn take_piece(
     ensures { OnOk result (GoesOnBy asking.now part.old (numbered_all (kept.in_piece piece.now)) part.new) }
 {
     match piece {
-        Piece::Run(first, rows) => take_run(alloc, asking, *first, rows, part),
+        Piece::Run(first, rows) => take_run(alloc, asking, *first, rows, every, part),
         Piece::One(rid, row) => take_row(alloc, asking, *rid, row.as_ref(), part),
     }
 }
@@ -212,8 +260,9 @@ fn part_of_pieces(alloc: Global, asking: &Asking<'_>, pieces: &[Piece]) -> Resul
     ensures { IfOk result (λ part. part ≡ group.partial asking.now (numbered_all (kept.in_pieces pieces.now))) }
 {
     let mut part = Partial::new(alloc, asking)?;
+    let mut every = EveryRow::new(alloc)?;
     for piece in pieces {
-        take_piece(alloc, asking, piece, &mut part)?;
+        take_piece(alloc, asking, piece, &mut every, &mut part)?;
     }
     Ok(part)
 }

@@ -9,15 +9,18 @@
 //!
 //! What replies say is `im_replies`, and its types stand here too.
 //!
-//! Start with `parts.rt`, then `in_place.rt`, `kept.rt`, `beside.rt` and `walking.rt`.
+//! Start with `parts.rt`, then `in_place.rt`, `kept.rt`, `beside.rt`, `by_columns.rt` and `walking.rt`.
 #![tactic(auto)]
 
 mod beside;
 mod by_code;
+mod by_columns;
+mod every_row;
 mod faces;
 mod in_place;
 mod kept;
-mod merging;
+mod laws;
+mod left;
 mod parts;
 mod pinned;
 mod slots;
@@ -27,6 +30,6 @@ mod walking;
 
 pub use faces::Face;
 pub use im_replies::{Body, Built, Ending, Fault, How, Records, Reply, Served};
-pub use merging::parts_are_one_answer;
+pub use laws::parts_are_one_answer;
 pub use parts::part;
 pub use pinned::{face, how};

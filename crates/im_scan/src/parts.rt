@@ -9,15 +9,14 @@ ghost use Rattle.im_group.specs.Partials as group;
 ghost use Rattle.im_scan.specs.Faces.{Shows, unit_of};
 ghost use Rattle.im_scan.specs.Parts.{MayAsk, MayAskShown, part_of, taken_row};
 ghost use Rattle.im_scan.specs.Pinned.{IsPinned, seen_in};
-ghost use Rattle.im_scan.specs.inner.Steps.{GoesOnBy, MayScan, lent, numbered, numbered_from, unit_rows, with_fetched};
+ghost use Rattle.im_scan.specs.inner.Steps.{GoesOnBy, MayScan, lent, numbered, numbered_from};
 
 use crate::beside::beside;
-use crate::by_code::coded_part;
+use crate::by_columns::column_part;
 use crate::faces::Face;
 use crate::in_place::{handles, part_in_place};
 use crate::kept::{begins_by, kept_in};
 use crate::slots::{gather, has_own, rows_of};
-use crate::summed::summed_part;
 use crate::walking::walked;
 use im_group::{Asking, Partial};
 use im_history::{Fetched, View};
@@ -136,27 +135,6 @@ fn laid_part(
     let held = rows_of(alloc, face)?;
     let slots = gather(alloc, face, &held, fetched, view, first, count)?;
     part_of_slots(alloc, asking, first, slots.as_slice())
-}
-
-/// What an extent gives whose unit alone is scanned, and of it the columns and no row.
-fn column_part(
-    alloc: Global,
-    face: Face<'_>,
-    asking: &Asking<'_>,
-    fetched: &[(u64, Option<Row>)],
-    view: &View,
-    first: u64,
-    count: u64,
-) -> Result<Option<Partial>, NoMemory>
-    requires within { first + count < 2 ^ 64 }
-    requires fits { MayScan asking.now (unit_of face) fetched.now view.now.own }
-    ensures { IfOk result (λ part. ForSome part (λ part.
-        part ≡ group.partial asking.now (present (taken_row (unit_of face.entry) fetched.now view.now) first count))) }
-{
-    match summed_part(alloc, face, asking, fetched, view, first, count)? {
-        Some(part) => Ok(Some(part)),
-        None => coded_part(alloc, face, asking, fetched, view, first, count),
-    }
 }
 
 /// What an extent with a unit gives, where nothing has to be laid out for it.

@@ -1,30 +1,23 @@
-ghost use Rattle.std.specs.Prelude.{◌≡◌, ◌+◌, ◌<◌, ◌^◌, IfOk, List, map, length, if◌then◌else◌};
+ghost use Rattle.std.specs.Prelude.{◌≡◌, IfOk, List, map, length, if◌then◌else◌};
 ghost use Rattle.std.specs.Bool.{OnTrue};
 ghost use Rattle.std.specs.Option.{ForSome, option_copied, unwrap_or};
 ghost use Rattle.im_values.specs.declared.value.Value.{Value};
 ghost use Rattle.im_values.specs.declared.value.Value.TheVariants.{Null};
 ghost use Rattle.im_codepred.specs.Tallies.{IsTallyOf, chosen};
-ghost use Rattle.im_history.specs.Rows.{present};
-ghost use Rattle.im_group.specs.MadeGroups.{kept_values};
+ghost use Rattle.im_group.specs.MadeGroups.{kept_values, with_sums};
 ghost use Rattle.im_group.specs.Partials as group;
 ghost use Rattle.im_group.specs.Sums as sums;
 ghost use Rattle.im_group.specs.Tallies.{asked_in, tallied, wanted};
 ghost use Rattle.im_unit.specs.Holding.{count_present, present_rows, values_in};
-ghost use Rattle.im_scan.specs.Faces.{unit_of};
-ghost use Rattle.im_scan.specs.Parts.{taken_row};
-ghost use Rattle.im_scan.specs.inner.Steps.{MayScan};
-ghost use Rattle.im_scan.specs.inner.Summed.{StandsAlone, TakesTogether, rows_kept, with_sums};
+ghost use Rattle.im_scan.specs.inner.Left.{IsPartOfChosen};
+ghost use Rattle.im_scan.specs.inner.Summed.{TakesTogether};
 
-use crate::faces::Face;
-use crate::kept::kept_spots;
-use crate::slots::has_own;
 use im_codepred::{Tally, tally_of};
 use im_group::{Asked, Asking, Group, Partial, Sums};
-use im_history::View;
 use im_lanes::{Mask, count};
 use im_syntax::Bound;
 use im_unit::ColumnUnit;
-use im_values::{NoMemory, Row, Value};
+use im_values::{NoMemory, Value};
 use std::alloc::Global;
 
 /// Whether so many numbers of 64 bits can add up to a total.
@@ -122,17 +115,16 @@ pub fn whole_part(
     Partial::of_groups(alloc, asking, groups)
 }
 
-/// The part of a query that takes the chosen rows of a unit together, made without a row.
-fn together(
+/// The part of a query that takes its rows together, made of the chosen rows of a unit without one of them.
+pub fn together(
     alloc: Global,
     asking: &Asking<'_>,
     unit: &ColumnUnit,
     spots: &Mask,
 ) -> Result<Option<Partial>, NoMemory>
     requires together { TakesTogether asking.now }
-    requires spots { spots.now ≡ map (group.keeps asking.now.filter) (present_rows unit.now.rows) }
-    ensures { IfOk result (λ part. ForSome part (λ part. (rows : List group.Numbered) →
-        kept_values asking.now rows ≡ rows_kept asking.now unit.now → part ≡ group.partial asking.now rows)) }
+    requires spots { length spots.now ≡ count_present unit.now.rows }
+    ensures { IfOk result (λ part. ForSome part (IsPartOfChosen asking.now unit.now spots.now)) }
 {
     let Some(sums) = all_sums(alloc, asking.asked(), unit, spots)? else {
         return Ok(None);
@@ -146,47 +138,4 @@ pub fn takes_together(bound: &Bound) -> bool
     ensures { OnTrue result (TakesTogether bound.now) }
 {
     bound.grouped && bound.groups.items().is_empty()
-}
-
-/// Whether nothing stands beside a unit, and it is of row numbers of the extent alone.
-pub fn stands_alone(
-    unit: &ColumnUnit,
-    fetched: &[(u64, Option<Row>)],
-    view: &View,
-    first: u64,
-    count: u64,
-) -> bool
-    requires { first + count < 2 ^ 64 }
-    ensures { OnTrue result (StandsAlone unit.now fetched.now view.now first count) }
-{
-    fetched.is_empty()
-        && !has_own(view, first, count)
-        && unit.first() == first
-        && unit.len() <= count
-}
-
-/// What an extent gives whose unit alone is scanned, for a query that takes its rows together: a summary of each column under the
-/// mask of the condition, and no row. None for any other.
-pub fn summed_part(
-    alloc: Global,
-    face: Face<'_>,
-    asking: &Asking<'_>,
-    fetched: &[(u64, Option<Row>)],
-    view: &View,
-    first: u64,
-    count: u64,
-) -> Result<Option<Partial>, NoMemory>
-    requires within { first + count < 2 ^ 64 }
-    requires fits { MayScan asking.now (unit_of face) fetched.now view.now.own }
-    ensures { IfOk result (λ part. ForSome part (λ part.
-        part ≡ group.partial asking.now (present (taken_row (unit_of face.entry) fetched.now view.now) first count))) }
-{
-    let Face::Whole(unit) = face else {
-        return Ok(None);
-    };
-    if !takes_together(asking.bound()) || !stands_alone(unit, fetched, view, first, count) {
-        return Ok(None);
-    }
-    let spots = kept_spots(alloc, unit, &asking.bound().filter)?;
-    together(alloc, asking, unit, &spots)
 }

@@ -3,20 +3,19 @@ ghost use Rattle.std.specs.List.{AllByRecursion};
 ghost use Rattle.std.specs.Option.{ForSome};
 ghost use Rattle.im_syntax.specs.BoundFits.{BoundFits, HasColumn};
 ghost use Rattle.im_codepred.specs.Tallies.{chosen};
-ghost use Rattle.im_history.specs.Fetched as kept;
 ghost use Rattle.im_group.specs.Partials as group;
 ghost use Rattle.im_group.specs.Sums as sums;
 ghost use Rattle.im_unit.specs.Holding.{values_in};
-ghost use Rattle.im_scan.specs.inner.Pieces.{numbered_all};
+ghost use Rattle.im_scan.specs.inner.Pieces.{AreOfRun};
 
-use crate::summed::{sums_by, takes_together, whole_part};
+use crate::summed::{sums_by, takes_together};
 use im_codepred::tally_rows;
-use im_group::{Asked, Asking, Partial, Sums};
-use im_lanes::{Mask, count};
+use im_group::{Asked, Asking, Sums};
+use im_lanes::Mask;
 use im_values::{NoMemory, Rows};
 use std::alloc::Global;
 
-/// As few rows as this are taken one by one: to sum them up and to merge the sums would cost more.
+/// As few rows as this are taken one by one: to sum them up and to join the sums would cost more.
 const FEW: usize = 16;
 
 /// The summary of the chosen values of one column of a run, of what a query asks of it.
@@ -51,25 +50,21 @@ fn run_sums(
     Ok(Some(all))
 }
 
-/// What the chosen rows of a run give to a query that takes its rows together, made without a row. None for any other query, and
-/// where there are few rows.
-pub fn run_part(
+/// The summaries of the chosen rows of a run for a query that takes its rows together. None for any other query, and where there
+/// are few rows.
+pub fn sums_together(
     alloc: Global,
     asking: &Asking<'_>,
     rows: &Rows,
     mask: &Mask,
-) -> Result<Option<Partial>, NoMemory>
+) -> Result<Option<Vec<Sums>>, NoMemory>
     requires mask { mask.now ≡ map (group.keeps asking.now.filter) rows.now }
     requires fits { AllByRecursion (λ row. BoundFits row asking.now) rows.now }
-    ensures { IfOk result (λ part. ForSome part (λ part. (first : _) →
-        part ≡ group.partial asking.now (numbered_all (kept.run_from first rows.now)))) }
+    ensures { IfOk result (λ found. ForSome found (λ found. AreOfRun asking.now rows.now mask.now found.items)) }
 {
     if rows.len() <= FEW || !takes_together(asking.bound()) {
         return Ok(None);
     }
-    let Some(sums) = run_sums(alloc, asking.asked(), rows, mask)? else {
-        return Ok(None);
-    };
-    let part = whole_part(alloc, asking, count(mask), sums)?;
-    Ok(Some(part))
+    let found = run_sums(alloc, asking.asked(), rows, mask)?;
+    Ok(found)
 }

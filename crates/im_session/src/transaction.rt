@@ -111,21 +111,6 @@ fn open_by(body: &Body, before: bool) -> bool
         Body::Begun { .. } | Body::Inserted { .. } => true,
         Body::Committed { .. } | Body::RolledBack => false,
         Body::Updated { rows } | Body::Deleted { rows } => *rows > 0 || before,
-        Body::Created { .. }
-        | Body::Altered { .. }
-        | Body::Answer { .. }
-        | Body::Opened { .. }
-        | Body::Step { .. }
-        | Body::End { .. }
-        | Body::Closed { .. }
-        | Body::Plan { .. }
-        | Body::Ran(_)
-        | Body::Build(_)
-        | Body::Idle
-        | Body::Ended(_)
-        | Body::Nothing
-        | Body::Trickle { .. }
-        | Body::Evicted { .. }
-        | Body::Error(_) => before,
+        _ => before,
     }
 }

@@ -9,28 +9,9 @@ use Rattle.im_text.specs.Replies.{reply_text}
 
 -- the reply is an answer to a query or says that a line was refused
 abbrev pub is_outcome : Body → Bool
-is_outcome (body.Created table scn) = false
-is_outcome (body.Altered table) = false
-is_outcome (body.Begun scn) = false
-is_outcome (body.Inserted rows first) = false
-is_outcome (body.Updated rows) = false
-is_outcome (body.Deleted rows) = false
-is_outcome (body.Committed scn) = false
-is_outcome body.RolledBack = false
 is_outcome (body.Answer scn records) = true
-is_outcome (body.Opened cursor scn extents) = false
-is_outcome (body.Step extent how) = false
-is_outcome (body.End cursor) = false
-is_outcome (body.Closed cursor) = false
-is_outcome (body.Plan scn served) = false
-is_outcome (body.Ran builds) = false
-is_outcome (body.Build built) = false
-is_outcome body.Idle = false
-is_outcome (body.Ended ending) = false
-is_outcome body.Nothing = false
-is_outcome (body.Trickle credits) = false
-is_outcome (body.Evicted table extent used) = false
 is_outcome (body.Error fault) = true
+is_outcome said = false
 
 -- the reply is shown
 abbrev pub is_shown : Shown → Body → Bool

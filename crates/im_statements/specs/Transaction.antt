@@ -21,22 +21,7 @@ open_by body.RolledBack before = false
 open_by (body.Inserted rows first) before = true
 open_by (body.Updated rows) before = nat_lt 0 rows || before
 open_by (body.Deleted rows) before = nat_lt 0 rows || before
-open_by (body.Created table scn) before = before
-open_by (body.Altered table) before = before
-open_by (body.Answer scn records) before = before
-open_by (body.Opened cursor scn extents) before = before
-open_by (body.Step extent how) before = before
-open_by (body.End cursor) before = before
-open_by (body.Closed cursor) before = before
-open_by (body.Plan scn served) before = before
-open_by (body.Ran tasks) before = before
-open_by (body.Build built) before = before
-open_by body.Idle before = before
-open_by (body.Ended ending) before = before
-open_by body.Nothing before = before
-open_by (body.Trickle credits) before = before
-open_by (body.Evicted table extent used) before = before
-open_by (body.Error fault) before = before
+open_by said before = before
 
 -- the same of a line that was to define a table: it committed what was open, unless memory ran out before that
 abbrev pub open_by_definition : Body → Bool → Bool

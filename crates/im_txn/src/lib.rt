@@ -11,13 +11,13 @@
 //! Start with `specs/Activity.antt`, then `session.rt`, `specs/Standing.antt`, `specs/Effects.antt` and `sessions.rt`.
 #![tactic(auto)]
 
-mod agreement;
 mod cursor;
 mod lasts;
+mod laws;
 mod locks;
 mod session;
 mod sessions;
 
-pub use agreement::agreement_is_kept;
 pub use cursor::Cursor;
+pub use laws::agreement_is_kept;
 pub use sessions::Sessions;

@@ -59,7 +59,7 @@ count-spread (true ∷ flags) (row ∷ rows) zero few = refl
 count-spread (true ∷ flags) (row ∷ rows) (suc i) few =
     omega (arith, count-spread flags rows i (omega (arith, few, set-more flags)), set-more (take i flags))
 
-count-kept : (flags : List Bool) (columns : List (List Value)) (i : ℕ) → count_present (take i (rows_kept flags columns)) ≡ count_set (take i flags)
+pub count-kept : (flags : List Bool) (columns : List (List Value)) (i : ℕ) → count_present (take i (rows_kept flags columns)) ≡ count_set (take i flags)
 unfolding rows_kept
 count-kept flags columns i =
     count-spread flags (rows_across columns (count_set flags)) i (omega (arith, length-across columns (count_set flags)))

@@ -1,4 +1,4 @@
-ghost use Rattle.std.specs.Prelude.{◌≡◌, ◌+◌, ◌<◌, ◌≤◌, ◌^◌, map, length, sum_by, get_or, IfOk, Some, None, is_some, if◌then◌else◌};
+ghost use Rattle.std.specs.Prelude.{◌≡◌, ◌+◌, ◌<◌, ◌≤◌, ◌^◌, map, length, sum_by, get_or, take, IfOk, Some, None, is_some, if◌then◌else◌};
 ghost use Rattle.std.specs.Bool.{OnTrue};
 ghost use Rattle.std.specs.Arc.{arc_value};
 ghost use Rattle.im_values.specs.Sizes.{column_bytes};
@@ -195,6 +195,15 @@ impl ColumnUnit {
         ensures { result ≡ is_some (get_or self.now.rows place None) }
     {
         self.presence.is_present(place)
+    }
+
+    /// How many rows are present before a place. It takes no memory, and costs at most 64 bits.
+    pub fn before(&self, place: u64) -> u64
+        requires { place ≤ length self.now.rows }
+        ensures { result ≡ count_present (take place self.now.rows) }
+    {
+        let present = self.presence.before(place);
+        present
     }
 
     /// The columns: the values of the rows that are present, in order of row numbers.

@@ -1,17 +1,17 @@
 ghost use Rattle.std.specs.Prelude.{◌≡◌, ℕ, ◌+◌, ◌^◌, ◌<◌, ◌≤◌, length, get_or, IfOk};
 ghost use Rattle.im_blocks.specs.Chains as seen;
-ghost use Rattle.im_blocks.specs.Chains.{rows_among, rows_at, versions_at};
+ghost use Rattle.im_blocks.specs.Chains.{rows_among, rows_at};
 ghost use Rattle.im_blocks.specs.declared.slot.Slot.TheVariants as slots;
+ghost use Rattle.im_blocks.specs.inner.Gathering.{IsWhole};
 ghost use Rattle.im_blocks.specs.inner.Reading.{AreRead, EndsIn};
 ghost use Rattle.im_blocks.specs.inner.Seen.{AreSeen};
-ghost use Rattle.im_versions.specs.Versions.{row_at};
 
 use crate::blocks::Blocks;
+use crate::gathered::Gathered;
 use crate::runs::{LentRows, rows_seen};
 use crate::slot::Slot;
-use crate::{chains, runs};
 use im_history::Fetched;
-use im_values::{NoMemory, Row, Steps};
+use im_values::{NoMemory, Steps};
 use std::alloc::Global;
 use std::sync::ledger::Ledger;
 
@@ -51,8 +51,8 @@ fn count<L: Ledger>(steps: &mut Steps<L>, many: u64)
 impl Blocks {
     /// So many row numbers from the first on, each with its row at an SCN.
     ///
-    /// Rows of one run are shared together, and take no handle each. It costs a look at each slot and at most one step for each
-    /// row number, and for each row that is in no run of others the copy.
+    /// Many rows of one run are shared together. Others are copied, and those that are copied at row numbers in a row share one
+    /// block, so no row takes a handle. It costs a look at each slot and at most one step for each row number, and the copies.
     pub fn extent_rows<L: Ledger>(
         &self,
         alloc: Global,
@@ -71,12 +71,12 @@ impl Blocks {
             end: first + count,
             scn,
         };
-        let mut fetched = Fetched::new(alloc);
+        let mut read = Gathered::new(alloc);
         let mut rid = first;
         while rid < asked.end {
-            rid = self.fetch_from(&mut fetched, asked, rid, steps)?;
+            rid = self.fetch_from(&mut read, asked, rid, steps)?;
         }
-        Ok(fetched)
+        Ok(read.finish()?)
     }
 
     /// These row numbers, each with a copy of its row at an SCN.
@@ -93,117 +93,95 @@ impl Blocks {
         ensures rows { IfOk result (λ fetched. fetched ≡ rows_among self.now table rids.now scn) }
         ensures few { steps.new ≤ steps.old + length rids.now }
     {
-        let mut fetched = Fetched::new(alloc);
+        let mut read = Gathered::new(alloc);
         for rid in rids {
-            fetched.push(*rid, self.copy_at(table, *rid, scn, steps)?)?;
+            read.push(*rid, self.at(table, *rid, scn, steps))?;
         }
-        Ok(fetched)
+        Ok(read.finish()?)
     }
 
-    /// A copy of the row of a row number at an SCN, or of none. It is at most one step.
-    fn copy_at<L: Ledger>(
-        &self,
-        table: u32,
-        rid: u64,
-        scn: u64,
-        steps: &mut Steps<L>,
-    ) -> Result<Option<Row>, NoMemory>
-        ensures row { IfOk result (λ row. row ≡ row_at (versions_at self.now table rid) scn) }
-        ensures few { steps.new ≤ steps.old + 1 }
-    {
-        match self.slot(table, rid) {
-            Slot::Empty => Ok(None),
-            Slot::InRun(number) => {
-                steps.tick();
-                runs::row_at(self.alloc, self.run(number, table, rid), rid, scn)
-            }
-            Slot::InChain(number) => {
-                chains::row_at(self.alloc, self.touched(number, table, rid), scn, steps)
-            }
-        }
-    }
-
-    /// Fetches what is at a row number, and at those behind it that its run has. It answers the next row number.
+    /// Reads what is at a row number, and at those behind it that its run has. It answers the next row number.
     fn fetch_from<L: Ledger>(
         &self,
-        fetched: &mut Fetched,
+        read: &mut Gathered,
         asked: Asked,
         rid: u64,
         steps: &mut Steps<L>,
     ) -> Result<u64, NoMemory>
-        requires { rid < asked.end }
-        ensures next { IfOk result (λ next. AreRead self.now asked rid next fetched.old fetched.new) }
+        requires whole { IsWhole read.old }
+        requires before { rid < asked.end }
+        ensures next { IfOk result (λ next. AreRead self.now asked rid next read.old read.new) }
         ensures counted { IfOk result (λ next. steps.new + rid ≤ steps.old + next) }
         ensures few { steps.new + rid ≤ steps.old + asked.end }
     {
         match self.slot(asked.table, rid) {
-            Slot::InRun(number) => self.fetch_run(fetched, asked, rid, number, steps),
-            Slot::Empty | Slot::InChain(_) => self.fetch_one(fetched, asked, rid, steps),
+            Slot::InRun(number) => self.fetch_run(read, asked, rid, number, steps),
+            Slot::Empty | Slot::InChain(_) => self.fetch_one(read, asked, rid, steps),
         }
     }
 
-    /// Fetches what is at a row number alone.
+    /// Reads what is at a row number alone.
     fn fetch_one<L: Ledger>(
         &self,
-        fetched: &mut Fetched,
+        read: &mut Gathered,
         asked: Asked,
         rid: u64,
         steps: &mut Steps<L>,
     ) -> Result<u64, NoMemory>
-        requires { rid < asked.end }
-        ensures next { IfOk result (λ next. AreRead self.now asked rid next fetched.old fetched.new) }
+        requires whole { IsWhole read.old }
+        requires before { rid < asked.end }
+        ensures next { IfOk result (λ next. AreRead self.now asked rid next read.old read.new) }
         ensures counted { IfOk result (λ next. steps.new + rid ≤ steps.old + next) }
         ensures few { steps.new + rid ≤ steps.old + asked.end }
     {
-        let row = self.copy_at(asked.table, rid, asked.scn, steps)?;
-        fetched.push(rid, row)?;
+        read.push(rid, self.at(asked.table, rid, asked.scn, steps))?;
         Ok(rid + 1)
     }
 
-    /// Fetches what is at a row number whose slot names a run.
+    /// Reads what is at a row number whose slot names a run.
     fn fetch_run<L: Ledger>(
         &self,
-        fetched: &mut Fetched,
+        read: &mut Gathered,
         asked: Asked,
         rid: u64,
         number: u32,
         steps: &mut Steps<L>,
     ) -> Result<u64, NoMemory>
+        requires whole { IsWhole read.old }
         requires before { rid < asked.end }
         requires slot { seen.slot_at self.now asked.table rid ≡ slots.InRun number }
-        ensures next { IfOk result (λ next. AreRead self.now asked rid next fetched.old fetched.new) }
+        ensures next { IfOk result (λ next. AreRead self.now asked rid next read.old read.new) }
         ensures counted { IfOk result (λ next. steps.new + rid ≤ steps.old + next) }
         ensures few { steps.new + rid ≤ steps.old + asked.end }
     {
         match rows_seen(self.run(number, asked.table, rid), asked.scn) {
-            Some(lent) => self.fetch_rows(fetched, asked, rid, number, lent, steps),
-            None => self.fetch_one(fetched, asked, rid, steps),
+            Some(lent) => self.fetch_rows(read, asked, rid, number, lent, steps),
+            None => self.fetch_one(read, asked, rid, steps),
         }
     }
 
-    /// Fetches rows of a run from a row number on, as far as row numbers in a row are in it.
+    /// Reads rows of a run from a row number on, as far as row numbers in a row are in it.
     fn fetch_rows<L: Ledger>(
         &self,
-        fetched: &mut Fetched,
+        read: &mut Gathered,
         asked: Asked,
         rid: u64,
         number: u32,
         lent: LentRows,
         steps: &mut Steps<L>,
     ) -> Result<u64, NoMemory>
+        requires whole { IsWhole read.old }
         requires before { rid < asked.end }
         requires slot { seen.slot_at self.now asked.table rid ≡ slots.InRun number }
         requires lent { AreSeen (seen.run_at self.now.runs number asked.table rid) lent.first lent.rows.now asked.scn }
-        ensures next { IfOk result (λ next. AreRead self.now asked rid next fetched.old fetched.new) }
+        ensures next { IfOk result (λ next. AreRead self.now asked rid next read.old read.new) }
         ensures counted { IfOk result (λ next. steps.new + rid ≤ steps.old + next) }
         ensures few { steps.new + rid ≤ steps.old + asked.end }
     {
         let next = self.end_in(asked, rid, number, lent);
         count(steps, next - rid);
-        let rows = lent
-            .rows
-            .part((rid - lent.first) as usize, (next - rid) as usize)?;
-        fetched.push_run(rid, rows)?;
+        let from = (rid - lent.first) as usize;
+        read.take(rid, lent.rows, from, (next - rid) as usize)?;
         Ok(next)
     }
 

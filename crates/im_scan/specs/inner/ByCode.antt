@@ -10,7 +10,7 @@ use Rattle.im_group.specs.declared.asked.Asked.{Asked}
 use Rattle.im_group.specs.Sums.{sums_of}
 use Rattle.im_group.specs.Tallies.{Tallied}
 use Rattle.im_unit.specs.Holding.{values_in}
-use Rattle.im_scan.specs.inner.Summed.{with_sums}
+use Rattle.im_group.specs.MadeGroups.{with_sums}
 
 -- a query is grouped by one column
 pub record IsGroupedBy (column : ℕ) (bound : Bound) : Type 0 where

@@ -1,10 +1,14 @@
 -- What was fetched in pieces, taken as it is kept.
-use Rattle.std.specs.Prelude.{◌≡◌, ℕ, ◌+◌, ◌<◌, ◌^◌, List, length, map, slice_get, Option, Some}
+use Rattle.std.specs.Prelude.{◌≡◌, ℕ, ◌+◌, ◌<◌, ◌^◌, Bool, List, length, map, count_by, slice_get, Option, Some}
 use Rattle.std.specs.List.{flat_map, range_with_len}
 use Rattle.im_syntax.specs.declared.bound.Bound.{Bound}
 use Rattle.im_history.specs.Rows.{Row}
+use Rattle.im_history.specs.Fetched.{run_from}
+use Rattle.im_group.specs.MadeGroups.{ComeTo}
 use Rattle.im_group.specs.Partials.{GoesOn, Numbered, Parts, partial}
+use Rattle.im_group.specs.Sums.{SumsOf}
 use Rattle.im_scan.specs.inner.Steps.{numbered}
+use Rattle.im_scan.specs.inner.Summed.{TakesTogether}
 
 -- what was fetched is of all row numbers from the first on, in order
 abbrev pub AreInOrder : ℕ → List (ℕ × Option Row) → Type 0
@@ -25,3 +29,8 @@ pub record TakesAt (bound : Bound) (rid : ℕ) (run : List Row) (at : ℕ) (old 
   pub row : Row
   pub there : slice_get run at ≡ Some row
   pub on : GoesOn bound old (rid, row) new
+
+-- a query takes its rows together, and the chosen rows of a run come to these summaries
+pub record AreOfRun (bound : Bound) (run : List Row) (mask : List Bool) (found : List SumsOf) : Type 0 where
+  pub together : TakesTogether bound
+  pub come : (first : ℕ) → ComeTo bound (numbered_all (run_from first run)) (count_by (λ chosen. chosen) mask) found

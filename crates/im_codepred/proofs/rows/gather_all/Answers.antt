@@ -12,7 +12,7 @@ take-requires c =
     let rest = drop c.args.first (column_of c.args.rows.now c.args.column) in
     let grown = gathered-grows c.args.gathered.now (take c.loop-i.i rest) in
     let same = ap (λ t. t.values) c.loop-i.invariant in
-    omega (arith, grown.1, same, length-take c.loop-i.i rest, c.requires.few, c.loop-i-test.true)
+    omega (arith, grown.1, same, length-take c.loop-i.i rest, c.requires.few, c.requires.rows, c.requires.within, c.loop-i-test.true)
 
 pub loop-i-preserved : goal.loop-i-preserved
 loop-i-preserved c =

@@ -1,16 +1,10 @@
 use Rattle.std.proofs.Common.{List, subst, sym, ◌∙◌}
 use Rattle.im_values.specs.declared.value.Value.{Value}
-use Rattle.im_codepred.specs.Tallies.{chosen, IsTallyOf}
-use Rattle.im_codepred.proofs.TallyLemmas.{values-tally}
+use Rattle.im_codepred.specs.Tallies.{IsTallyOf}
 use Rattle.im_codepred.proofs.WholeLemmas.{chosen-whole}
 use Rattle.im_codepred.proofs.tally.tally_of.Goals as goal
 
-pub returns-in-Plain : goal.returns-in-Plain
-returns-in-Plain c =
-    let P : List Value → Type 0 = λ vs. IsTallyOf (chosen c.args.mask.now vs) c.tally.result in
-    subst P c.in-Plain.ensures.1 (values-tally (chosen c.args.mask.now c.in-Plain.values.now) c.gathered_in.result c.tally.result c.gathered_in.ensures c.tally.ensures)
-
-pub returns-then-count-len : goal.returns-then-count-len
-returns-then-count-len c =
-    let P : List Value → Type 0 = λ vs. IsTallyOf vs c.whole_tally.result in
-    subst P (sym (chosen-whole c.args.mask.now c.args.column.now c.requires (sym c.count.ensures ∙ (c.if-count-len.true ∙ c.len.ensures.len)))) c.whole_tally.ensures
+pub returns-in-Some : goal.returns-in-Some
+returns-in-Some c =
+    let P : List Value → Type 0 = λ vs. IsTallyOf vs c.in-Some.tally in
+    subst P (sym (chosen-whole c.args.mask.now c.args.column.now c.requires (sym c.count.ensures ∙ (c.if-count-len.true ∙ c.len.ensures.len)))) c.in-Some.ensures

@@ -1,4 +1,5 @@
 use Rattle.std.proofs.Common.{arith}
+use Rattle.im_blocks.specs.inner.Gathering.{gathered}
 use Rattle.im_blocks.proofs.ExtentLemmas.{rows_at-more}
 use Rattle.im_blocks.proofs.blocks.Blocks.extent_rows.Goals as goal
 
@@ -13,7 +14,8 @@ loop-rid-preserved g c =
     record {
       from = omega (arith, from, past);
       upto = upto;
-      rows = rows_at-more c.args.self.now c.args.table c.args.first c.loop-rid.rid c.in_ok-rid.rid c.args.scn c.loop-rid.fetched c.fetch_from.new.fetched
-          from (omega (arith, past)) c.loop-rid.invariant.rows next.rows;
+      rows = rows_at-more c.args.self.now c.args.table c.args.first c.loop-rid.rid c.in_ok-rid.rid c.args.scn (gathered c.loop-rid.read) (gathered c.fetch_from.new.read)
+          from (omega (arith, past)) c.loop-rid.invariant.rows next.rows.rows;
+      whole = next.rows.whole;
       few = omega (arith, counted, few);
     }

@@ -1,5 +1,6 @@
 use Rattle.std.proofs.Common.{◌≡◌, ◌+◌, ◌-◌, ◌≤◌}
 use Rattle.im_blocks.specs.Chains.{rows_at}
+use Rattle.im_blocks.specs.inner.Gathering.{IsWhole, gathered}
 use Rattle.im_blocks.proofs.blocks.Blocks.extent_rows.Given as goal
 
 -- the row numbers before this one are read
@@ -7,7 +8,8 @@ abbrev pub invariant-loop-rid : goal.invariant-loop-rid
 invariant-loop-rid g l = record {
   from : l.first ≤ l.rid;
   upto : l.rid ≤ l.first + l.count;
-  rows : l.fetched ≡ rows_at l.self l.table l.first (l.rid - l.first) l.scn;
+  rows : gathered l.read ≡ rows_at l.self l.table l.first (l.rid - l.first) l.scn;
+  whole : IsWhole l.read;
   few : l.steps + l.first ≤ l.fn.steps + l.rid;
 }
 

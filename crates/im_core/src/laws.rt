@@ -1,0 +1,13 @@
+ghost use Rattle.im_core.specs.Pins.{GiveOneScan, GiveTheSameRows, GivesTheCommittedRows};
+
+/// Pins of one extent for one open cursor give the same rows at any two moments, whichever units they lend.
+///
+/// Between the two any session, and the background, may have made any calls: commits, those of the cursor's own session too,
+/// and builds, switches and evictions. One pin may lend a unit, the other a unit of another SCN or none: what is fetched beside
+/// it makes both the rows that were committed at the cursor's SCN. So a scan takes the same rows of both, and whatever is made
+/// of these, as its part of an answer, is the same.
+pub fn pins_of_a_cursor_are_one()
+    ensures committed { GivesTheCommittedRows }
+    ensures rows { GiveTheSameRows }
+    ensures scan { GiveOneScan }
+{}

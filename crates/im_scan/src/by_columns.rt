@@ -1,0 +1,129 @@
+ghost use Rattle.std.specs.Prelude.{◌≡◌, ◌+◌, ◌<◌, ◌^◌, IfOk, OnOk, Some, length, true};
+ghost use Rattle.std.specs.Bool.{OnTrue};
+ghost use Rattle.std.specs.List.{AllByRecursion};
+ghost use Rattle.std.specs.Option.{ForSome};
+ghost use Rattle.im_history.specs.Rows.{present};
+ghost use Rattle.im_group.specs.Partials as group;
+ghost use Rattle.im_unit.specs.Holding.{count_present};
+ghost use Rattle.im_scan.specs.Faces.{unit_of};
+ghost use Rattle.im_scan.specs.Parts.{MayAsk, taken_row};
+ghost use Rattle.im_scan.specs.inner.Left.{IsPartOfChosen};
+ghost use Rattle.im_scan.specs.inner.Pieces.{HasRoomFor, numbered_all};
+ghost use Rattle.im_scan.specs.inner.Steps.{GoesOnBy, MayScan};
+ghost use Rattle.im_scan.specs.inner.Walk.{lent_beside, standing};
+
+use crate::beside::beside;
+use crate::by_code::{coded, coded_key};
+use crate::faces::Face;
+use crate::left::{are_between, left_spots};
+use crate::parts::take_row;
+use crate::summed::{takes_together, together};
+use im_group::{Asking, Partial};
+use im_history::View;
+use im_lanes::Mask;
+use im_syntax::Bound;
+use im_unit::ColumnUnit;
+use im_values::{NoMemory, Row};
+use std::alloc::Global;
+
+/// Whether the columns of a unit answer a query without a row of it.
+fn is_by_columns(bound: &Bound, unit: &ColumnUnit) -> bool
+    ensures { OnTrue result (bound.now.grouped ≡ true) }
+{
+    if takes_together(bound) {
+        return true;
+    }
+    coded_key(bound, unit).is_some()
+}
+
+/// The part of the chosen rows of a unit, made of its columns. None where they do not answer the query.
+fn chosen_part(
+    alloc: Global,
+    asking: &Asking<'_>,
+    unit: &ColumnUnit,
+    spots: &Mask,
+) -> Result<Option<Partial>, NoMemory>
+    requires { length spots.now ≡ count_present unit.now.rows }
+    ensures { IfOk result (λ part. ForSome part (IsPartOfChosen asking.now unit.now spots.now)) }
+{
+    if takes_together(asking.bound()) {
+        together(alloc, asking, unit, spots)
+    } else {
+        coded(alloc, asking, unit, spots)
+    }
+}
+
+/// The part takes the rows that stand beside a unit, one by one. They stay where they are.
+fn take_beside(
+    alloc: Global,
+    asking: &Asking<'_>,
+    rows: &[(u64, Option<&Row>)],
+    part: &mut Partial,
+) -> Result<(), NoMemory>
+    requires fits { AllByRecursion (λ row. MayAsk asking.now row.1) (lent_beside rows.now) }
+    requires few { HasRoomFor asking.now (length rows.now) part.old }
+    ensures { OnOk result (GoesOnBy asking.now part.old (numbered_all (lent_beside rows.now)) part.new) }
+{
+    for (rid, row) in rows {
+        take_row(alloc, asking, *rid, *row, part)?;
+    }
+    Ok(())
+}
+
+/// What so many row numbers from the first of a unit on give to a query that is grouped: what is left of the unit, by its columns, and
+/// then the rows beside it.
+fn left_part(
+    alloc: Global,
+    asking: &Asking<'_>,
+    unit: &ColumnUnit,
+    beside: &[(u64, Option<&Row>)],
+    count: u64,
+) -> Result<Option<Partial>, NoMemory>
+    requires grouped { asking.now.grouped ≡ true }
+    requires within { unit.now.first + count < 2 ^ 64 }
+    requires fits { AllByRecursion (MayAsk asking.now) unit.now.rows }
+    requires beside_fits { AllByRecursion (λ row. MayAsk asking.now row.1) (lent_beside beside.now) }
+    ensures { IfOk result (λ part. ForSome part (λ part.
+        part ≡ group.partial asking.now (present (standing (Some unit.now) (lent_beside beside.now)) unit.now.first count))) }
+{
+    let first = unit.first();
+    if !are_between(beside, first, first + count) {
+        return Ok(None);
+    }
+    let spots = left_spots(alloc, unit, &asking.bound().filter, beside, count)?;
+    let Some(mut part) = chosen_part(alloc, asking, unit, &spots)? else {
+        return Ok(None);
+    };
+    take_beside(alloc, asking, beside, &mut part)?;
+    Ok(Some(part))
+}
+
+/// What an extent gives whose unit is scanned, to a query that the columns of the unit answer. None for any other, where what was
+/// fetched is not in rising order of the extent's row numbers, and where the unit begins elsewhere.
+///
+/// Of the unit not one row is read. The rows beside it are taken behind what is left of it: what a grouped query takes has no order.
+pub fn column_part(
+    alloc: Global,
+    face: Face<'_>,
+    asking: &Asking<'_>,
+    fetched: &[(u64, Option<Row>)],
+    view: &View,
+    first: u64,
+    count: u64,
+) -> Result<Option<Partial>, NoMemory>
+    requires within { first + count < 2 ^ 64 }
+    requires fits { MayScan asking.now (unit_of face) fetched.now view.now.own }
+    ensures { IfOk result (λ part. ForSome part (λ part.
+        part ≡ group.partial asking.now (present (taken_row (unit_of face.entry) fetched.now view.now) first count))) }
+{
+    let Face::Whole(unit) = face else {
+        return Ok(None);
+    };
+    if unit.first() != first || !is_by_columns(asking.bound(), unit) {
+        return Ok(None);
+    }
+    match beside(alloc, fetched, view, first, count)? {
+        Some(rows) => left_part(alloc, asking, unit, rows.as_slice(), count),
+        None => Ok(None),
+    }
+}
