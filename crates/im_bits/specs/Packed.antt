@@ -1,6 +1,6 @@
 -- Lists of codes of one width, and the words of 64 bits that hold them.
 pub use Rattle.im_values.specs.Sizes.{codes_per_word, words_for}
-use Rattle.std.specs.Prelude.{◌≡◌, ℕ, ◌+◌, ◌*◌, ◌/◌, ◌%◌, ◌^◌, ◌<◌, List, [], ◌∷◌, length, map, take, drop, slice_index}
+use Rattle.std.specs.Prelude.{◌≡◌, ℕ, ◌+◌, ◌-◌, ◌*◌, ◌/◌, ◌%◌, ◌^◌, ◌<◌, List, [], ◌∷◌, length, map, take, drop, slice_index}
 use Rattle.std.specs.List.{range_with_len}
 
 -- packed codes as contracts see them: the bits of each, and the codes in order
@@ -33,3 +33,11 @@ codes_in width words n = map (code_in width words) (range_with_len 0 n)
 -- 64 codes of a list from a place on: 0 past its end
 abbrev pub HasCodesFrom : List ℕ → ℕ → List ℕ → Type 0
 HasCodesFrom codes first out = (k : ℕ) → k < 64 → slice_index out k ≡ slice_index codes (first + k)
+
+-- a block of 512 codes of a list from a place on: 0 past its end
+abbrev pub HasBlockFrom : List ℕ → ℕ → List ℕ → Type 0
+HasBlockFrom codes first out = (k : ℕ) → k < 512 → slice_index out k ≡ slice_index codes (first + k)
+
+-- the block of a number from 1 on is held; 0 is that of none
+abbrev pub IsHeld : List ℕ → ℕ → List ℕ → Type 0
+IsHeld codes held out = 0 < held → HasBlockFrom codes ((held - 1) * 512) out

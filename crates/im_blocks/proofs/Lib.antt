@@ -6,5 +6,6 @@ mod HandingLemmas
 mod Places
 mod RoomLemmas
 mod RunLemmas
+mod ScatterLemmas
 mod StoreLemmas
 mod VersionLemmas

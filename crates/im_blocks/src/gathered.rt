@@ -1,4 +1,5 @@
-ghost use Rattle.std.specs.Prelude.{◌≡◌, ◌+◌, ◌^◌, ◌<◌, ◌≤◌, ◌++◌, [], ◌∷◌, drop, length, option_copied, take, IfOk, OnOk, None, Some};
+ghost use Rattle.std.specs.Prelude.{◌≡◌, ◌+◌, ◌*◌, ◌^◌, ◌<◌, ◌≤◌, ◌++◌, [], ◌∷◌, drop, length, option_copied, take, vec_capacity, vec_len, IfOk, OnOk, None, Some};
+ghost use Rattle.im_values.specs.Stretches.{cut};
 ghost use Rattle.im_blocks.specs.inner.Gathering.{Gathers, IsFlushed, IsReadyAt, IsWhole, gathered};
 ghost use Rattle.im_history.specs.Fetched.{run_from};
 
@@ -30,13 +31,34 @@ pub struct Gathered {
     pub values: Vec<Value>,
 }
 
+/// Puts a copy of a value behind others, for which there is room. A number takes no call.
+#[inline(always)]
+fn put_value(alloc: Global, values: &mut Vec<Value>, value: &Value) -> Result<(), NoMemory>
+    requires { vec_len values.old < vec_capacity values.old }
+    ensures items { OnOk result (values.new.items ≡ values.old.items ++ value.now ∷ []) }
+    ensures len { OnOk result (vec_len values.new ≡ vec_len values.old + 1) }
+    ensures capacity { vec_capacity values.new ≡ vec_capacity values.old }
+{
+    match value {
+        Value::Int(number) => values.push_reserved(Value::Int(*number)),
+        Value::Text(text) => values.push_reserved(Value::Text(text.copy(alloc)?)),
+        Value::Null => values.push_reserved(Value::Null),
+    }
+    Ok(())
+}
+
 /// Puts copies of values behind others.
-fn put_values(alloc: Global, values: &mut Vec<Value>, row: &[Value]) -> Result<(), NoMemory>
+#[inline(always)]
+pub(crate) fn put_values(
+    alloc: Global,
+    values: &mut Vec<Value>,
+    row: &[Value],
+) -> Result<(), NoMemory>
     ensures { OnOk result (values.new.items ≡ values.old.items ++ row.now) }
 {
     values.reserve(row.len())?;
     for value in row {
-        values.push(value.copy(alloc)?)?;
+        put_value(alloc, values, value)?;
     }
     Ok(())
 }
@@ -144,17 +166,15 @@ impl Gathered {
         requires numbers { rid + many ≤ 2 ^ 63 }
         ensures { OnOk result (Gathers self.old self.new (run_from rid (take many (drop from rows.now)))) }
     {
-        let _ = rows.len();
-        for at in 0..many {
-            self.push_row(rid + at as u64, rows.values(from + at))?;
-        }
-        Ok(())
+        let lent = rows.lent(from, many);
+        self.begin(rid, lent.width)?;
+        self.put_all(lent.values, many)
     }
 
     /// Makes it ready to gather a row of so many values at this row number.
     fn begin(&mut self, rid: u64, width: usize) -> Result<(), NoMemory>
         requires whole { IsWhole self.old }
-        requires number { rid < 2 ^ 63 }
+        requires number { rid ≤ 2 ^ 63 }
         ensures { OnOk result (IsReadyAt self.old self.new rid width) }
     {
         if self.first + self.count as u64 == rid && self.width == width {
@@ -175,6 +195,18 @@ impl Gathered {
     {
         put_values(self.alloc, &mut self.values, row)?;
         self.count += 1;
+        Ok(())
+    }
+
+    /// Gathers so many rows more, whose values lie one row behind another.
+    fn put_all(&mut self, values: &[Value], many: usize) -> Result<(), NoMemory>
+        requires whole { IsWhole self.old }
+        requires long { length values.now ≡ many * self.old.width }
+        requires numbers { self.old.first + self.old.count + many ≤ 2 ^ 63 }
+        ensures { OnOk result (Gathers self.old self.new (run_from (self.old.first + self.old.count) (cut many self.old.width values.now))) }
+    {
+        put_values(self.alloc, &mut self.values, values)?;
+        self.count += many;
         Ok(())
     }
 

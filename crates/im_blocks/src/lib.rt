@@ -19,6 +19,7 @@ mod gathered;
 mod ready;
 mod run;
 mod runs;
+mod scattered;
 mod slot;
 mod touched;
 

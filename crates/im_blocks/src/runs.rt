@@ -29,13 +29,13 @@ pub struct LentRows<'a> {
     pub rows: &'a Rows,
 }
 
-/// The rows of a run of many, where it is of a commit at or below an SCN.
+/// The rows of a run of more than one, where it is of a commit at or below an SCN.
 pub fn rows_seen(run: Option<&Run>, scn: u64) -> Option<LentRows<'_>>
     ensures { IfSome result (λ lent. AreSeen (option_copied run.entry) lent.first lent.rows.now scn) }
 {
     let run = run?;
     match &run.rows {
-        Held::Many(rows) if run.scn <= scn => Some(LentRows {
+        Held::Many(rows) if run.scn <= scn && rows.len() > 1 => Some(LentRows {
             first: run.first,
             rows,
         }),

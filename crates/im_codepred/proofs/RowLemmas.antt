@@ -1,5 +1,6 @@
 -- What is known of values, and the words of a run of rows.
-use Rattle.std.proofs.Common.{◌≡◌, ℕ, ◌+◌, ◌-◌, ◌*◌, ◌<◌, ◌≤◌, min, Bool, false, List, [], ◌∷◌, length, take, drop, map, get_or, ⊎_elim, refl, sym, ap, ◌∙◌, arith, length-drop, get_or-drop}
+use Rattle.std.proofs.Common.{◌≡◌, ℕ, zero, suc, ◌+◌, ◌-◌, ◌*◌, ◌^◌, ◌<◌, ◌≤◌, min, Bool, false, cond, List, [], ◌∷◌, length, take, drop, map, get_or, ⊎_elim, refl, sym, ap, subst, ◌∙◌, arith, length-drop, length-take, get_or-drop, lt_of_lt_of_le}
+use Rattle.std.proofs.Math.Nat.{pow-le-pow_right}
 use Rattle.std.proofs.lemmas.Bool.{cases_lt}
 use Rattle.std.proofs.lemmas.List.{length-map, get_or-map, take_all}
 use Rattle.im_values.specs.declared.value.Value.{Value}
@@ -8,7 +9,7 @@ use Rattle.im_codepred.specs.declared.numbers.Known.{Known}
 use Rattle.im_codepred.specs.declared.numbers.Known.TheVariants as known
 use Rattle.im_codepred.specs.inner.Numbers.{IsKnown}
 use Rattle.im_lanes.specs.Masks.{word_at, word_of, words_of}
-use Rattle.im_lanes.proofs.ForCallers.{words-more, words-all}
+use Rattle.im_lanes.proofs.ForCallers.{word_of-few, words-more, words-all}
 use Rattle.std.specs.Int.{div_ceil}
 use Rattle.std.proofs.lemmas.Grind.{div_ceil_times}
 
@@ -45,6 +46,30 @@ word-whole bits place i word end is =
     let full : i ≡ 64 = omega (arith, end, size, h) in
     ap (λ n. word_of (take n rest)) full)
     (cases_lt (length rest) 64)
+
+-- a word has no bit past its last one
+pub word-below : (bits : List Bool) → word_of bits < 2 ^ length bits
+word-below bits =
+    let whole : take (length bits) bits ≡ bits = take_all (length bits) bits (omega arith) in
+    let P : List Bool → Type 0 = λ b. word_of b < 2 ^ length bits in
+    subst P whole (word_of-few bits (length bits))
+
+-- and a word of fewer than 64 bits is below 2^63
+pub word-few : (bits : List Bool) (first count left word : ℕ) → count ≤ 64 → 0 < left → word ≡ word_of (drop left (take count (drop first bits))) → word < 2 ^ 63
+word-few bits first count left word short some is =
+    let part = drop left (take count (drop first bits)) in
+    let long : length part ≤ 63 =
+    omega (arith, length-drop left (take count (drop first bits)), length-take count (drop first bits), short, some) in
+    rw is (lt_of_lt_of_le (word-below part) (pow-le-pow_right (omega arith) long))
+
+-- one bit more below those behind it
+pub word-under : (bits : List Bool) (i word : ℕ) (b : Bool) → i < length bits → word ≡ word_of (drop (i + 1) bits) → b ≡ get_or bits i false →
+    word * 2 + cond b 1 0 ≡ word_of (drop i bits)
+word-under [] i word b inside is here = absurd (omega (arith, inside))
+word-under (x ∷ bits) zero word b inside is here = rw (is, here) (omega arith)
+word-under (x ∷ bits) (suc i) word b inside is here =
+    let next : suc i + 1 ≡ suc (i + 1) = omega arith in
+    word-under bits i word b (omega (arith, inside)) (is ∙ ap (λ n. word_of (drop n (x ∷ bits))) next) here
 
 -- the one word of few bits
 pub one-word : (bits : List Bool) (word : ℕ) → 0 < length bits → length bits ≤ 64 → word ≡ word_of bits → word ∷ [] ≡ words_of bits

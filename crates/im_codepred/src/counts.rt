@@ -4,7 +4,7 @@ ghost use Rattle.im_codes.specs.Dictionary.{coded};
 ghost use Rattle.im_codepred.specs.Tallies.{chosen, AreCounts};
 ghost use Rattle.im_codepred.specs.inner.Tallying.{at_bits, one_more};
 
-use im_bits::Bits;
+use im_bits::{Bits, ROOM};
 use im_column::{Column, Form};
 use im_lanes::Mask;
 use im_values::NoMemory;
@@ -38,7 +38,7 @@ fn counted_in(alloc: Global, most: u32, bits: &Bits, mask: &Mask) -> Result<Vec<
     Ok(counts)
 }
 
-/// Counts the chosen of packed codes.
+/// Counts the chosen of packed codes. Where 512 codes have no chosen one, they are not unpacked.
 fn count_all(counts: &mut [u64], bits: &Bits, mask: &Mask)
     requires none { counts.old ≡ replicate (length counts.old) 0 }
     requires long { length mask.now ≡ length bits.now.codes }
@@ -46,28 +46,14 @@ fn count_all(counts: &mut [u64], bits: &Bits, mask: &Mask)
     ensures { counts.new ≡ fold one_more counts.old (chosen mask.now bits.now.codes) }
 {
     let words = mask.words();
+    let mut codes = [0; ROOM];
+    let mut held = 0;
     for place in 0..words.len() {
-        count_share(counts, bits, place as u64, words[place]);
+        if words[place] != 0 {
+            held = bits.turn_to(place as u64, held, &mut codes);
+            count_word(counts, bits.share_of(place as u64, &codes), words[place]);
+        }
     }
-}
-
-/// Counts of 64 packed codes from a place on those at the bits of a word that are set.
-fn count_share(counts: &mut [u64], bits: &Bits, place: u64, word: u64)
-    requires few { (code : ℕ) → slice_index counts.old code < 2 ^ 62 }
-    requires inside { place * 64 < length bits.now.codes }
-    requires near { place < 2 ^ 32 }
-    requires codes { All (λ code. code < length counts.old) bits.now.codes }
-    requires word { word < 2 ^ length (take 64 (drop (place * 64) bits.now.codes)) }
-    ensures { counts.new ≡ fold one_more counts.old (at_bits word (take 64 (drop (place * 64) bits.now.codes))) }
-{
-    if word == 0 {
-        return;
-    }
-    let first = place * 64;
-    let left = (bits.len() - first).min(64);
-    let mut codes = [0; 64];
-    bits.codes_from(first, &mut codes);
-    count_word(counts, &codes[..left as usize], word);
 }
 
 /// Counts the codes at the bits of a word that are set.

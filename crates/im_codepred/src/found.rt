@@ -5,7 +5,7 @@ ghost use Rattle.im_codepred.specs.Tallies.{IsWithin, chosen, some_of};
 ghost use Rattle.im_codepred.specs.inner.Tallying.{at_bits, lesser_code, nothing, number_at, taken, taken_run, totals_of, times_of, with_run, IsInside, Shows};
 
 use crate::tally::Tally;
-use im_bits::Bits;
+use im_bits::{Bits, ROOM};
 use im_codes::Runs;
 use im_lanes::{Mask, count_within};
 use im_values::Value;
@@ -102,25 +102,6 @@ impl Found {
         }
     }
 
-    /// Takes of 64 packed codes from a place on those at the bits of a word that are set.
-    fn take_share(&mut self, dict: &[Value], bits: &Bits, place: u64, word: u64)
-        requires few { self.old.values < 2 ^ 62 }
-        requires inside { place * 64 < length bits.now.codes }
-        requires near { place < 2 ^ 32 }
-        requires codes { All (λ code. code < length (coded dict.now)) bits.now.codes }
-        requires word { word < 2 ^ length (take 64 (drop (place * 64) bits.now.codes)) }
-        ensures { self.new ≡ fold (taken dict.now) self.old (at_bits word (take 64 (drop (place * 64) bits.now.codes))) }
-    {
-        if word == 0 {
-            return;
-        }
-        let first = place * 64;
-        let left = (bits.len() - first).min(64);
-        let mut codes = [0; 64];
-        bits.codes_from(first, &mut codes);
-        self.take_word(dict, &codes[..left as usize], word);
-    }
-
     /// What is found, as values.
     pub fn tally<'a>(&self, dict: &'a [Value]) -> Tally<'a>
         requires inside { IsInside dict.now self.now }
@@ -190,16 +171,21 @@ fn lesser_code(least: u32, code: u32) -> u32
     }
 }
 
-/// What is found among the chosen of packed codes. Where 64 codes have no chosen one, they are not unpacked.
+/// What is found among the chosen of packed codes. Where 512 codes have no chosen one, they are not unpacked.
 pub fn found_in(dict: &[Value], bits: &Bits, mask: &Mask) -> Found
     requires long { length mask.now ≡ length bits.now.codes }
     requires codes { All (λ code. code < length (coded dict.now)) bits.now.codes }
     ensures { result ≡ fold (taken dict.now) nothing (chosen mask.now bits.now.codes) }
 {
     let words = mask.words();
+    let mut codes = [0; ROOM];
+    let mut held = 0;
     let mut found = Found::none();
     for place in 0..words.len() {
-        found.take_share(dict, bits, place as u64, words[place]);
+        if words[place] != 0 {
+            held = bits.turn_to(place as u64, held, &mut codes);
+            found.take_word(dict, bits.share_of(place as u64, &codes), words[place]);
+        }
     }
     found
 }

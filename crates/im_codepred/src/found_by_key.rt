@@ -5,12 +5,12 @@ ghost use Rattle.im_codepred.specs.inner.Tallying.{at_bits, nothing, totals_of, 
 
 use crate::found::Found;
 use crate::tally::Tally;
-use im_bits::Bits;
+use im_bits::{Bits, ROOM};
 use im_lanes::Mask;
 use im_values::{NoMemory, Value};
 use std::alloc::Global;
 
-/// What is found among the chosen of packed codes with each packed key below one. Where 64 codes have no chosen one, they are
+/// What is found among the chosen of packed codes with each packed key below one. Where 512 codes have no chosen one, they are
 /// not unpacked.
 pub fn found_by_key(
     alloc: Global,
@@ -52,39 +52,22 @@ fn find_all(founds: &mut [Found], keys: &Bits, dict: &[Value], codes: &Bits, mas
     ensures { founds.new ≡ fold (with_code dict.now) founds.old (chosen mask.now (zip keys.now.codes codes.now.codes)) }
 {
     let words = mask.words();
+    let mut some_keys = [0; ROOM];
+    let mut some_codes = [0; ROOM];
+    let mut held = 0;
     for place in 0..words.len() {
-        find_share(founds, keys, dict, codes, place as u64, words[place]);
+        if words[place] != 0 {
+            let _ = keys.turn_to(place as u64, held, &mut some_keys);
+            held = codes.turn_to(place as u64, held, &mut some_codes);
+            find_word(
+                founds,
+                keys.share_of(place as u64, &some_keys),
+                dict,
+                codes.share_of(place as u64, &some_codes),
+                words[place],
+            );
+        }
     }
-}
-
-/// Takes of 64 packed codes from a place on those at the bits of a word that are set.
-fn find_share(
-    founds: &mut [Found],
-    keys: &Bits,
-    dict: &[Value],
-    codes: &Bits,
-    place: u64,
-    word: u64,
-)
-    requires few { (key : ℕ) → (slice_index_or founds.old key nothing).values < 2 ^ 62 }
-    requires inside { place * 64 < length keys.now.codes }
-    requires near { place < 2 ^ 32 }
-    requires long { length keys.now.codes ≡ length codes.now.codes }
-    requires below { All (λ code. code < length founds.old) keys.now.codes }
-    requires codes { All (λ code. code < length (coded dict.now)) codes.now.codes }
-    requires word { word < 2 ^ length (take 64 (drop (place * 64) (zip keys.now.codes codes.now.codes))) }
-    ensures { founds.new ≡ fold (with_code dict.now) founds.old (at_bits word (take 64 (drop (place * 64) (zip keys.now.codes codes.now.codes)))) }
-{
-    if word == 0 {
-        return;
-    }
-    let first = place * 64;
-    let left = (keys.len() - first).min(64) as usize;
-    let mut some_keys = [0; 64];
-    keys.codes_from(first, &mut some_keys);
-    let mut some_codes = [0; 64];
-    codes.codes_from(first, &mut some_codes);
-    find_word(founds, &some_keys[..left], dict, &some_codes[..left], word);
 }
 
 /// Takes the codes at the bits of a word that are set, each with its key.

@@ -1,4 +1,5 @@
 ghost use Rattle.std.specs.Prelude.{◌≡◌};
+ghost use Rattle.std.specs.Option.{ForSome};
 ghost use Rattle.std.specs.Ordering.{is_eq};
 ghost use Rattle.im_values.specs.declared.value.Value.{Value as AnyValue};
 ghost use Rattle.im_values.specs.declared.value.Value.TheVariants.{Int};
@@ -75,6 +76,38 @@ impl<'a> Probe<'a> {
             (Known::Same(other), _) => is_same(value, other),
             _ => asks(self.wanted, self.asked, value),
         }
+    }
+
+    /// Which numbers have it, where that is known.
+    pub fn numbers(&self) -> Option<Numbers>
+        requires { IsReady self.now }
+        ensures { ForSome result (λ numbers. Holds numbers (passes self.now)) }
+    {
+        match self.known {
+            Known::Numbers(numbers) => Some(numbers),
+            Known::Same(_) | Known::Nothing => None,
+        }
+    }
+
+    /// Whether a value has it, where it is known which numbers do.
+    #[inline(always)]
+    pub fn meets_among(&self, numbers: Numbers, value: &Value) -> bool
+        requires { Holds numbers (passes self.now) }
+        ensures { result ≡ passes self.now value.now }
+    {
+        match value {
+            Value::Int(number) => numbers.has(*number),
+            _ => self.asks(value),
+        }
+    }
+
+    /// The same of a value that is seldom met.
+    #[cold]
+    #[inline(never)]
+    fn asks(&self, value: &Value) -> bool
+        ensures { result ≡ passes self.now value.now }
+    {
+        asks(self.wanted, self.asked, value)
     }
 }
 

@@ -3,13 +3,13 @@ ghost use Rattle.im_syntax.specs.BoundFits.{HasColumn, value_at};
 ghost use Rattle.im_lanes.specs.Masks.{word_at, words_of};
 ghost use Rattle.im_codepred.specs.Asked.{is_met};
 ghost use Rattle.im_codepred.specs.Tallies.{chosen, IsTallyOf};
-ghost use Rattle.im_codepred.specs.inner.Numbers.{passes_in, IsReady};
+ghost use Rattle.im_codepred.specs.inner.Numbers.{passes, passes_in, Holds, IsReady};
 ghost use Rattle.im_codepred.specs.inner.Slabs.{column_of};
 ghost use Rattle.im_codepred.specs.inner.Tallying.{at_bits, no_totals, with_value};
 
 use crate::asked::{Asked, Wanted};
 use crate::gathered::Gathered;
-use crate::numbers::Probe;
+use crate::numbers::{Numbers, Probe};
 use crate::tally::Tally;
 use im_lanes::{Mask, count, with_bit, word_count};
 use im_values::{NoMemory, Rows, Value};
@@ -51,6 +51,39 @@ fn rows_words(alloc: Global, probe: &Probe, rows: &Rows, column: u32) -> Result<
 
 /// The word at a place: of 64 rows, or of as many as are left.
 fn rows_word(probe: &Probe, rows: &Rows, column: u32, place: usize) -> u64
+    requires ready { IsReady probe.now }
+    requires few { length rows.now < 2 ^ 31 }
+    requires inside { All (λ row. HasColumn row column) rows.now }
+    requires begins { place * 64 < length rows.now }
+    ensures { result ≡ word_at (map (passes_in probe.now column) rows.now) place }
+{
+    match probe.numbers() {
+        Some(numbers) => numbers_word(probe, numbers, rows, column, place),
+        None => values_word(probe, rows, column, place),
+    }
+}
+
+/// The same where it is known which numbers pass. The last row comes first, so that each bit is put below those behind it.
+fn numbers_word(probe: &Probe, numbers: Numbers, rows: &Rows, column: u32, place: usize) -> u64
+    requires known { Holds numbers (passes probe.now) }
+    requires few { length rows.now < 2 ^ 31 }
+    requires inside { All (λ row. HasColumn row column) rows.now }
+    requires begins { place * 64 < length rows.now }
+    ensures { result ≡ word_at (map (passes_in probe.now column) rows.now) place }
+{
+    let first = place * 64;
+    let mut left = (rows.len() - first).min(64);
+    let mut word = 0;
+    while left > 0 {
+        left -= 1;
+        let met = probe.meets_among(numbers, value_in(rows, first + left, column));
+        word = word * 2 + u64::from(met);
+    }
+    word
+}
+
+/// The same where each value is asked.
+fn values_word(probe: &Probe, rows: &Rows, column: u32, place: usize) -> u64
     requires ready { IsReady probe.now }
     requires few { length rows.now < 2 ^ 31 }
     requires inside { All (λ row. HasColumn row column) rows.now }

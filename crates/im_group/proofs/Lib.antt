@@ -12,6 +12,8 @@ mod GroupSteps
 mod AskedLemmas
 mod ReadingLaws
 mod TakingLaws
+mod EndLaws
+mod ChosenLaws
 mod NearLaws
 mod KeySort
 mod Merging

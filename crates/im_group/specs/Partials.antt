@@ -105,6 +105,16 @@ pub record IsPartOfFew (bound : Bound) (part : Parts) : Type 0 where
 pub record GoesOn (bound : Bound) (old : Parts) (row : Numbered) (new : Parts) : Type 0 where
   pub goes : (rows : List Numbered) → old ≡ partial bound rows → new ≡ partial bound (rows ++ row ∷ [])
 
+-- a part is that of so few rows that so many more can be counted
+pub record IsPartOfSoFew (bound : Bound) (more : ℕ) (part : Parts) : Type 0 where
+  pub rows : List Numbered
+  pub is : part ≡ partial bound rows
+  pub few : length rows + more < 2 ^ 64
+
+-- the part of some rows goes on to the part of these and of rows of these values behind them, whatever their numbers are
+pub record GoesOnWith (bound : Bound) (old : Parts) (values : List (List Value)) (new : Parts) : Type 0 where
+  pub goes : (front back : List Numbered) → old ≡ partial bound front → map (λ r. r.1) back ≡ values → new ≡ partial bound (front ++ back)
+
 -- the groups of two parts: a group of both joins what it has in each
 abbrev pub with_tallies : Option Tallied → Tallied → Tallied
 with_tallies None ts = ts

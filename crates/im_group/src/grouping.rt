@@ -10,7 +10,7 @@ ghost use Rattle.im_group.specs.inner.Steps.{stands_at, tallies_at, first_groups
 ghost use Rattle.im_group.specs.Tallies.{CanJoin, tallied};
 
 use crate::asked::Asked;
-use crate::hints::{Hints, slot_of};
+use crate::hints::{Hints, SLOTS, slot_of};
 use crate::near::near;
 use crate::sums::Sums;
 use crate::tallies::Tallies;
@@ -95,6 +95,7 @@ fn put_group(
 }
 
 /// The group at a place, which has the key of a row, takes the row. No key is looked at.
+#[inline(always)]
 fn take_there(
     alloc: Global,
     _columns: &[u32],
@@ -141,9 +142,34 @@ fn take_looked_up(
     }
 }
 
+/// The group of the key of a row takes the row: the key is looked up, and the slot then points to its group.
+#[inline(never)]
+fn take_far(
+    alloc: Global,
+    columns: &[u32],
+    asked: &[Asked],
+    row: &[Value],
+    slot: usize,
+    room: &mut Room,
+    groups: &mut Groups,
+) -> Result<(), NoMemory>
+    requires slot { slot < SLOTS }
+    requires keyed { AllByRecursion (λ column. column < length row.now) columns.now }
+    requires fits { AllByRecursion (λ a. a.column < length row.now) asked.now }
+    requires few { CanTake asked.now (own groups.old.entries) (spec.key_of columns.now row.now) }
+    ensures { OnOk result (own groups.new.entries ≡ with_taken asked.now (own groups.old.entries) (spec.key_of columns.now row.now) row.now) }
+{
+    write_key(alloc, columns, row, &mut room.key)?;
+    let key = room.key.as_slice();
+    let mut found = 0;
+    take_looked_up(alloc, columns, asked, key, row, &mut found, groups)?;
+    room.hints.point(slot, found);
+    Ok(())
+}
+
 /// The group of the key of a row takes the row. The key is looked up where the group is not near.
 #[inline(always)]
-fn take_grouped(
+pub fn take_grouped(
     alloc: Global,
     columns: &[u32],
     asked: &[Asked],
@@ -159,14 +185,7 @@ fn take_grouped(
     let slot = slot_of(columns, row);
     match near(columns, row, groups, room.hints.place(slot)) {
         Some(place) => take_there(alloc, columns, asked, place, row, groups),
-        None => {
-            write_key(alloc, columns, row, &mut room.key)?;
-            let key = room.key.as_slice();
-            let mut found = 0;
-            take_looked_up(alloc, columns, asked, key, row, &mut found, groups)?;
-            room.hints.point(slot, found);
-            Ok(())
-        }
+        None => take_far(alloc, columns, asked, row, slot, room, groups),
     }
 }
 

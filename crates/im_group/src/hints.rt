@@ -1,10 +1,11 @@
 ghost use Rattle.std.specs.Prelude.{◌<◌, length};
 ghost use Rattle.std.specs.List.{AllByRecursion};
 
+use crate::same::ends;
 use im_values::Value;
 
 /// How many hints there are.
-const SLOTS: usize = 64;
+pub const SLOTS: usize = 64;
 
 /// Where to look first for the group of a row, by a print of the row's key.
 ///
@@ -14,18 +15,10 @@ pub struct Hints {
     places: [u16; SLOTS],
 }
 
-/// A number that short texts seldom share: the first byte, the middle one, the last and how many there are.
+/// A number that texts seldom share: their ends and how many bytes there are.
 #[inline(always)]
 fn print_of_text(text: &[u8]) -> u64 {
-    match (text.first(), text.get(text.len() / 2), text.last()) {
-        (Some(first), Some(middle), Some(last)) => {
-            u64::from(*first)
-                | (u64::from(*middle) << 8)
-                | (u64::from(*last) << 16)
-                | ((text.len() as u64) << 24)
-        }
-        _ => 0,
-    }
+    ends(text) ^ ((text.len() as u64) << 56)
 }
 
 /// A number that values seldom share.

@@ -15,6 +15,7 @@
 mod asked;
 mod asking;
 mod cell;
+mod chosen;
 mod counted;
 mod grouping;
 mod hints;
@@ -25,6 +26,7 @@ mod partial;
 mod places;
 mod record;
 mod records;
+mod same;
 mod sums;
 mod tallies;
 

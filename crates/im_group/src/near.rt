@@ -6,6 +6,7 @@ ghost use Rattle.im_group.specs.inner.Steps.{stands_at};
 ghost use Rattle.im_group.specs.Partials as spec;
 
 use crate::grouping::Groups;
+use crate::same::same;
 use im_values::Value;
 
 /// Whether a row has this key. Nothing is copied or hashed.
@@ -18,7 +19,7 @@ fn has_key(columns: &[u32], row: &[Value], key: &[Value]) -> bool
         return false;
     }
     for (i, column) in columns.iter().enumerate() {
-        if row[*column as usize] != key[i] {
+        if !same(&row[*column as usize], &key[i]) {
             return false;
         }
     }

@@ -11,6 +11,7 @@ ghost use Rattle.im_group.specs.Answers.{finished, group_records, in_order, part
 use crate::asked::{Asked, asked_in};
 use crate::asking::{Asking, wanted};
 use crate::cell::Cell;
+use crate::chosen::take_run;
 use crate::grouping::{
     Groups, Room, copy_groups, join_first, join_groups, keeps, no_groups, take_row,
 };
@@ -18,8 +19,9 @@ use crate::places::Places;
 use crate::record::Record;
 use crate::records::{group_record, projected, put_in_order, row_records};
 use crate::sums::Sums;
+use im_lanes::Mask;
 use im_syntax::{Bound, Item};
-use im_values::{NoMemory, Row, Value, clone_row, copied};
+use im_values::{NoMemory, Row, Rows, Value, clone_row, copied};
 use indexmap::IndexMap;
 use std::alloc::Global;
 use std::cmp::Ordering;
@@ -269,6 +271,26 @@ impl Partial {
             self.rows.push((number, row))?;
             Ok(())
         }
+    }
+
+    /// Takes those rows of a run that a mask chooses, which are those that the query keeps, for a query that is grouped.
+    ///
+    /// Each costs less than by [`Partial::take_kept`], and the numbers of the rows are not asked: a group has none. Where memory is
+    /// out, what the part is then is not said.
+    pub fn take_chosen(
+        &mut self,
+        alloc: Global,
+        asking: &Asking<'_>,
+        rows: &Rows,
+        mask: &Mask,
+    ) -> Result<(), NoMemory>
+        requires grouped { asking.now.grouped ≡ true }
+        requires mask { mask.now ≡ map (spec.keeps asking.now.filter) rows.now }
+        requires fits { AllByRecursion (λ row. BoundFits row asking.now) rows.now }
+        requires few { spec.IsPartOfSoFew asking.now (length rows.now) self.old }
+        ensures { OnOk result (spec.GoesOnWith asking.now self.old rows.now self.new) }
+    {
+        take_run(alloc, asking, rows, mask, &mut self.room, &mut self.groups)
     }
 
     /// Takes rows that follow those so far all together, and without a row: how many of them the query keeps, and a summary of

@@ -169,6 +169,7 @@ impl Sums {
     }
 
     /// Compares a value with the ends that are asked for.
+    #[inline(never)]
     fn compare(&mut self, alloc: Global, asked: Asked, value: &Value) -> Result<(), NoMemory>
         ensures { OnOk result (self.new ≡ spec.compared asked self.old value.now) }
     {
@@ -181,17 +182,17 @@ impl Sums {
     pub(crate) fn take(
         &mut self,
         alloc: Global,
-        asked: Asked,
+        asked: &Asked,
         row: &[Value],
     ) -> Result<(), NoMemory>
-        requires fits { asked.column < length row.now }
+        requires fits { asked.now.column < length row.now }
         requires few { self.old.values + 1 < 2 ^ 64 }
-        ensures { OnOk result (self.new ≡ spec.taken asked self.old (value_at row.now asked.column)) }
+        ensures { OnOk result (self.new ≡ spec.taken asked.now self.old (value_at row.now asked.now.column)) }
     {
         let value = &row[asked.column as usize];
         self.add(value);
         if asked.least || asked.greatest {
-            self.compare(alloc, asked, value)
+            self.compare(alloc, *asked, value)
         } else {
             Ok(())
         }

@@ -54,6 +54,7 @@ fn join_each(sums: &mut Vec<Sums>, others: Vec<Sums>)
 }
 
 /// The summaries take one row more, each its column.
+#[inline(always)]
 fn take_each(
     alloc: Global,
     asked: &[Asked],
@@ -65,7 +66,7 @@ fn take_each(
     ensures { OnOk result (sums.new.items ≡ spec.each_taken asked.now sums.old.items row.now) }
 {
     for i in 0..asked.len().min(sums.len()) {
-        sums[i].take(alloc, asked[i], row)?;
+        sums[i].take(alloc, &asked[i], row)?;
     }
     Ok(())
 }
@@ -111,6 +112,7 @@ impl Tallies {
     }
 
     /// Takes one row more. Where memory is out, what the tallies are then is not said.
+    #[inline(always)]
     pub fn take(&mut self, alloc: Global, asked: &[Asked], row: &[Value]) -> Result<(), NoMemory>
         requires fits { AllByRecursion (λ a. a.column < length row.now) asked.now }
         requires few { spec.HasRoom self.old }

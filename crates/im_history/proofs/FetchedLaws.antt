@@ -1,13 +1,17 @@
 -- What is read of row numbers, one piece behind others.
-use Rattle.std.proofs.Common.{◌≡◌, ℕ, zero, suc, ◌+◌, ◌<◌, List, [], ◌∷◌, ◌++◌, length, map, take, Option, Some, refl, ap, sym, ◌∙◌, arith, append_assoc}
+use Rattle.std.proofs.Common.{◌≡◌, ℕ, zero, suc, ◌+◌, ◌<◌, List, [], ◌∷◌, ◌++◌, length, map, take, Option, Some, refl, ap, sym, ◌∙◌, arith, append_assoc, min}
+use denote.Ref.{Bor}
 use Rattle.std.specs.List.{slice_get}
 use Rattle.std.proofs.lemmas.Grind.{flat_map-append}
 use Rattle.std.proofs.lemmas.List.{length-take, map-append, append-nil}
 use Rattle.std.proofs.lemmas.Option.{slice_get_within}
-use Rattle.im_history.specs.declared.fetched.LentRow.{LentRow}
 use Rattle.im_history.specs.declared.fetched.Piece.{Piece}
-use Rattle.im_history.specs.Fetched.{in_piece, in_pieces, lent_row, lent_rows, run_from}
+use Rattle.im_history.specs.Fetched.{each_at, in_piece, in_pieces, lent_row, lent_rows, run_from}
 use Rattle.im_history.specs.Rows.{Row}
+
+-- a row that is lent
+abbrev LentRow : Type 0
+LentRow = ℕ × Option (Bor Row)
 
 pub length-run_from : (first : ℕ) (rows : List Row) → length (run_from first rows) ≡ length rows
 length-run_from first [] = refl
@@ -70,3 +74,49 @@ put-next old now new rows at row is so_far pushed =
     ∙ (append_assoc old (map some (take at rows)) (Some row ∷ [])
     ∙ ap (λ (l : List (Option Row)). old ++ l)
     (sym (map-append some (take at rows) (row ∷ [])) ∙ ap (map some) (sym (take-got rows at row is)))))
+
+pub length-each_at : (rids : List ℕ) (rows : List Row) → length rids ≡ length rows → length (each_at rids rows) ≡ length rows
+length-each_at [] rows same = same
+length-each_at (rid ∷ rids) [] same = refl
+length-each_at (rid ∷ rids) (row ∷ rows) same = ap suc (length-each_at rids rows (omega (arith, same)))
+
+-- the rows of such a piece alone
+pub rows-each_at : (rids : List ℕ) (rows : List Row) → length rids ≡ length rows
+    → map (λ (found : ℕ × Option Row). found.1) (each_at rids rows) ≡ map (λ (row : Row). Some row) rows
+rows-each_at [] [] same = refl
+rows-each_at [] (row ∷ rows) same = absurd (omega (arith, same))
+rows-each_at (rid ∷ rids) [] same = absurd (omega (arith, same))
+rows-each_at (rid ∷ rids) (row ∷ rows) same =
+    ap (λ (l : List (Option Row)). Some row ∷ l) (rows-each_at rids rows (omega (arith, same)))
+
+-- rows, each at its own row number, and one more
+pub each_at-push : (rids : List ℕ) (rows : List Row) (rid : ℕ) (row : Row) → length rids ≡ length rows
+    → each_at (rids ++ rid ∷ []) (rows ++ row ∷ []) ≡ each_at rids rows ++ (rid, Some row) ∷ []
+each_at-push [] [] rid row same = refl
+each_at-push [] (r ∷ rows) rid row same = absurd (omega (arith, same))
+each_at-push (i ∷ rids) [] rid row same = absurd (omega (arith, same))
+each_at-push (i ∷ rids) (r ∷ rows) rid row same =
+    ap (λ (l : List (ℕ × Option Row)). (i, Some r) ∷ l) (each_at-push rids rows rid row (omega (arith, same)))
+
+-- so many of them and the next
+pub each_at-next : (rids : List ℕ) (rows : List Row) (at rid : ℕ) (row : Row) → length rids ≡ length rows → slice_get rids at ≡ Some rid
+    → slice_get rows at ≡ Some row → each_at (take (at + 1) rids) (take (at + 1) rows) ≡ each_at (take at rids) (take at rows) ++ (rid, Some row) ∷ []
+each_at-next rids rows at rid row same rid_is row_is =
+    let few_rids = length-take at rids in
+    let few_rows = length-take at rows in
+    ap (λ (l : List ℕ). each_at l (take (at + 1) rows)) (take-got rids at rid rid_is)
+    ∙ (ap (λ (l : List Row). each_at (take at rids ++ rid ∷ []) l) (take-got rows at row row_is)
+    ∙ each_at-push (take at rids) (take at rows) rid row (few_rids ∙ (ap (λ (n : ℕ). min at n) same ∙ sym few_rows)))
+
+-- a row with its own row number is lent behind others
+pub lent-each : (old now new : List LentRow) (rids : List ℕ) (rows : List Row) (at rid : ℕ) (lent : LentRow) (row : Row) → length rids ≡ length rows
+    → slice_get rids at ≡ Some rid → slice_get rows at ≡ Some row → lent_row lent ≡ (rid, Some row)
+    → lent_rows now ≡ lent_rows old ++ each_at (take at rids) (take at rows) → new ≡ now ++ lent ∷ []
+    → lent_rows new ≡ lent_rows old ++ each_at (take (at + 1) rids) (take (at + 1) rows)
+lent-each old now new rids rows at rid lent row same rid_is row_is lends so_far pushed =
+    ap lent_rows pushed
+    ∙ (map-append lent_row now (lent ∷ [])
+    ∙ (ap (λ (l : List (ℕ × Option Row)). l ++ lent_row lent ∷ []) so_far
+    ∙ (ap (λ (one : ℕ × Option Row). (lent_rows old ++ each_at (take at rids) (take at rows)) ++ one ∷ []) lends
+    ∙ (append_assoc (lent_rows old) (each_at (take at rids) (take at rows)) ((rid, Some row) ∷ [])
+    ∙ ap (λ (l : List (ℕ × Option Row)). lent_rows old ++ l) (sym (each_at-next rids rows at rid row same rid_is row_is))))))

@@ -1,20 +1,27 @@
 -- What is read of row numbers, in pieces.
-use Rattle.std.specs.Prelude.{ℕ, ◌+◌, ◌^◌, ◌≤◌, List, [], ◌∷◌, length, map, Option, Some}
+use denote.Ref.{Bor}
+use Rattle.std.specs.Prelude.{◌≡◌, ℕ, ◌+◌, ◌^◌, ◌≤◌, List, [], ◌∷◌, length, map, Option, Some}
 use Rattle.std.specs.List.{flat_map}
 use Rattle.std.specs.Option.{option_copied}
 use Rattle.im_values.specs.declared.value.Value.{Value}
-use Rattle.im_history.specs.declared.fetched.LentRow.{LentRow}
 use Rattle.im_history.specs.declared.fetched.Piece.{Piece}
-use Rattle.im_history.specs.declared.fetched.Piece.TheVariants.{Run, One}
+use Rattle.im_history.specs.declared.fetched.Piece.TheVariants.{Run, Each, One}
 
 -- rows from a row number on, each with its own
 abbrev pub run_from : ℕ → List (List Value) → List (ℕ × Option (List Value))
 run_from first [] = []
 run_from first (row ∷ rows) = (first, Some row) ∷ run_from (first + 1) rows
 
+-- rows, each at a row number of its own
+abbrev pub each_at : List ℕ → List (List Value) → List (ℕ × Option (List Value))
+each_at [] rows = []
+each_at (rid ∷ rids) [] = []
+each_at (rid ∷ rids) (row ∷ rows) = (rid, Some row) ∷ each_at rids rows
+
 -- the row numbers of a piece, each with its row or none
 abbrev pub in_piece : Piece → List (ℕ × Option (List Value))
 in_piece (Run first rows) = run_from first rows
+in_piece (Each rids rows) = each_at rids.items rows
 in_piece (One rid row) = (rid, row) ∷ []
 
 -- those of all pieces, one behind another
@@ -22,14 +29,15 @@ abbrev pub in_pieces : List Piece → List (ℕ × Option (List Value))
 in_pieces pieces = flat_map in_piece pieces
 
 -- a row number with the values of its row, or none, that are lent
-abbrev pub lent_row : LentRow → ℕ × Option (List Value)
-lent_row lent = (lent.rid, option_copied lent.row)
+abbrev pub lent_row : ℕ × Option (Bor (List Value)) → ℕ × Option (List Value)
+lent_row lent = (lent.0, option_copied lent.1)
 
 -- all of them
-abbrev pub lent_rows : List LentRow → List (ℕ × Option (List Value))
+abbrev pub lent_rows : List (ℕ × Option (Bor (List Value))) → List (ℕ × Option (List Value))
 lent_rows rows = map lent_row rows
 
--- the row numbers of a piece are numbers of 64 bits
+-- the row numbers of a piece are numbers of 64 bits, one for each row
 abbrev pub HasNumbers : Piece → Type 0
 HasNumbers (Run first rows) = first + length rows ≤ 2 ^ 63
+HasNumbers (Each rids rows) = length rids.items ≡ length rows
 HasNumbers (One rid row) = Unit {0}

@@ -1,4 +1,4 @@
-ghost use Rattle.std.specs.Prelude.{◌≡◌, ◌+◌, ◌^◌, ◌≤◌, ◌++◌, ◌==◌, [], ◌∷◌, All, length, map, IfOk, OnOk, OnErr, Some};
+ghost use Rattle.std.specs.Prelude.{◌≡◌, ◌+◌, ◌^◌, ◌≤◌, ◌++◌, ◌==◌, [], ◌∷◌, All, length, map, option_copied, IfOk, OnOk, OnErr, Some};
 ghost use Rattle.im_history.specs.Fetched as spec;
 
 use im_values::{NoMemory, Row, Rows, Value};
@@ -10,18 +10,14 @@ use std::marker::Model;
 pub enum Piece {
     /// Rows at row numbers in a row, from the first on.
     Run(u64, Rows),
+    /// Rows of one block, each at a row number of its own.
+    Each(Vec<u64>, Rows),
     /// A row number, with its row or none.
     One(u64, Option<Row>),
 }
 
-/// What was read of a row number, lent.
-#[derive(Clone, Copy)]
-pub struct LentRow<'a> {
-    /// The row number.
-    pub rid: u64,
-    /// The values of its row, or none.
-    pub row: Option<&'a [Value]>,
-}
+/// What was read of a row number, lent: the number, and the values of its row, or none.
+pub type LentRow<'a> = (u64, Option<&'a [Value]>);
 
 /// What was read of row numbers: of each the row, or none.
 ///
@@ -79,6 +75,18 @@ impl Fetched {
         Ok(())
     }
 
+    /// Puts rows behind the others, each at its own row number.
+    pub fn push_each(&mut self, rids: Vec<u64>, rows: Rows) -> Result<(), NoMemory>
+        requires { length rids.items ≡ length rows }
+        ensures ok { OnOk result (self.new ≡ self.old ++ spec.each_at rids.items rows) }
+        ensures err { OnErr result (self.new ≡ self.old) }
+    {
+        let len = more(self.len, rows.len())?;
+        self.pieces.push(Piece::Each(rids, rows))?;
+        self.len = len;
+        Ok(())
+    }
+
     /// How many row numbers there are.
     pub fn len(&self) -> u64
         ensures { result ≡ length self.now }
@@ -126,6 +134,16 @@ impl Fetched {
     }
 }
 
+/// The values of a row, or none, lent.
+pub fn lent_values(row: &Option<Row>) -> Option<&[Value]>
+    ensures { option_copied result ≡ row.now }
+{
+    match row {
+        Some(row) => Some(row.values()),
+        None => None,
+    }
+}
+
 /// Puts the rows of a piece behind others, lent.
 fn lend_piece<'a>(rows: &mut Vec<LentRow<'a>>, piece: &'a Piece) -> Result<(), NoMemory>
     requires { spec.HasNumbers piece.now }
@@ -133,11 +151,9 @@ fn lend_piece<'a>(rows: &mut Vec<LentRow<'a>>, piece: &'a Piece) -> Result<(), N
 {
     match piece {
         Piece::Run(first, run) => lend_run(rows, *first, run),
+        Piece::Each(rids, block) => lend_each(rows, rids.as_slice(), block),
         Piece::One(rid, row) => {
-            rows.push(LentRow {
-                rid: *rid,
-                row: row.as_ref().map(Row::values),
-            })?;
+            rows.push((*rid, lent_values(row)))?;
             Ok(())
         }
     }
@@ -149,20 +165,30 @@ fn lend_run<'a>(rows: &mut Vec<LentRow<'a>>, first: u64, run: &'a Rows) -> Resul
     ensures { OnOk result (spec.lent_rows rows.new.items ≡ spec.lent_rows rows.old.items ++ spec.run_from first run.now) }
 {
     for at in 0..run.len() {
-        rows.push(LentRow {
-            rid: first + at as u64,
-            row: Some(run.values(at)),
-        })?;
+        rows.push((first + at as u64, Some(run.values(at))))?;
+    }
+    Ok(())
+}
+
+/// Puts rows behind others, lent, each with its own row number.
+fn lend_each<'a>(rows: &mut Vec<LentRow<'a>>, rids: &[u64], block: &'a Rows) -> Result<(), NoMemory>
+    requires { length rids.now ≡ length block.now }
+    ensures { OnOk result (spec.lent_rows rows.new.items ≡ spec.lent_rows rows.old.items ++ spec.each_at rids.now block.now) }
+{
+    for at in 0..block.len() {
+        rows.push((rids[at], Some(block.values(at))))?;
     }
     Ok(())
 }
 
 /// Puts the rows of a piece behind others.
 fn put_piece(rows: &mut Vec<Option<Row>>, piece: Piece) -> Result<(), NoMemory>
+    requires { spec.HasNumbers piece }
     ensures { OnOk result (rows.new.items ≡ rows.old.items ++ map (λ found. found.1) (spec.in_piece piece)) }
 {
     match piece {
         Piece::Run(_, run) => put_run(rows, &run),
+        Piece::Each(_rids, run) => put_run(rows, &run),
         Piece::One(_, row) => {
             rows.push(row)?;
             Ok(())

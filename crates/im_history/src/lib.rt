@@ -32,7 +32,7 @@ pub use change::Change;
 pub use changes::{Changes, LentChange, LentPut};
 pub use cursors::{OWN_CURSOR, is_own};
 pub use entry::{Entry, Mode, What};
-pub use fetched::{Fetched, LentRow, Piece};
+pub use fetched::{Fetched, LentRow, Piece, lent_values};
 pub use im_values::Priority;
 pub use last::LastRows;
 pub use limits::Limits;

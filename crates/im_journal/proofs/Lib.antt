@@ -1,3 +1,4 @@
 mod RisingLemmas
 mod JournalLemmas
+mod GatherLemmas
 pub mod ForCallers

@@ -2,6 +2,7 @@ ghost use Rattle.std.specs.Prelude.{◌≡◌, ◌-◌, ◌<◌, ◌≤◌, [], 
 ghost use Rattle.std.specs.Option.{ForSome};
 ghost use Rattle.im_journal.specs.Stale.{last_scn, noted, stale_rows, stale_rows_at};
 
+use crate::rising::{gather, in_order, reserve};
 use im_values::NoMemory;
 use indexmap::IndexMap;
 use std::alloc::Global;
@@ -11,23 +12,28 @@ use std::marker::Model;
 ///
 /// Contracts see these first notes and the spare room, the number of calls of [`Journal::note`] that can be made without
 /// taking memory.
+///
+/// The row numbers of the first notes stand in rising order too, all but those of a few last ones.
 #[derive(Drop)]
 pub struct Journal {
     first: IndexMap<u64, u64>,
+    rising: Vec<u64>,
     spare: u64,
 }
 
 impl Model for Journal {
-    ghost use Rattle.std.specs.Prelude.{◌≤◌};
+    ghost use Rattle.std.specs.Prelude.{◌+◌, ◌≤◌, length, vec_capacity};
     ghost use Rattle.std.specs.List.Sorted.{IsNonDecreasingBy};
     ghost use Rattle.indexmap.specs.IndexMap.{spare as room_in};
-    ghost use Rattle.im_journal.specs.Stale.{Notes};
+    ghost use Rattle.im_journal.specs.Stale.{Notes, rows_of};
+    ghost use Rattle.im_journal.specs.inner.Gathered.{AreGathered};
 
     ghost Value = { Notes };
 
     ghost view = { λ j. record { notes = j.first.entries; spare = j.spare } };
 
-    ghost invariant = { λ j. (j.spare ≤ room_in j.first) × IsNonDecreasingBy (λ note. note.1) j.first.entries };
+    ghost invariant = { λ j. (j.spare ≤ room_in j.first) × (IsNonDecreasingBy (λ note. note.1) j.first.entries
+        × ((length j.first.entries + j.spare ≤ vec_capacity j.rising) × AreGathered (rows_of j.first.entries) j.rising.items)) };
 }
 
 impl Journal {
@@ -37,6 +43,7 @@ impl Journal {
     {
         Journal {
             first: IndexMap::new(alloc),
+            rising: Vec::new(alloc),
             spare: 0,
         }
     }
@@ -49,6 +56,7 @@ impl Journal {
         if room <= self.spare {
             return Ok(());
         }
+        reserve(&mut self.rising, self.first.len(), room)?;
         self.first.reserve(room as usize)?;
         self.spare = room;
         Ok(())
@@ -66,12 +74,14 @@ impl Journal {
         self.spare -= 1;
         if !self.first.contains_key(&row) {
             self.first.insert(row, scn).unwrap();
+            gather(&mut self.rising, self.first.keys().as_slice());
         }
     }
 
     /// The row numbers noted at or below an SCN, each once, rising.
     ///
-    /// It costs what it answers, and a sort of that.
+    /// It costs what it answers: a copy, and a sort of the few last notes alone; at an SCN below that of most notes a sort of
+    /// what it answers.
     pub fn stale_at(&self, alloc: Global, scn: u64) -> Result<Vec<u64>, NoMemory>
         ensures { IfOk result (λ rows. rows.items ≡ stale_rows_at self.now.notes scn) }
     {
@@ -80,9 +90,8 @@ impl Journal {
             .values()
             .as_slice()
             .partition_point(|first| *first <= scn);
-        let mut rows = Vec::from_slice(alloc, &self.first.keys().as_slice()[..count])?;
-        rows.sort_unstable();
-        Ok(rows)
+        let rows = &self.first.keys().as_slice()[..count];
+        in_order(alloc, rows, self.rising.as_slice())
     }
 
     /// How many row numbers were noted, each counted once. It takes constant time.

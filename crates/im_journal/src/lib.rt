@@ -10,6 +10,7 @@
 
 mod journal;
 mod laws;
+mod rising;
 
 pub use journal::Journal;
 pub use laws::first_notes_suffice;

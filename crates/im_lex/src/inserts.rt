@@ -75,6 +75,20 @@ fn head(alloc: Global, line: &[u8]) -> Result<Option<(Name, usize)>, NoMemory>
     Ok(Some((name, next)))
 }
 
+/// As much spare room as this many values take stays where it is.
+const LITTLE: usize = 8;
+
+/// The same values, without room for many more.
+fn fitted(values: Vec<Value>) -> Vec<Value>
+    ensures { result.items ≡ values.items }
+{
+    let mut fitted = values;
+    if fitted.capacity() - fitted.len() > LITTLE.max(fitted.len() / 16) {
+        fitted.shrink_to_fit();
+    }
+    fitted
+}
+
 /// The tuples of these values, where the line ends at a place.
 fn ended(
     alloc: Global,
@@ -93,7 +107,7 @@ fn ended(
     if !ends(line, at) {
         return Ok(None);
     }
-    let tuples = EvenTuples::of(alloc, values, width, count)?;
+    let tuples = EvenTuples::of(alloc, fitted(values), width, count)?;
     Ok(Some(Tuples::even(tuples)))
 }
 

@@ -40,7 +40,9 @@ use Rattle.im_edge.proofs.outside.Outside.TheSendSync as outside_crosses
 use Rattle.im_race.specs.contracts.course.Course as course
 use Rattle.im_race.specs.contracts.job.Job as job
 use Rattle.im_race.specs.contracts.job.Player as player
+use Rattle.im_race.specs.contracts.job.Post as post
 use Rattle.im_race.proofs.course.RaceOptions.TheSendSync as options_cross
+use Rattle.im_race.proofs.job.Done.TheSendSync as done_crosses
 
 -- ---- numbers
 
@@ -102,8 +104,13 @@ pass_send =
 player_send : IsSend player.the_row
 player_send = variants_send player.enum ((as_row_send session.the_field session_send, tt), (tt, tt))
 
-pub job_send : IsSend job.the_row
+job_send : IsSend job.the_row
 job_send = declared_send job.the_type (u32_send, (as_row_send (row_field _) pass_send, (player_send, tt)))
+
+pub post_send : IsSend post.the_row
+post_send =
+    declared_send post.the_type
+    (search (sendable, crosses, job_send) depth 60 fits 10000, (search (sendable, crosses, done_crosses.the_send) depth 60 fits 10000, tt))
 
 -- ---- what all of them read
 

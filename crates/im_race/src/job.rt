@@ -43,3 +43,10 @@ pub struct Done {
     pub pass: Pass<ColumnUnit>,
     pub outcome: JobOutcome,
 }
+
+/// A job that waits to be done, and then what came of it.
+#[derive(Drop)]
+pub struct Post {
+    pub job: Option<Job>,
+    pub done: Option<Done>,
+}

@@ -24,9 +24,11 @@ use im_values::limits::{NUMBERS, SESSIONS};
 use im_values::{NoMemory, Steps};
 use im_worker::{Background, Ended};
 use std::sync::Wait;
+use std::sync::atomic::AtomicU64;
 use std::sync::ledger::Ledger;
+use std::time::Duration;
 
-/// PlaysDemand a line of a session.
+/// Plays a line of a session.
 fn play_line<R: Wait, H: Reach<ColumnUnit>, G: Gate, L: Ledger>(
     outside: &Outside<R, G>,
     reach: &mut H,
@@ -63,7 +65,7 @@ fn play_line<R: Wait, H: Reach<ColumnUnit>, G: Gate, L: Ledger>(
     }
 }
 
-/// PlaysDemand those of these lines in which a session speaks, one after the other, and answers the replies.
+/// Plays those of these lines in which a session speaks, one after the other, and answers the replies.
 fn play_lines<R: Wait, H: Reach<ColumnUnit>, G: Gate, L: Ledger>(
     outside: &Outside<R, G>,
     reach: &mut H,
@@ -97,14 +99,44 @@ fn play_lines<R: Wait, H: Reach<ColumnUnit>, G: Gate, L: Ledger>(
     Ok(replies)
 }
 
-/// Does the job of a session: it plays those of these lines in which it speaks, one after the other, and ends. Out of memory it may not
-/// have left.
+/// Sleeps for a millisecond, or less.
+fn pause<R: Wait>(rt: &R) {
+    AtomicU64::new(0).park_timeout(rt, 0, Duration::from_millis(1));
+}
+
+/// Lets a session that is out of memory leave, so that no worker waits for it: it tries so many times at most, each millisecond once.
+fn leave<R: Wait, H: Reach<ColumnUnit>>(
+    rt: &R,
+    reach: &mut H,
+    mut session: Session,
+    who: u32,
+    tries: u64,
+)
+    requires some { 1 ≤ who }
+    requires session { who ≤ SESSIONS }
+    requires number { session.who ≡ who }
+    requires side { (H.known reach.old).side.number ≡ Some who }
+    requires agrees { Agrees session (H.known reach.old) }
+    requires stays { has_left (H.known reach.old).log who ≡ false }
+    ensures known { H.known reach.new ≡ record (H.known reach.old) { log = (H.known reach.new).log } }
+{
+    for _ in 0..tries {
+        match session.end(rt, reach) {
+            Ok(()) => return,
+            Err(NoMemory) => pause(rt),
+        }
+    }
+}
+
+/// Does the job of a session: it plays those of these lines in which it speaks, one after the other, and ends. Out of memory it tries
+/// so many times to leave, and may not have left.
 pub fn play_session<R: Wait, H: Reach<ColumnUnit>, G: Gate, L: Ledger>(
     outside: &Outside<R, G>,
     reach: &mut H,
     mut session: Session,
     who: u32,
     lines: &[Line],
+    tries: u64,
     steps: &mut Steps<L>,
 ) -> JobOutcome
     requires some { 1 ≤ who }
@@ -121,11 +153,15 @@ pub fn play_session<R: Wait, H: Reach<ColumnUnit>, G: Gate, L: Ledger>(
         (H.known reach.new).log }
 {
     let Ok(replies) = play_lines(outside, reach, &mut session, who, lines, steps) else {
+        leave(outside.rt, reach, session, who, tries);
         return JobOutcome::NoMemory;
     };
     match session.end(outside.rt, reach) {
         Ok(()) => JobOutcome::Replies(Replies::of(replies)),
-        Err(NoMemory) => JobOutcome::NoMemory,
+        Err(NoMemory) => {
+            leave(outside.rt, reach, session, who, tries);
+            JobOutcome::NoMemory
+        }
     }
 }
 

@@ -74,7 +74,7 @@ beside-members g column v (r ∷ rows) =
     by false e = e
 
 -- one more value is counted where it ties
-count-cons : (v w : Value) (vs : List Value) → count_of v (w ∷ vs) ≡ cond (is_eq (order w v)) 1 0 + count_of v vs
+pub count-cons : (v w : Value) (vs : List Value) → count_of v (w ∷ vs) ≡ cond (is_eq (order w v)) 1 0 + count_of v vs
 count-cons v w vs = sum_by-cons (λ (u : Value). cond (is_eq (order u v)) 1 0) w vs
 
 -- as many rows have a value

@@ -13,6 +13,7 @@ mod KeptPlaces
 mod BesideLemmas
 mod RunLemmas
 mod CodedLemmas
+mod CountedLemmas
 mod ByCodeLemmas
 mod SummedLemmas
 mod LeftLemmas

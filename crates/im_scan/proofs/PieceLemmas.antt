@@ -8,10 +8,10 @@ use Rattle.im_syntax.specs.Condition.{CondOf}
 use Rattle.im_syntax.specs.declared.bound.Bound.{Bound}
 use Rattle.im_syntax.specs.BoundFits.{BoundFits}
 use Rattle.im_history.specs.declared.fetched.Piece.{Piece}
-use Rattle.im_history.specs.Fetched.{in_piece, in_pieces, run_from}
+use Rattle.im_history.specs.Fetched.{each_at, in_piece, in_pieces, run_from}
 use Rattle.im_history.specs.Rows.{Row}
-use Rattle.im_history.proofs.FetchedLaws.{in_pieces-push, length-run_from, run_from-next}
-use Rattle.im_group.specs.Partials.{IsPartOfFew, Numbered, Parts, keeps, partial}
+use Rattle.im_history.proofs.FetchedLaws.{each_at-next, in_pieces-push, length-each_at, length-run_from, run_from-next}
+use Rattle.im_group.specs.Partials.{GoesOnWith, IsPartOfFew, IsPartOfSoFew, Numbered, Parts, keeps, partial}
 use Rattle.im_scan.specs.Parts.{MayAsk}
 use Rattle.im_scan.specs.inner.Pieces.{AreInOrder, HasRoomFor, TakesAt, numbered_all}
 use Rattle.im_scan.specs.inner.Steps.{GoesOnBy, numbered, numbered_from}
@@ -186,6 +186,70 @@ run-more bound first at rows old now new so_far takes = record {
       ∙ ap (λ (l : List Numbered). front ++ l)
       (sym (ap numbered_all (run_from-next first rows at takes.row takes.there)
       ∙ numbered-append (run_from first (take at rows)) ((first + at, Some takes.row) ∷ []))));
+}
+
+-- ---- rows, each at its own row number
+
+length-numbered-each : (rids : List ℕ) (rows : List Row) → length rids ≡ length rows → length (numbered_all (each_at rids rows)) ≡ length rows
+length-numbered-each [] rows same = same
+length-numbered-each (rid ∷ rids) [] same = refl
+length-numbered-each (rid ∷ rids) (row ∷ rows) same = ap suc (length-numbered-each rids rows (omega (arith, same)))
+
+same-takes : (rids : List ℕ) (rows : List Row) (at : ℕ) → length rids ≡ length rows → at ≤ length rows → length (take at rids) ≡ length (take at rows)
+same-takes rids rows at same within = length-take-le at rids (omega (arith, same, within)) ∙ sym (length-take-le at rows within)
+
+-- the part may take one more
+pub few-each : (bound : Bound) (rids : List ℕ) (at : ℕ) (rows : List Row) (old now : Parts) → length rids ≡ length rows → HasRoomFor bound (length rows) old
+    → at < length rows → GoesOnBy bound old (numbered_all (each_at (take at rids) (take at rows))) now → IsPartOfFew bound now
+few-each bound rids at rows old now same room within goes = record {
+  rows = room.rows ++ numbered_all (each_at (take at rids) (take at rows));
+  is = goes.goes room.rows room.is;
+  few =
+      let all = length-append room.rows (numbered_all (each_at (take at rids) (take at rows))) in
+      let long = length-numbered-each (take at rids) (take at rows) (same-takes rids rows at same (omega (arith, within)))
+      ∙ length-take-le at rows (omega (arith, within)) in
+      omega (arith, all, long, within, room.few);
+}
+
+pub each-more : (bound : Bound) (rids : List ℕ) (at rid : ℕ) (rows : List Row) (old now new : Parts) → length rids ≡ length rows
+    → slice_get rids at ≡ Some rid → GoesOnBy bound old (numbered_all (each_at (take at rids) (take at rows))) now → TakesAt bound rid rows at now new
+    → GoesOnBy bound old (numbered_all (each_at (take (at + 1) rids) (take (at + 1) rows))) new
+each-more bound rids at rid rows old now new same is so_far takes = record {
+  goes = λ front begins.
+      takes.on.goes (front ++ numbered_all (each_at (take at rids) (take at rows))) (so_far.goes front begins)
+      ∙ ap (partial bound)
+      (append_assoc front (numbered_all (each_at (take at rids) (take at rows))) ((rid, takes.row) ∷ [])
+      ∙ ap (λ (l : List Numbered). front ++ l)
+      (sym (ap numbered_all (each_at-next rids rows at rid takes.row same is takes.there)
+      ∙ numbered-append (each_at (take at rids) (take at rows)) ((rid, Some takes.row) ∷ []))));
+}
+
+pub each-fits : (bound : Bound) (rids : List ℕ) (rows : List Row) → length rids ≡ length rows
+    → AllByRecursion (λ row. MayAsk bound row.1) (each_at rids rows) → AllByRecursion (λ row. BoundFits row bound) rows
+each-fits bound [] [] same all = tt
+each-fits bound [] (row ∷ rows) same all = absurd (omega (arith, same))
+each-fits bound (rid ∷ rids) [] same all = tt
+each-fits bound (rid ∷ rids) (row ∷ rows) same all = (all.0 row refl, each-fits bound rids rows (omega (arith, same)) all.1)
+
+pub room-each : (bound : Bound) (rids : List ℕ) (rows : List Row) (part : Parts) → length rids ≡ length rows
+    → HasRoomFor bound (length (each_at rids rows)) part → HasRoomFor bound (length rows) part
+room-each bound rids rows part same room = subst (λ (n : ℕ). HasRoomFor bound n part) (length-each_at rids rows same) room
+
+-- ---- rows of a run, whatever their numbers are
+
+-- the values of the rows of a run
+values-run : (first : ℕ) (rows : List Row) → map (λ (r : Numbered). r.1) (numbered_all (run_from first rows)) ≡ rows
+values-run first [] = refl
+values-run first (row ∷ rows) = ap (λ (l : List Row). row ∷ l) (values-run (first + 1) rows)
+
+-- rows that are taken whatever their numbers are
+pub so-few : (bound : Bound) (rows : List Row) (part : Parts) → HasRoomFor bound (length rows) part → IsPartOfSoFew bound (length rows) part
+so-few bound rows part room = record { rows = room.rows; is = room.is; few = room.few }
+
+pub goes-with : (bound : Bound) (first : ℕ) (rows : List Row) (old new : Parts) → GoesOnWith bound old rows new
+    → GoesOnBy bound old (numbered_all (run_from first rows)) new
+goes-with bound first rows old new goes = record {
+  goes = λ front is. goes.goes front (numbered_all (run_from first rows)) is (values-run first rows);
 }
 
 -- ---- rows of pieces

@@ -5,20 +5,17 @@ ghost use Rattle.im_scan.specs.inner.Beside.{AreBeside, IsPassed, IsRising, Skip
 ghost use Rattle.im_scan.specs.inner.Walk.{lent_beside};
 
 use crate::slots::has_own;
-use im_history::View;
+use im_history::{LentRow, View, lent_values};
 use im_values::{NoMemory, Row};
 use std::alloc::Global;
 
 /// Lends rows, each with its row number, or none.
-fn lend<'a>(
-    alloc: Global,
-    rows: &'a [(u64, Option<Row>)],
-) -> Result<Vec<(u64, Option<&'a Row>)>, NoMemory>
+fn lend<'a>(alloc: Global, rows: &'a [(u64, Option<Row>)]) -> Result<Vec<LentRow<'a>>, NoMemory>
     ensures { IfOk result (λ lent. lent_beside lent.items ≡ rows.now) }
 {
     let mut lent = Vec::with_capacity(alloc, rows.len())?;
     for (rid, row) in rows {
-        lent.push((*rid, row.as_ref()))?;
+        lent.push((*rid, lent_values(row)))?;
     }
     Ok(lent)
 }
@@ -43,14 +40,14 @@ fn put_below<'a>(
     fetched: &'a [(u64, Option<Row>)],
     from: usize,
     rid: u64,
-    rows: &mut Vec<(u64, Option<&'a Row>)>,
+    rows: &mut Vec<LentRow<'a>>,
 ) -> Result<usize, NoMemory>
     requires { from ≤ length fetched.now }
     ensures { IfOk result (λ next. IsPassed fetched.now from next rid (lent_beside rows.old.items) (lent_beside rows.new.items)) }
 {
     let mut at = from;
     while at < fetched.len() && fetched[at].0 < rid {
-        rows.push((fetched[at].0, fetched[at].1.as_ref()))?;
+        rows.push((fetched[at].0, lent_values(&fetched[at].1)))?;
         at += 1;
     }
     Ok(at)
@@ -75,7 +72,7 @@ fn merged<'a>(
     view: &'a View,
     first: u64,
     count: u64,
-) -> Result<Vec<(u64, Option<&'a Row>)>, NoMemory>
+) -> Result<Vec<LentRow<'a>>, NoMemory>
     requires within { first + count < 2 ^ 64 }
     requires rising { IsRising fetched.now }
     ensures { IfOk result (λ rows. AreBeside fetched.now view.now first count (lent_beside rows.items)) }
@@ -85,7 +82,7 @@ fn merged<'a>(
     for (rid, row) in view.own.between(view.table, first, count) {
         at = put_below(fetched, at, *rid, &mut rows)?;
         at = past_equal(fetched, at, *rid);
-        rows.push((*rid, row.as_ref()))?;
+        rows.push((*rid, lent_values(row)))?;
     }
     put_below(fetched, at, first + count, &mut rows)?;
     Ok(rows)
@@ -101,7 +98,7 @@ pub fn beside<'a>(
     view: &'a View,
     first: u64,
     count: u64,
-) -> Result<Option<Vec<(u64, Option<&'a Row>)>>, NoMemory>
+) -> Result<Option<Vec<LentRow<'a>>>, NoMemory>
     requires { first + count < 2 ^ 64 }
     ensures { IfOk result (λ rows. ForSome rows (λ rows. AreBeside fetched.now view.now first count (lent_beside rows.items))) }
 {

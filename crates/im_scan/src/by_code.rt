@@ -1,11 +1,12 @@
-ghost use Rattle.std.specs.Prelude.{◌≡◌, ◌+◌, ◌<◌, ◌≤◌, All, Contains, IfOk, List, length, map, slice_index_or};
+ghost use Rattle.std.specs.Prelude.{◌≡◌, ◌+◌, ◌<◌, ◌≤◌, All, Contains, IfOk, List, count_by, false, length, map, slice_index_or};
 ghost use Rattle.std.specs.List.{AllByRecursion};
 ghost use Rattle.std.specs.Option.{ForSome};
+ghost use Rattle.im_values.specs.Order.{is_null};
 ghost use Rattle.im_values.specs.Sizes.{dictionary};
 ghost use Rattle.im_values.specs.declared.value.Value.{Value};
 ghost use Rattle.im_values.specs.declared.value.Value.TheVariants.{Null};
 ghost use Rattle.im_codes.specs.Dictionary.{coded};
-ghost use Rattle.im_codepred.specs.Tallies.{AreTallies, IsTallyOf};
+ghost use Rattle.im_codepred.specs.Tallies.{AreCounts, AreTallies, IsTallyOf, chosen};
 ghost use Rattle.im_group.specs.MadeGroups.{groups_in, group_of};
 ghost use Rattle.im_group.specs.Sums as sums;
 ghost use Rattle.im_unit.specs.Holding.{count_present, present_rows, values_in};
@@ -188,6 +189,54 @@ fn groups_by_code(
     Ok(Some(groups))
 }
 
+/// Whether a unit has no such column, or NULL in it.
+fn has_null(unit: &ColumnUnit, column: u32) -> bool
+    ensures { result ≡ false → count_by is_null (values_in column (present_rows unit.now.rows)) ≡ 0 }
+{
+    if column as usize >= unit.columns().len() {
+        return true;
+    }
+    unit.column(column).bounds().nulls != 0
+}
+
+/// How many values each tally has.
+fn value_counts(alloc: Global, tallies: &[Tally<'_>]) -> Result<Vec<u64>, NoMemory>
+    ensures { IfOk result (λ counts. counts.items ≡ map (λ tally. tally.values) tallies.now) }
+{
+    let mut counts = Vec::with_capacity(alloc, tallies.len())?;
+    for tally in tallies {
+        counts.push(tally.values)?;
+    }
+    Ok(counts)
+}
+
+/// How many chosen rows have each code of the keys. None where these have no codes.
+///
+/// Where the first asked column has no NULL, there are as many as it has values, and no row is gone over for it.
+fn row_counts(
+    alloc: Global,
+    asked: &[Asked],
+    all: &[Vec<Tally<'_>>],
+    keys: &Column,
+    unit: &ColumnUnit,
+    spots: &Mask,
+) -> Result<Option<Vec<u64>>, NoMemory>
+    requires keys { length keys.now ≡ length spots.now }
+    requires spots { length spots.now ≡ count_present unit.now.rows }
+    requires tallies { AreAllTallies spots.now keys.now (present_rows unit.now.rows) (coded (dictionary keys.now)) asked.now (map (λ tallies. tallies.items) all.now) }
+    ensures { IfOk result (λ found. ForSome found (λ counts.
+        AreCounts (chosen spots.now keys.now) (coded (dictionary keys.now)) counts.items)) }
+{
+    if asked.is_empty() || all.is_empty() {
+        return counts_by_code(alloc, keys, spots);
+    }
+    if has_null(unit, asked[0].column) {
+        return counts_by_code(alloc, keys, spots);
+    }
+    let counts = value_counts(alloc, all[0].as_slice())?;
+    Ok(Some(counts))
+}
+
 /// The groups of the chosen rows of a unit by the codes of the keys, whose dictionary this is.
 fn groups_in_codes(
     alloc: Global,
@@ -204,10 +253,10 @@ fn groups_in_codes(
     ensures { IfOk result (λ found. ForSome found (λ groups.
         AreByCode spots.now keys.now (present_rows unit.now.rows) asked.now (groups_in groups.items))) }
 {
-    let Some(counts) = counts_by_code(alloc, keys, spots)? else {
+    let Some(all) = all_tallies(alloc, asked, keys, unit, spots)? else {
         return Ok(None);
     };
-    let Some(all) = all_tallies(alloc, asked, keys, unit, spots)? else {
+    let Some(counts) = row_counts(alloc, asked, all.as_slice(), keys, unit, spots)? else {
         return Ok(None);
     };
     groups_by_code(alloc, asked, dict, counts.as_slice(), all.as_slice())

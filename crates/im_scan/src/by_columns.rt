@@ -5,25 +5,22 @@ ghost use Rattle.std.specs.Option.{ForSome};
 ghost use Rattle.im_history.specs.Rows.{present};
 ghost use Rattle.im_group.specs.Partials as group;
 ghost use Rattle.im_unit.specs.Holding.{count_present};
-ghost use Rattle.im_scan.specs.Faces.{unit_of};
-ghost use Rattle.im_scan.specs.Parts.{MayAsk, taken_row};
+ghost use Rattle.im_scan.specs.Parts.{MayAsk};
 ghost use Rattle.im_scan.specs.inner.Left.{IsPartOfChosen};
 ghost use Rattle.im_scan.specs.inner.Pieces.{HasRoomFor, numbered_all};
-ghost use Rattle.im_scan.specs.inner.Steps.{GoesOnBy, MayScan};
+ghost use Rattle.im_scan.specs.inner.Steps.{GoesOnBy};
 ghost use Rattle.im_scan.specs.inner.Walk.{lent_beside, standing};
 
-use crate::beside::beside;
 use crate::by_code::{coded, coded_key};
-use crate::faces::Face;
 use crate::left::{are_between, left_spots};
 use crate::parts::take_row;
 use crate::summed::{takes_together, together};
 use im_group::{Asking, Partial};
-use im_history::View;
+use im_history::LentRow;
 use im_lanes::Mask;
 use im_syntax::Bound;
 use im_unit::ColumnUnit;
-use im_values::{NoMemory, Row};
+use im_values::NoMemory;
 use std::alloc::Global;
 
 /// Whether the columns of a unit answer a query without a row of it.
@@ -57,7 +54,7 @@ fn chosen_part(
 fn take_beside(
     alloc: Global,
     asking: &Asking<'_>,
-    rows: &[(u64, Option<&Row>)],
+    rows: &[LentRow<'_>],
     part: &mut Partial,
 ) -> Result<(), NoMemory>
     requires fits { AllByRecursion (λ row. MayAsk asking.now row.1) (lent_beside rows.now) }
@@ -76,7 +73,7 @@ fn left_part(
     alloc: Global,
     asking: &Asking<'_>,
     unit: &ColumnUnit,
-    beside: &[(u64, Option<&Row>)],
+    beside: &[LentRow<'_>],
     count: u64,
 ) -> Result<Option<Partial>, NoMemory>
     requires grouped { asking.now.grouped ≡ true }
@@ -98,32 +95,27 @@ fn left_part(
     Ok(Some(part))
 }
 
-/// What an extent gives whose unit is scanned, to a query that the columns of the unit answer. None for any other, where what was
-/// fetched is not in rising order of the extent's row numbers, and where the unit begins elsewhere.
+/// What so many row numbers from the first on give to a query that the columns of a unit answer: what stands beside the unit, and
+/// else what the unit has. None for any other query, where the rows beside the unit are not of rising row numbers among these, and
+/// where the unit begins elsewhere.
 ///
 /// Of the unit not one row is read. The rows beside it are taken behind what is left of it: what a grouped query takes has no order.
 pub fn column_part(
     alloc: Global,
-    face: Face<'_>,
     asking: &Asking<'_>,
-    fetched: &[(u64, Option<Row>)],
-    view: &View,
+    unit: &ColumnUnit,
+    beside: &[LentRow<'_>],
     first: u64,
     count: u64,
 ) -> Result<Option<Partial>, NoMemory>
     requires within { first + count < 2 ^ 64 }
-    requires fits { MayScan asking.now (unit_of face) fetched.now view.now.own }
+    requires fits { AllByRecursion (MayAsk asking.now) unit.now.rows }
+    requires beside_fits { AllByRecursion (λ row. MayAsk asking.now row.1) (lent_beside beside.now) }
     ensures { IfOk result (λ part. ForSome part (λ part.
-        part ≡ group.partial asking.now (present (taken_row (unit_of face.entry) fetched.now view.now) first count))) }
+        part ≡ group.partial asking.now (present (standing (Some unit.now) (lent_beside beside.now)) first count))) }
 {
-    let Face::Whole(unit) = face else {
-        return Ok(None);
-    };
     if unit.first() != first || !is_by_columns(asking.bound(), unit) {
         return Ok(None);
     }
-    match beside(alloc, fetched, view, first, count)? {
-        Some(rows) => left_part(alloc, asking, unit, rows.as_slice(), count),
-        None => Ok(None),
-    }
+    left_part(alloc, asking, unit, beside, count)
 }

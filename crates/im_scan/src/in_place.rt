@@ -14,7 +14,7 @@ use crate::parts::take_row;
 use crate::summed_run::sums_together;
 use im_codepred::select_rows;
 use im_group::{Asking, Partial};
-use im_history::{Fetched, Piece};
+use im_history::{Fetched, Piece, lent_values};
 use im_lanes::{Mask, count};
 use im_syntax::Filter;
 use im_values::{NoMemory, Row, Rows, clone_row};
@@ -23,13 +23,14 @@ use std::alloc::Global;
 /// As few rows of a run as this are each asked the condition: a mask would cost more.
 const FEW: usize = 3;
 
-/// The row numbers of a piece: the first, and how many there are in a row.
-fn span(piece: &Piece) -> (u64, u64)
-    ensures { map (λ f. f.0) (kept.in_piece piece.now) ≡ range_with_len result.0 result.1 }
+/// The row numbers of a piece, where they stand in a row: the first, and how many there are.
+fn span(piece: &Piece) -> Option<(u64, u64)>
+    ensures { ForSome result (λ span. map (λ f. f.0) (kept.in_piece piece.now) ≡ range_with_len span.0 span.1) }
 {
     match piece {
-        Piece::Run(first, rows) => (*first, rows.len() as u64),
-        Piece::One(rid, _) => (*rid, 1),
+        Piece::Run(first, rows) => Some((*first, rows.len() as u64)),
+        Piece::Each(_, _) => None,
+        Piece::One(rid, _) => Some((*rid, 1)),
     }
 }
 
@@ -40,7 +41,9 @@ fn are_in_order(first: u64, pieces: &[Piece]) -> bool
 {
     let mut next = first;
     for piece in pieces {
-        let (rid, count) = span(piece);
+        let Some((rid, count)) = span(piece) else {
+            return false;
+        };
         if rid != next {
             return false;
         }
@@ -90,7 +93,26 @@ fn take_each(
     Ok(())
 }
 
-/// The part takes a row of a run that is kept. The condition is not asked again.
+/// The part takes rows, each at its own row number, in order. The condition is asked of each.
+fn take_scattered(
+    alloc: Global,
+    asking: &Asking<'_>,
+    rids: &[u64],
+    rows: &Rows,
+    part: &mut Partial,
+) -> Result<(), NoMemory>
+    requires long { length rids.now ≡ length rows.now }
+    requires fits { AllByRecursion (λ row. BoundFits row asking.now) rows.now }
+    requires few { HasRoomFor asking.now (length rows.now) part.old }
+    ensures { OnOk result (GoesOnBy asking.now part.old (numbered_all (kept.each_at rids.now rows.now)) part.new) }
+{
+    for at in 0..rows.len() {
+        take_at(alloc, asking, rids[at], rows, at, part)?;
+    }
+    Ok(())
+}
+
+/// The part takes a row of a run that is kept, and is handed over. The condition is not asked again.
 fn take_chosen(
     alloc: Global,
     asking: &Asking<'_>,
@@ -105,16 +127,12 @@ fn take_chosen(
     requires few { group.IsPartOfFew asking.now part.old }
     ensures { OnOk result (TakesAt asking.now rid rows.now at part.old part.new) }
 {
-    if asking.bound().grouped {
-        part.take_kept(alloc, asking, rid, rows.values(at))
-    } else {
-        let row = rows.row(at)?;
-        part.take_made(alloc, asking, rid, row)
-    }
+    let row = rows.row(at)?;
+    part.take_made(alloc, asking, rid, row)
 }
 
-/// The part takes those rows that a mask chooses, at row numbers from the first on.
-fn take_masked(
+/// The part takes those rows that a mask chooses, at row numbers from the first on, one by one.
+fn take_handed(
     alloc: Global,
     asking: &Asking<'_>,
     first: u64,
@@ -134,6 +152,28 @@ fn take_masked(
         at = place + 1;
     }
     Ok(())
+}
+
+/// The part takes those rows that a mask chooses: into its groups where it stands, and else each is handed over.
+fn take_masked(
+    alloc: Global,
+    asking: &Asking<'_>,
+    first: u64,
+    rows: &Rows,
+    mask: &Mask,
+    part: &mut Partial,
+) -> Result<(), NoMemory>
+    requires numbers { first + length rows.now ≤ 2 ^ 63 }
+    requires mask { mask.now ≡ map (group.keeps asking.now.filter) rows.now }
+    requires fits { AllByRecursion (λ row. BoundFits row asking.now) rows.now }
+    requires few { HasRoomFor asking.now (length rows.now) part.old }
+    ensures { OnOk result (GoesOnBy asking.now part.old (numbered_all (kept.run_from first rows.now)) part.new) }
+{
+    if asking.bound().grouped {
+        part.take_chosen(alloc, asking, rows, mask)
+    } else {
+        take_handed(alloc, asking, first, rows, mask, part)
+    }
 }
 
 /// The part takes those rows that a mask chooses: together, where the query takes its rows together, and else one by one.
@@ -248,7 +288,8 @@ fn take_piece(
 {
     match piece {
         Piece::Run(first, rows) => take_run(alloc, asking, *first, rows, every, part),
-        Piece::One(rid, row) => take_row(alloc, asking, *rid, row.as_ref(), part),
+        Piece::Each(rids, rows) => take_scattered(alloc, asking, rids.as_slice(), rows, part),
+        Piece::One(rid, row) => take_row(alloc, asking, *rid, lent_values(row), part),
     }
 }
 
@@ -300,6 +341,22 @@ fn put_run(rows: &mut Vec<(u64, Option<Row>)>, first: u64, run: &Rows) -> Result
     Ok(())
 }
 
+/// Puts rows behind others, each with its own number and shared.
+fn put_scattered(
+    rows: &mut Vec<(u64, Option<Row>)>,
+    rids: &[u64],
+    block: &Rows,
+) -> Result<(), NoMemory>
+    requires { length rids.now ≡ length block.now }
+    ensures { OnOk result (rows.new.items ≡ rows.old.items ++ kept.each_at rids.now block.now) }
+{
+    for at in 0..block.len() {
+        let row = block.row(at)?;
+        rows.push((rids[at], Some(row)))?;
+    }
+    Ok(())
+}
+
 /// The same row once more, or none.
 fn shared(alloc: Global, row: &Option<Row>) -> Result<Option<Row>, NoMemory>
     ensures { IfOk result (λ copy. copy ≡ row.now) }
@@ -321,6 +378,7 @@ fn put_piece(
 {
     match piece {
         Piece::Run(first, run) => put_run(rows, *first, run),
+        Piece::Each(rids, block) => put_scattered(rows, rids.as_slice(), block),
         Piece::One(rid, row) => {
             let row = shared(alloc, row)?;
             rows.push((*rid, row))?;

@@ -9,15 +9,15 @@ ghost use Rattle.im_scan.specs.inner.Left.{AreBetween, cut_at, is_left, spots_wh
 ghost use Rattle.im_scan.specs.inner.Walk.{lent_beside};
 
 use crate::kept::kept_spots;
-use im_history::UnitLike;
+use im_history::{LentRow, UnitLike};
 use im_lanes::Mask;
 use im_syntax::Filter;
 use im_unit::ColumnUnit;
-use im_values::{NoMemory, Row};
+use im_values::NoMemory;
 use std::alloc::Global;
 
 /// Whether the row numbers of rows rise from one on and stay below another.
-pub fn are_between(rows: &[(u64, Option<&Row>)], first: u64, end: u64) -> bool
+pub fn are_between(rows: &[LentRow<'_>], first: u64, end: u64) -> bool
     requires { end < 2 ^ 64 }
     ensures { OnTrue result (AreBetween first end (lent_beside rows.now)) }
 {
@@ -42,7 +42,7 @@ fn hide(unit: &ColumnUnit, rid: u64, spots: &mut Mask)
 }
 
 /// Chooses no longer the rows in whose place others stand.
-fn hide_all(unit: &ColumnUnit, beside: &[(u64, Option<&Row>)], spots: &mut Mask)
+fn hide_all(unit: &ColumnUnit, beside: &[LentRow<'_>], spots: &mut Mask)
     requires { length spots.old ≡ count_present unit.now.rows }
     ensures { spots.new ≡ without_all unit.now beside.now spots.old }
 {
@@ -76,7 +76,7 @@ pub fn left_spots(
     alloc: Global,
     unit: &ColumnUnit,
     filter: &Option<Filter>,
-    beside: &[(u64, Option<&Row>)],
+    beside: &[LentRow<'_>],
     count: u64,
 ) -> Result<Mask, NoMemory>
     requires { AllByRecursion (λ row. ForSome row (λ values. ForSome filter.now (FilterFits values))) unit.now.rows }

@@ -10,6 +10,7 @@ ghost use Rattle.im_scan.specs.Faces.{Shows, unit_of};
 ghost use Rattle.im_scan.specs.Parts.{MayAsk, MayAskShown, part_of, taken_row};
 ghost use Rattle.im_scan.specs.Pinned.{IsPinned, seen_in};
 ghost use Rattle.im_scan.specs.inner.Steps.{GoesOnBy, MayScan, lent, numbered, numbered_from};
+ghost use Rattle.im_scan.specs.inner.Walk.{lent_beside, standing};
 
 use crate::beside::beside;
 use crate::by_columns::column_part;
@@ -19,9 +20,9 @@ use crate::kept::{begins_by, kept_in};
 use crate::slots::{gather, has_own, rows_of};
 use crate::walking::walked;
 use im_group::{Asking, Partial};
-use im_history::{Fetched, View};
+use im_history::{Fetched, LentRow, View};
 use im_syntax::Bound;
-use im_values::{NoMemory, Row};
+use im_values::{NoMemory, Row, Value};
 use std::alloc::Global;
 
 /// The part takes what stands at a row number, where there is a row. The row stays where it is.
@@ -29,7 +30,7 @@ pub fn take_row(
     alloc: Global,
     asking: &Asking<'_>,
     rid: u64,
-    row: Option<&Row>,
+    row: Option<&[Value]>,
     part: &mut Partial,
 ) -> Result<(), NoMemory>
     requires fits { MayAsk asking.now (option_copied row) }
@@ -37,8 +38,18 @@ pub fn take_row(
     ensures { OnOk result (GoesOnBy asking.now part.old (numbered rid (option_copied row.entry)) part.new) }
 {
     match row {
-        Some(row) => part.take_shared(alloc, asking, rid, row),
+        Some(row) => part.take(alloc, asking, rid, row),
         None => Ok(()),
+    }
+}
+
+/// The values of a row that is lent, or none.
+fn values_of<'a>(row: Option<&'a Row>) -> Option<&'a [Value]>
+    ensures { option_copied result ≡ option_copied row.entry }
+{
+    match row {
+        Some(row) => Some(row.values()),
+        None => None,
     }
 }
 
@@ -55,7 +66,7 @@ fn part_of_slots(
 {
     let mut part = Partial::new(alloc, asking)?;
     for (i, slot) in slots.iter().enumerate() {
-        take_row(alloc, asking, first + i as u64, *slot, &mut part)?;
+        take_row(alloc, asking, first + i as u64, values_of(*slot), &mut part)?;
     }
     Ok(part)
 }
@@ -91,29 +102,52 @@ fn fetched_part(
     }
 }
 
-/// What an extent gives whose unit is scanned or pruned: nothing is laid out. None where what was fetched is not in rising order of
-/// the extent's row numbers, or the unit begins behind the extent: an extent that was pinned is neither.
+/// What so many row numbers from the first on give: what stands beside what a face shows, and else the rows of the unit, by a walk
+/// over both. None where the rows beside the unit are not of rising row numbers among these, or the unit begins behind the first: in an
+/// extent that was pinned they are and it does not.
 fn walked_part(
     alloc: Global,
     face: Face<'_>,
     asking: &Asking<'_>,
-    fetched: &[(u64, Option<Row>)],
-    view: &View,
+    beside: &[LentRow<'_>],
     first: u64,
     count: u64,
 ) -> Result<Option<Partial>, NoMemory>
     requires within { first + count < 2 ^ 64 }
-    requires fits { MayScan asking.now (unit_of face) fetched.now view.now.own }
+    requires fits { ForSome (unit_of face) (λ content. AllByRecursion (MayAsk asking.now) content.rows) }
+    requires beside_fits { AllByRecursion (λ row. MayAsk asking.now row.1) (lent_beside beside.now) }
     ensures { IfOk result (λ part. ForSome part (λ part.
-        part ≡ group.partial asking.now (present (taken_row (unit_of face.entry) fetched.now view.now) first count))) }
+        part ≡ group.partial asking.now (present (standing (unit_of face.entry) (lent_beside beside.now)) first count))) }
 {
     let kept = kept_in(alloc, face, asking.bound())?;
     if !begins_by(&kept, first) {
         return Ok(None);
     }
-    match beside(alloc, fetched, view, first, count)? {
-        Some(rows) => walked(alloc, asking, &kept, rows.as_slice(), first, count),
-        None => Ok(None),
+    walked(alloc, asking, &kept, beside, first, count)
+}
+
+/// The same, by the columns of the unit where these answer the query, and else by a walk. None too where there is no unit.
+fn standing_part(
+    alloc: Global,
+    face: Face<'_>,
+    asking: &Asking<'_>,
+    beside: &[LentRow<'_>],
+    first: u64,
+    count: u64,
+) -> Result<Option<Partial>, NoMemory>
+    requires within { first + count < 2 ^ 64 }
+    requires fits { ForSome (unit_of face) (λ content. AllByRecursion (MayAsk asking.now) content.rows) }
+    requires beside_fits { AllByRecursion (λ row. MayAsk asking.now row.1) (lent_beside beside.now) }
+    ensures { IfOk result (λ part. ForSome part (λ part.
+        part ≡ group.partial asking.now (present (standing (unit_of face.entry) (lent_beside beside.now)) first count))) }
+{
+    match face {
+        Face::Bare => Ok(None),
+        Face::Edges(_) => walked_part(alloc, face, asking, beside, first, count),
+        Face::Whole(unit) => match column_part(alloc, asking, unit, beside, first, count)? {
+            Some(part) => Ok(Some(part)),
+            None => walked_part(alloc, face, asking, beside, first, count),
+        },
     }
 }
 
@@ -152,13 +186,9 @@ fn beside_part(
     ensures { IfOk result (λ part. ForSome part (λ part.
         part ≡ group.partial asking.now (present (taken_row (unit_of face.entry) fetched.now view.now) first count))) }
 {
-    match face {
-        Face::Bare => Ok(None),
-        Face::Edges(_) => walked_part(alloc, face, asking, fetched, view, first, count),
-        Face::Whole(_) => match column_part(alloc, face, asking, fetched, view, first, count)? {
-            Some(part) => Ok(Some(part)),
-            None => walked_part(alloc, face, asking, fetched, view, first, count),
-        },
+    match beside(alloc, fetched, view, first, count)? {
+        Some(rows) => standing_part(alloc, face, asking, rows.as_slice(), first, count),
+        None => Ok(None),
     }
 }
 
@@ -181,6 +211,49 @@ fn handled_part(
     match beside_part(alloc, face, asking, rows.as_slice(), view, first, count)? {
         Some(part) => Ok(part),
         None => laid_part(alloc, face, asking, rows.as_slice(), view, first, count),
+    }
+}
+
+/// What an extent with a unit gives, where the view has changed none of its row numbers: no row is shared or copied.
+fn lent_part(
+    alloc: Global,
+    face: Face<'_>,
+    asking: &Asking<'_>,
+    fetched: &Fetched,
+    view: &View,
+    first: u64,
+    count: u64,
+) -> Result<Option<Partial>, NoMemory>
+    requires within { first + count < 2 ^ 64 }
+    requires fits { MayScan asking.now (unit_of face) fetched.now view.now.own }
+    ensures { IfOk result (λ part. ForSome part (λ part.
+        part ≡ group.partial asking.now (present (taken_row (unit_of face.entry) fetched.now view.now) first count))) }
+{
+    if has_own(view, first, count) {
+        return Ok(None);
+    }
+    let rows = fetched.lent(alloc)?;
+    standing_part(alloc, face, asking, rows.as_slice(), first, count)
+}
+
+/// What an extent gives of which not every row was fetched, or that the view has changed.
+fn mixed_part(
+    alloc: Global,
+    face: Face<'_>,
+    asking: &Asking<'_>,
+    fetched: &Fetched,
+    view: &View,
+    first: u64,
+    count: u64,
+) -> Result<Partial, NoMemory>
+    requires within { first + count < 2 ^ 64 }
+    requires fits { MayScan asking.now (unit_of face) fetched.now view.now.own }
+    ensures { IfOk result (λ part.
+        part ≡ group.partial asking.now (present (taken_row (unit_of face.entry) fetched.now view.now) first count)) }
+{
+    match lent_part(alloc, face, asking, fetched, view, first, count)? {
+        Some(part) => Ok(part),
+        None => handled_part(alloc, face, asking, fetched, view, first, count),
     }
 }
 
@@ -216,6 +289,6 @@ pub fn part(
     let asking = Asking::of(alloc, bound)?;
     match fetched_part(alloc, face, &asking, fetched, view, first, count)? {
         Some(part) => Ok(part),
-        None => handled_part(alloc, face, &asking, fetched, view, first, count),
+        None => mixed_part(alloc, face, &asking, fetched, view, first, count),
     }
 }

@@ -11,8 +11,9 @@ ghost use Rattle.im_scan.specs.inner.Walk.{AreKept, BeginsBy, IsPartTo, is_kept,
 use crate::kept::{Kept, next_chosen};
 use crate::parts::take_row;
 use im_group::{Asking, Partial};
+use im_history::LentRow;
 use im_unit::ColumnUnit;
-use im_values::{NoMemory, Row, Value};
+use im_values::{NoMemory, Value};
 use std::alloc::Global;
 
 /// The part of a grouped query takes a row of a unit that is kept. It is read into a list that is lent.
@@ -133,7 +134,7 @@ pub fn walked(
     alloc: Global,
     asking: &Asking<'_>,
     kept: &Option<Kept<'_>>,
-    beside: &[(u64, Option<&Row>)],
+    beside: &[LentRow<'_>],
     first: u64,
     count: u64,
 ) -> Result<Option<Partial>, NoMemory>

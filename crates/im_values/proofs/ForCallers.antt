@@ -96,6 +96,18 @@ cut-push (suc count) width values row long wide =
     rw (take-append-le width values row enough, drop-append-le width values row enough)
     (ap (λ rows. take width values ∷ rows) (cut-push count width (drop width values) row (rest_of count width values long) wide))
 
+-- and so are those of more rows
+pub cut-append : (count more width : ℕ) (values others : List Value) → length values ≡ count * width → length others ≡ more * width →
+    cut (count + more) width (values ++ others) ≡ cut count width values ++ cut more width others
+cut-append zero more width values others long wide =
+    rw (nil_from_length values (long ∙ (grind arith))) (ap (λ (n : ℕ). cut n width others) (omega arith))
+cut-append (suc count) more width values others long wide =
+    let all = one_more count width in
+    let enough : width ≤ length values = omega (arith, all, long) in
+    let next : suc count + more ≡ suc (count + more) = omega arith in
+    rw (next, take-append-le width values others enough, drop-append-le width values others enough)
+    (ap (λ rows. take width values ∷ rows) (cut-append count more width (drop width values) others (rest_of count width values long) wide))
+
 -- ---- Equal values
 
 tied : (o : Ordering) → is_eq o ≡ true → o ≡ Equal

@@ -1,7 +1,7 @@
 -- The rows of a run, by their places in its block.
-use Rattle.std.proofs.Common.{◌≡◌, ℕ, ◌+◌, ◌-◌, ◌*◌, ◌<◌, ◌≤◌, List, ◌∷◌, zero, suc, length, take, drop, Some, refl, sym, ap, ◌∙◌, arith}
+use Rattle.std.proofs.Common.{◌≡◌, ℕ, ◌+◌, ◌-◌, ◌*◌, ◌<◌, ◌≤◌, List, [], ◌∷◌, ◌++◌, zero, suc, length, take, drop, Some, refl, sym, ap, ◌∙◌, arith}
 use Rattle.std.specs.List.{slice_get, slice_range}
-use Rattle.std.proofs.lemmas.List.{drop-drop}
+use Rattle.std.proofs.lemmas.List.{drop-drop, drop-take}
 use Rattle.im_values.specs.declared.value.Value.{Value}
 use Rattle.im_values.specs.Stretches.{cut}
 
@@ -59,3 +59,33 @@ wide at width = omega arith
 pub row_range : (at start width : ℕ) (values : List Value) → start ≡ at → take width (drop at values) ≡ slice_range values start (start + width)
 row_range at start width values is =
     ap (λ (n : ℕ). take n (drop at values)) (wide at width) ∙ ap (λ (n : ℕ). slice_range values n (n + width)) (sym is)
+
+-- ---- the values of rows behind one another
+
+take-none : (n : ℕ) → take {A = Value} n [] ≡ []
+take-none zero = refl
+take-none (suc n) = refl
+
+take-within : (n m : ℕ) (values : List Value) → take n (take (n + m) values) ≡ take n values
+take-within zero m values = refl
+take-within (suc n) m [] = ap (λ (l : List Value). take (suc n) l) (take-none (suc n + m))
+take-within (suc n) m (value ∷ values) =
+    let next : suc n + m ≡ suc (n + m) = omega arith in
+    ap (λ (k : ℕ). take (suc n) (take k (value ∷ values))) next ∙ ap (λ (l : List Value). value ∷ l) (take-within n m values)
+
+more : (n width : ℕ) → suc n * width ≡ width + n * width
+more n width = grind arith
+
+-- no more values are needed than the rows have
+pub cut-take : (n width : ℕ) (values : List Value) → cut n width (take (n * width) values) ≡ cut n width values
+cut-take zero width values = refl
+cut-take (suc n) width values =
+    ap (λ (k : ℕ). cut (suc n) width (take k values)) (more n width)
+    ∙ (ap (λ (row : List Value). row ∷ cut n width (drop width (take (width + n * width) values))) (take-within width (n * width) values)
+    ∙ ap (λ (l : List (List Value)). take width values ∷ l)
+    (ap (cut n width) (drop-take width (n * width) values) ∙ cut-take n width (drop width values)))
+
+-- the values of rows from a place of their block on
+pub range-cut : (n width start : ℕ) (values : List Value) → cut n width (slice_range values start (start + n * width)) ≡ cut n width (drop start values)
+range-cut n width start values =
+    ap (λ (k : ℕ). cut n width (take k (drop start values))) (sym (wide start (n * width))) ∙ cut-take n width (drop start values)

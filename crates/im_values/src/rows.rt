@@ -20,6 +20,15 @@ pub struct Rows {
     count: usize,
 }
 
+/// The values of rows that lie one behind another, lent.
+#[derive(Clone, Copy)]
+pub struct LentValues<'a> {
+    /// The values, one row behind another.
+    pub values: &'a [Value],
+    /// How many values each row has.
+    pub width: usize,
+}
+
 impl Model for Rows {
     ghost use Rattle.std.specs.Prelude.{List};
     ghost use Rattle.im_values.specs.declared.value.Value.{Value as AnyValue};
@@ -75,6 +84,18 @@ impl Rows {
     {
         let start = place_of(&self.block, self.first, self.width, self.count, at);
         &self.block.as_slice()[start..start + self.width]
+    }
+
+    /// The values of so many rows from a place on, one row behind another. It takes no memory and counts nothing.
+    pub fn lent(&self, from: usize, count: usize) -> LentValues<'_>
+        requires { from + count ≤ length self.now }
+        ensures rows { cut count result.width result.values.now ≡ take count (drop from self.now) }
+        ensures long { length result.values.now ≡ count * result.width }
+    {
+        LentValues {
+            values: values_from(&self.block, self.first, self.width, self.count, from, count),
+            width: self.width,
+        }
     }
 
     /// The row at a place, from 0. It shares the block, and is refused where as many share it as can.
@@ -138,6 +159,25 @@ fn part_place(
     ensures rows { cut many width (drop result block.now.items) ≡ take many (drop from (cut count width (drop first block.now.items))) }
 {
     start_of(block, first, width, count, from)
+}
+
+/// The values of so many rows of a run, from a place on.
+fn values_from(
+    block: &Vec<Value>,
+    first: usize,
+    width: usize,
+    count: usize,
+    from: usize,
+    many: usize,
+) -> &[Value]
+    requires inside { first + count * width ≤ length block.now.items }
+    requires within { from + many ≤ length (cut count width (drop first block.now.items)) }
+    ensures rows { cut many width result.now ≡ take many (drop from (cut count width (drop first block.now.items))) }
+    ensures long { length result.now ≡ many * width }
+{
+    let start = part_place(block, first, width, count, from, many);
+    let end = start + many * width;
+    &block.as_slice()[start..end]
 }
 
 /// Where the values behind so many of a run's rows begin in the block.

@@ -9,6 +9,7 @@ ghost use Rattle.im_blocks.specs.inner.Seen.{AreSeen};
 use crate::blocks::Blocks;
 use crate::gathered::Gathered;
 use crate::runs::{LentRows, rows_seen};
+use crate::scattered::Scattered;
 use crate::slot::Slot;
 use im_history::Fetched;
 use im_values::{NoMemory, Steps};
@@ -79,7 +80,7 @@ impl Blocks {
         Ok(read.finish()?)
     }
 
-    /// These row numbers, each with a copy of its row at an SCN.
+    /// These row numbers, each with a copy of its row at an SCN. The copies share one block, whichever row numbers they are.
     ///
     /// It costs one look-up and at most one step for each, and the copies.
     pub fn rows_of<L: Ledger>(
@@ -93,7 +94,7 @@ impl Blocks {
         ensures rows { IfOk result (λ fetched. fetched ≡ rows_among self.now table rids.now scn) }
         ensures few { steps.new ≤ steps.old + length rids.now }
     {
-        let mut read = Gathered::new(alloc);
+        let mut read = Scattered::new(alloc, rids.len())?;
         for rid in rids {
             read.push(*rid, self.at(table, *rid, scn, steps))?;
         }

@@ -1,5 +1,5 @@
 -- Jobs before and after they are done.
-use Rattle.std.specs.Prelude.{◌≡◌, ℕ, ◌<◌, ◌≤◌, false, List, [], ◌∷◌, filter, map, slice_index_or, ⊤}
+use Rattle.std.specs.Prelude.{◌≡◌, ℕ, ◌<◌, ◌≤◌, false, List, [], ◌∷◌, filter, map, slice_index_or, IfSome, IsSomeAnd, Some, None, ⊤}
 use Rattle.im_history.specs.declared.entry.Entry.{Entry}
 use Rattle.im_history.specs.History.{History}
 use Rattle.im_history.specs.Leaves.{has_left}
@@ -10,6 +10,7 @@ use Rattle.im_race.specs.declared.job.JobOutcome.{JobOutcome}
 use Rattle.im_race.specs.declared.job.JobOutcome.TheVariants as outcome
 use Rattle.im_race.specs.declared.job.Player.{Player}
 use Rattle.im_race.specs.declared.job.Player.TheVariants as player
+use Rattle.im_race.specs.declared.job.Post.{Post}
 use Rattle.im_race.specs.Jobs.{Answer, HasPlayed, PlaysDemand, Worker}
 use Rattle.im_race.specs.Lines.{speaks_in}
 use Rattle.im_replies.specs.declared.reply.Reply.{Reply}
@@ -101,3 +102,11 @@ AreDone area turns sessions lines [] (done ∷ dones) = ⊥
 AreDone area turns sessions lines (job ∷ jobs) [] = ⊥
 AreDone area turns sessions lines (job ∷ jobs) (done ∷ dones) =
     IsDone area turns sessions lines job done × AreDone area turns sessions lines jobs dones
+
+-- a post at which a job waits
+abbrev pub waiting : Job → Post
+waiting job = record { job = Some job; done = None }
+
+-- the job that waited at a post was done
+abbrev pub IsServed : ℕ → ℕ → ℕ → List Line → Post → Post → Type 0
+IsServed area turns sessions lines old new = IfSome old.job (λ (job : Job). IsSomeAnd new.done (IsDone area turns sessions lines job))

@@ -6,5 +6,5 @@ use Rattle.im_lanes.proofs.between.word_between.Goals as goal
 pub returns : goal.returns
 returns c =
     c.first_bits.ensures
-    ∙ word-flags (is_between c.args.low c.args.high) c.args.bits.now.codes c.codes_from.new.out c.args.place c.bits_between.result _ c.requires.inside
-    (ap (λ n. n - c.args.place * 64) c.len.ensures.len) c.bits_between.ensures c.codes_from.array_long c.codes_from.ensures
+    ∙ word-flags (is_between c.args.low c.args.high) c.args.bits.now.codes c.lanes_of-lanes.result c.args.place c.bits_between.result _ c.requires.inside
+    (ap (λ n. n - c.args.place * 64) c.len.ensures.len) c.bits_between.ensures c.lanes_of-lanes.ensures.long c.lanes_of-lanes.ensures.codes

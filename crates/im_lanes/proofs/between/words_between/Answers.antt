@@ -19,12 +19,16 @@ pub loop-place-preserved : goal.loop-place-preserved
 loop-place-preserved c =
     let mask = map (is_between c.args.low c.args.high) c.args.bits.now.codes in
     let count = ap (λ n. div_ceil n 64) (c.len.ensures.len ∙ sym (length-map c.args.bits.now.codes (is_between c.args.low c.args.high))) in
-    c.in_ok-push.ensures.items
-    ∙ words-more mask c.loop-place.place c.loop-place.words.items c.word_between.result (omega (arith, c.loop-place-test.true, c.word_count-count.ensures, count))
-    c.loop-place.invariant c.word_between.ensures
+    record {
+      words = c.in_ok-push.ensures.items
+          ∙ words-more mask c.loop-place.place c.loop-place.words.items c.word_between.result
+          (omega (arith, c.loop-place-test.true, c.word_count-count.ensures, count)) c.loop-place.invariant.words c.word_between.ensures;
+      held = c.turn_to-held.ensures.held;
+    }
 
 pub returns : goal.returns
 returns c =
     let mask = map (is_between c.args.low c.args.high) c.args.bits.now.codes in
     let count = ap (λ n. div_ceil n 64) (c.len.ensures.len ∙ sym (length-map c.args.bits.now.codes (is_between c.args.low c.args.high))) in
-    words-all mask c.loop-place.place c.loop-place.words.items (omega (arith, c.loop-place-test.false, c.word_count-count.ensures, count)) c.loop-place.invariant
+    words-all mask c.loop-place.place c.loop-place.words.items (omega (arith, c.loop-place-test.false, c.word_count-count.ensures, count))
+    c.loop-place.invariant.words

@@ -31,8 +31,8 @@ loop-rid-preserved c =
     let passed = merged-passed fetched view first count (slot ∷ c.next.new.self) c.loop-rid.at c.in_ok-at.at rid old put before c.in_ok-at.ensures in
     let pushed : lent_beside c.push.new.self.items ≡ put ++ slot ∷ [] =
     ap lent_beside c.in_ok-push.ensures.items
-    ∙ (map_push (λ r. (r.0, option_copied r.1)) c.put_below.new.rows.items (rid, c.as_ref.result)
-    ∙ ap (λ r. put ++ (rid, r) ∷ []) c.as_ref.ensures.value) in
+    ∙ (map_push (λ r. (r.0, option_copied r.1)) c.put_below.new.rows.items (rid, c.lent_values.result)
+    ∙ ap (λ r. put ++ (rid, r) ∷ []) c.lent_values.ensures) in
     subst (λ (rows : Beside). IsMerged fetched view first count c.next.new.self c.past_equal-at.result rows) (sym pushed)
     (merged-own fetched view first count c.requires.rising rid c.in_ok-at.at c.past_equal-at.result row c.next.new.self put passed c.in_ok-at.ensures.past
     c.past_equal-at.ensures)

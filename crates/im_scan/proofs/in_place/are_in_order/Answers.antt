@@ -8,14 +8,14 @@ use Rattle.im_scan.proofs.in_place.are_in_order.Goals as goal
 
 pub overflow_add-next : goal.overflow_add-next
 overflow_add-next c =
-    let less = next-within c.args.first c.span-rid.result.0 c.span-rid.result.1 c.loop-piece.next c.loop-piece.piece-index c.args.pieces.now
-    c.piece-item.result c.loop-piece-test.true c.piece-item.is c.loop-piece.invariant c.span-rid.ensures c.requires in
+    let less = next-within c.args.first c.in-Some.rid c.in-Some.count c.loop-piece.next c.loop-piece.piece-index c.args.pieces.now
+    c.piece-item.result c.loop-piece-test.true c.piece-item.is c.loop-piece.invariant (c.span.ensures (c.in-Some.rid, c.in-Some.count) c.in-Some.is) c.requires in
     omega (arith, less)
 
 pub loop-piece-preserved : goal.loop-piece-preserved
 loop-piece-preserved c =
-    in-order-more c.args.first c.span-rid.result.0 c.span-rid.result.1 c.loop-piece.next c.loop-piece.piece-index c.args.pieces.now
-    c.piece-item.result c.loop-piece-test.true c.piece-item.is c.loop-piece.invariant c.if-rid-next.false c.span-rid.ensures
+    in-order-more c.args.first c.in-Some.rid c.in-Some.count c.loop-piece.next c.loop-piece.piece-index c.args.pieces.now
+    c.piece-item.result c.loop-piece-test.true c.piece-item.is c.loop-piece.invariant c.if-rid-next.false (c.span.ensures (c.in-Some.rid, c.in-Some.count) c.in-Some.is)
 
 pub returns : goal.returns
 returns c is =

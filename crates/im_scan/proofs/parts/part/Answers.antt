@@ -29,8 +29,8 @@ pub fetched_part-requires-clause-fits : goal.fetched_part-requires-clause-fits
 fetched_part-requires-clause-fits c =
     subst (λ (b : Bound). AllByRecursion (λ row. MayAsk b row.1) c.args.fetched.now) (sym c.in_ok-asking.ensures) c.requires.fetched_fits
 
-pub handled_part-requires-clause-fits : goal.handled_part-requires-clause-fits
-handled_part-requires-clause-fits c =
+pub mixed_part-requires-clause-fits : goal.mixed_part-requires-clause-fits
+mixed_part-requires-clause-fits c =
     let may : MayScan c.args.bound.now (unit_of c.args.face) c.args.fetched.now c.args.view.now.own = record
     { unit_fits = c.requires.unit_fits; fetched_fits = c.requires.fetched_fits; own_fits = c.requires.own_fits } in
     subst (λ b. MayScan b (unit_of c.args.face) c.args.fetched.now c.args.view.now.own) (sym c.in_ok-asking.ensures) may
@@ -53,8 +53,8 @@ returns-in-Some-clause-seen c history unit shows pinned =
 
 pub returns-clause-seen : goal.returns-clause-seen
 returns-clause-seen c =
-    IfOk-weaker c.handled_part.result _ _
+    IfOk-weaker c.mixed_part.result _ _
     (λ answer is history unit shows pinned.
     seen c.in_ok-asking.asking c.args.bound.now c.args.view.now c.args.extent c.min-count.result c.args.fetched.now c.args.face answer
     is c.in_ok-asking.ensures c.min-count.ensures history unit shows pinned)
-    c.handled_part.ensures
+    c.mixed_part.ensures

@@ -7,17 +7,17 @@ use Rattle.im_group.specs.Partials.{partial}
 use Rattle.im_scan.specs.inner.Steps.{numbered}
 use Rattle.im_scan.proofs.parts.take_row.Goals as goal
 
-pub take_shared-requires-clause-fits : goal.take_shared-requires-clause-fits
-take_shared-requires-clause-fits c = c.requires.fits c.in-Some.row.now (ap (λ (o : Option (Bor Row)). option_copied o) c.in-Some.is)
+pub take-requires-clause-fits : goal.take-requires-clause-fits
+take-requires-clause-fits c = c.requires.fits c.in-Some.row.now (ap (λ (o : Option (Bor Row)). option_copied o) c.in-Some.is)
 
 pub returns-in-Some : goal.returns-in-Some
 returns-in-Some c =
-    on_ok_weaker c.take_shared.result
+    on_ok_weaker c.take.result
     (λ on. record {
       goes = λ rows old. on.goes rows old
           ∙ ap (λ (o : Option (Bor Row)). partial c.args.asking.now (rows ++ numbered c.args.rid (option_copied o))) (sym c.in-Some.is);
     })
-    c.take_shared.ensures
+    c.take.ensures
 
 pub returns-in-None : goal.returns-in-None
 returns-in-None c = record {

@@ -1,8 +1,0 @@
-use Rattle.std.proofs.Common.{drop, take}
-use Rattle.im_history.specs.Fetched.{run_from}
-use Rattle.im_blocks.specs.inner.Gathering.{Gathers}
-use Rattle.im_blocks.proofs.gathered.Gathered.copy.Given as goal
-
--- the rows before this one are copied
-abbrev pub invariant-loop-at : goal.invariant-loop-at
-invariant-loop-at l = Gathers l.fn.self l.self (run_from l.rid (take l.at (drop l.from l.rows)))

@@ -1,0 +1,34 @@
+use Rattle.std.proofs.Common.{◌≡◌, ◌∙◌, ap, sym, subst}
+use Rattle.std.specs.List.{AllByRecursion}
+use Rattle.std.proofs.lemmas.Result.{IfOk-weaker}
+use Rattle.im_history.specs.Rows.{present}
+use Rattle.im_group.specs.Partials.{partial}
+use Rattle.im_scan.specs.Faces.{unit_of}
+use Rattle.im_scan.specs.Parts.{MayAsk}
+use Rattle.im_scan.specs.inner.Beside.{Beside}
+use Rattle.im_scan.specs.inner.Walk.{lent_beside, standing}
+use Rattle.im_scan.proofs.BesideLemmas.{fetched-beside}
+use Rattle.im_scan.proofs.PartLemmas.{beside-part}
+use Rattle.im_scan.proofs.parts.lent_part.Goals as goal
+
+pub standing_part-requires-clause-beside_fits : goal.standing_part-requires-clause-beside_fits
+standing_part-requires-clause-beside_fits c =
+    let bound = c.args.asking.now in
+    let same : lent_beside c.as_slice.result.now ≡ c.args.fetched.now = ap lent_beside c.as_slice.ensures.value ∙ c.in_ok-rows.ensures in
+    subst (λ (l : Beside). AllByRecursion (λ row. MayAsk bound row.1) l) (sym same) c.requires.fits.fetched_fits
+
+pub returns : goal.returns
+returns c =
+    let unit = unit_of c.args.face in
+    let fetched = c.args.fetched.now in
+    let view = c.args.view.now in
+    let first = c.args.first in
+    let count = c.args.count in
+    let rows = c.in_ok-rows.rows in
+    IfOk-weaker c.standing_part.result _ _
+    (λ found some part is. some part is
+    ∙ ap (partial c.args.asking.now)
+    (ap (λ slice. present (standing unit (lent_beside slice)) first count) c.as_slice.ensures.value
+    ∙ beside-part unit fetched view first count (lent_beside rows.items)
+    (fetched-beside fetched view first count (lent_beside rows.items) (c.has_own.ensures c.if-has_own.false) c.in_ok-rows.ensures)))
+    c.standing_part.ensures
