@@ -1,8 +1,9 @@
-ghost use Rattle.std.specs.Prelude.{◌≡◌, ◌^◌, ◌<◌, IfOk, length};
+ghost use Rattle.std.specs.Prelude.{◌≡◌, ◌^◌, ◌<◌, All, IfOk, length};
+ghost use Rattle.std.specs.Bool.{OnTrue};
 
 use crate::values::Cell::{Int, Null, Text};
 use crate::values::{Cell, values_of};
-use im_codes::{Dict, Runs};
+use im_codes::{Coding, Dict, Runs};
 use im_values::{NoMemory, Value};
 use std::alloc::Global;
 use std::test::Fail;
@@ -113,6 +114,68 @@ fn runs_are_as_long_as_they_can_be(rt: HostRuntime) -> Result<(), Fail> {
         assert!(rt; codes.len() < 101);
         let runs = runs(rt.alloc(), codes)?;
         assert!(rt; has_runs(&runs, codes, expected));
+        assert!(rt; runs.codes(rt.alloc())?.as_slice() == codes);
     }
+    Ok(())
+}
+
+/// Whether each place is before an end.
+fn are_before(places: &[u32], end: usize) -> bool
+    ensures { OnTrue result (All (λ place. place < end) places.now) }
+{
+    for place in places {
+        if *place as usize >= end {
+            return false;
+        }
+    }
+    true
+}
+
+/// The codes at places of the codes of values, with those of fresh values behind them: none for a place that is not there.
+fn picked(
+    alloc: Global,
+    values: &[Value],
+    fresh: &[&Value],
+    places: &[u32],
+) -> Result<Option<Vec<u32>>, NoMemory>
+    requires { length values.now < 2 ^ 31 }
+{
+    let Coding { dict, codes } = Coding::of(alloc, values)?;
+    if !are_before(places, codes.len() + fresh.len()) {
+        return Ok(None);
+    }
+    dict.codes_picked(alloc, codes, fresh, places)
+}
+
+/// Whether these codes were picked, or none.
+fn is_picked_as(picked: &Option<Vec<u32>>, wanted: Option<&[u32]>) -> bool {
+    match (picked, wanted) {
+        (Some(codes), Some(wanted)) => codes.as_slice() == wanted,
+        (None, None) => true,
+        _ => false,
+    }
+}
+
+#[test]
+fn a_dictionary_picks_codes_while_it_is_that_of_the_values(rt: HostRuntime) -> Result<(), Fail> {
+    let values = values_of(
+        rt.alloc(),
+        &[(Int(20), 1), (Null, 1), (Int(10), 1), (Int(20), 1)],
+    )?;
+    assert!(rt; values.len() < 8);
+    let known = [&Value::Int(10), &Value::Null];
+    let cases: [(&[u32], Option<&[u32]>); 5] = [
+        (&[0, 1, 2, 3], Some(&[2, 0, 1, 2])),
+        (&[4, 0, 5], Some(&[1, 2, 0])),
+        (&[2, 3], Some(&[1, 2])),
+        (&[0, 1, 3], None),
+        (&[], None),
+    ];
+    for (places, wanted) in cases {
+        let codes = picked(rt.alloc(), values.as_slice(), &known, places)?;
+        assert!(rt; is_picked_as(&codes, wanted));
+    }
+    let codes = picked(rt.alloc(), values.as_slice(), &[&Value::Int(30)], &[0, 2])?;
+    assert!(rt; codes.is_none());
     Ok(())
 }

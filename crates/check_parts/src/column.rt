@@ -11,7 +11,7 @@ use std::test::Fail;
 
 /// A form, with the width of its codes or with how many runs there are.
 #[derive(Clone, Copy, PartialEq, Eq)]
-enum Shape {
+pub enum Shape {
     Plain,
     Coded(u32),
     Runs(usize),
@@ -51,7 +51,8 @@ const CASES: [(&[(Cell, u32)], Shape, u64); 23] = [
     (&[(Int(i64::MAX), 300), (Int(i64::MIN), 300)], Runs(2), 34),
 ];
 
-fn shape_of(column: &Column) -> Shape {
+/// The form that a column is kept in.
+pub fn shape_of(column: &Column) -> Shape {
     match column.form() {
         Form::Plain(_) => Plain,
         Form::Coded(_, bits) => Coded(bits.width()),

@@ -1,9 +1,14 @@
-ghost use Rattle.std.specs.Prelude.{◌≡◌, ◌≤◌, All, length, IfOk};
+ghost use Rattle.std.specs.Prelude.{◌≡◌, ◌+◌, ◌<◌, ◌≤◌, All, length, IfOk, OnOk};
 ghost use Rattle.std.specs.Option.{ForSome};
 ghost use Rattle.im_column.specs.Forms.{IsShort};
+ghost use Rattle.im_history.specs.Fetched.{lent_rows};
 ghost use Rattle.im_unit.specs.Holding.{AreShort, HaveWidth};
+ghost use Rattle.im_unit.specs.Rebuilt.{RiseWithin, fetched_rows};
+ghost use Rattle.check_parts.specs.Fetching.{AreFetched};
 
-use im_history::UnitLike;
+use crate::column::shape_of;
+use im_column::Column;
+use im_history::{LentRow, UnitLike, lent_values};
 use im_unit::ColumnUnit;
 use im_values::{Name, NoMemory, Row, Value};
 use std::alloc::Global;
@@ -121,4 +126,127 @@ fn a_unit_gives_back_the_rows_of_a_mixed_table(rt: HostRuntime) -> Result<(), Fa
         assert!(rt; is_same(row, &read), "place {place}");
     }
     Ok(())
+}
+
+/// A row of the same table behind changes: where a step divides its place, the row of another place, or none, and else the old one.
+fn changed_row(alloc: Global, place: u64, step: u64, shift: u64) -> Result<Option<Row>, NoMemory>
+    ensures width { IfOk result (λ row. ForSome row (λ values. length values ≡ 3)) }
+    ensures short { IfOk result (λ row. ForSome row (λ values. All IsShort values)) }
+{
+    if is_changed(place, step) {
+        mixed_row(alloc, place.wrapping_add(shift))
+    } else {
+        mixed_row(alloc, place)
+    }
+}
+
+/// Whether a row number is among those that were changed.
+fn is_changed(place: u64, step: u64) -> bool {
+    step != 0 && place % step == 0
+}
+
+/// The rows of the extent behind changes.
+fn changed_rows(alloc: Global, step: u64, shift: u64) -> Result<Vec<Option<Row>>, NoMemory>
+    ensures width { IfOk result (λ rows. HaveWidth 3 rows.items) }
+    ensures short { IfOk result (λ rows. AreShort rows.items) }
+    ensures many { IfOk result (λ rows. length rows.items ≡ EXTENT) }
+{
+    let mut rows = Vec::new(alloc);
+    for place in 0..EXTENT {
+        rows.push(changed_row(alloc, place, step, shift)?)?;
+    }
+    Ok(rows)
+}
+
+/// Puts a row that was fetched behind others, where its row number was changed.
+fn put_changed<'a>(
+    fetched: &mut Vec<LentRow<'a>>,
+    place: u64,
+    step: u64,
+    row: &'a Option<Row>,
+) -> Result<(), NoMemory>
+    requires place { place < EXTENT }
+    requires width { ForSome row.now (λ values. length values ≡ 3) }
+    requires short { ForSome row.now (λ values. All IsShort values) }
+    requires before { AreFetched (lent_rows fetched.old.items) place }
+    ensures { OnOk result (AreFetched (lent_rows fetched.new.items) (place + 1)) }
+{
+    if is_changed(place, step) {
+        fetched.push((1000 + place, lent_values(row)))?;
+    }
+    Ok(())
+}
+
+/// What was fetched of the row numbers that were changed.
+fn fetched_of(alloc: Global, step: u64, rows: &[Option<Row>]) -> Result<Vec<LentRow<'_>>, NoMemory>
+    requires width { HaveWidth 3 rows.now }
+    requires short { AreShort rows.now }
+    requires many { length rows.now ≡ EXTENT }
+    ensures { IfOk result (λ fetched. AreFetched (lent_rows fetched.items) EXTENT) }
+{
+    let mut fetched = Vec::new(alloc);
+    for i in 0..rows.len() {
+        put_changed(&mut fetched, i as u64, step, &rows[i])?;
+    }
+    Ok(fetched)
+}
+
+/// Whether two columns are kept in one form, and take as many bytes.
+fn is_kept_as(a: &Column, b: &Column) -> bool {
+    shape_of(a) == shape_of(b) && a.bytes() == b.bytes() && a.sum() == b.sum() && a.len() == b.len()
+}
+
+/// A step, and how far away the row stands that comes to each place that it divides: none is changed, a row stays as it is, rows are
+/// deleted, come back, and change few and all columns.
+const CHANGES: [(u64, u64); 12] = [
+    (0, 0),
+    (1, 0),
+    (1, 1),
+    (1, 77),
+    (2, 5),
+    (3, 40),
+    (5, 200),
+    (7, 3),
+    (7, 7),
+    (7, 385),
+    (64, 1),
+    (199, 11),
+];
+
+#[test]
+fn a_unit_built_anew_is_the_one_built_of_its_rows(rt: HostRuntime) -> Result<(), Fail> {
+    let alloc = rt.alloc();
+    let rows = changed_rows(alloc, 0, 0)?;
+    let old = ColumnUnit::build(alloc, 9, 1000, 3, rows.as_slice())?;
+    for (step, shift) in CHANGES {
+        let rows = changed_rows(alloc, step, shift)?;
+        let built = ColumnUnit::build(alloc, 12, 1000, 3, rows.as_slice())?;
+        let fetched = fetched_of(alloc, step, rows.as_slice())?;
+        let unit = ColumnUnit::rebuild(alloc, &old, 12, fetched.as_slice())?;
+        assert!(rt; is_built_as(alloc, &unit, &built)?, "{step} {shift}");
+    }
+    Ok(())
+}
+
+/// Whether two units have the same rows, in columns of the same forms.
+fn is_built_as(alloc: Global, a: &ColumnUnit, b: &ColumnUnit) -> Result<bool, NoMemory> {
+    if a.scn() != b.scn() || a.first() != b.first() || a.present() != b.present() {
+        return Ok(false);
+    }
+    if a.bytes() != b.bytes() || a.columns().len() != b.columns().len() {
+        return Ok(false);
+    }
+    for (one, other) in a.columns().iter().zip(b.columns().iter()) {
+        if !is_kept_as(one, other) {
+            return Ok(false);
+        }
+    }
+    let ours = a.rows(alloc)?;
+    let theirs = b.rows(alloc)?;
+    for (one, other) in ours.iter().zip(theirs.iter()) {
+        if !is_same(one, other) {
+            return Ok(false);
+        }
+    }
+    Ok(ours.len() == theirs.len())
 }

@@ -2,4 +2,5 @@ mod RunLemmas
 mod DictLemmas
 mod NumberingLemmas
 mod SetLemmas
+mod PickLemmas
 pub mod ForCallers

@@ -1,6 +1,6 @@
 -- Runs of equal codes.
-use Rattle.std.proofs.Common.{◌≡◌, ◌≢◌, ℕ, zero, suc, ◌+◌, ◌-◌, ◌<◌, ◌≤◌, ◌==◌, List, [], ◌∷◌, ◌++◌, length, replicate, get_or, true, false, sym, refl, ap, ◌∙◌, arith, append_assoc, append-nil, length-append, eq-eqb, ne_eqb, nat_le, leb-true, leb-false}
-use Rattle.std.proofs.lemmas.List.{length-replicate, get_or-replicate, get_or_append_left, get_or-append_right, replicate_more}
+use Rattle.std.proofs.Common.{◌≡◌, ◌≢◌, ℕ, zero, suc, ◌+◌, ◌-◌, ◌<◌, ◌≤◌, ◌==◌, List, [], ◌∷◌, ◌++◌, length, replicate, get_or, take, drop, subst, true, false, sym, refl, ap, ◌∙◌, arith, append_assoc, append-nil, length-append, eq-eqb, ne_eqb, nat_le, leb-true, leb-false}
+use Rattle.std.proofs.lemmas.List.{length-replicate, get_or-replicate, get_or_append_left, get_or-append_right, replicate_more, drop_more, drop_all, take_all}
 use Rattle.std.specs.List.Sorted.{IsPartitionPoint}
 use Rattle.im_codes.specs.declared.run.Run.{Run}
 use Rattle.im_codes.specs.Runs.{codes_from, codes_of, run_count_after, run_count, AreFull, AreApart, AreRuns, IsRunAt, Extends}
@@ -161,3 +161,32 @@ ends-rise begin (run ∷ runs) full zero zero d up inside = omega arith
 ends-rise begin (run ∷ runs) full zero (suc j) d up inside = omega (arith, later-end run.end runs full.1 j d (omega arith))
 ends-rise begin (run ∷ runs) full (suc i) zero d up inside = absurd (omega arith)
 ends-rise begin (run ∷ runs) full (suc i) (suc j) d up inside = ends-rise run.end runs full.1 i j d (omega arith) (omega arith)
+
+-- one run more is laid out
+pub laid-more : (codes longer : List ℕ) (runs : List Run) (i many : ℕ) (run d : Run) → i < length runs → run ≡ get_or runs i d → many ≡ length codes →
+    AreFull (length codes) (drop i runs) → codes ++ codes_from (length codes) (drop i runs) ≡ codes_of runs →
+    longer ≡ take run.end codes ++ replicate (run.end - many) run.code →
+    AreFull (length longer) (drop (i + 1) runs) × (longer ++ codes_from (length longer) (drop (i + 1) runs) ≡ codes_of runs)
+laid-more codes longer runs i many run d inside is size full so_far more =
+    let rest = drop (i + 1) runs in
+    let next : drop i runs ≡ run ∷ rest = drop_more runs i d inside ∙ ap (λ r. r ∷ rest) (sym is) in
+    let there : AreFull (length codes) (run ∷ rest) = subst (AreFull (length codes)) next full in
+    let begin : length codes < run.end = there.0 in
+    let whole : longer ≡ codes ++ replicate (run.end - length codes) run.code =
+    more
+    ∙ (ap (λ l. l ++ replicate (run.end - many) run.code) (take_all run.end codes (omega arith))
+    ∙ ap (λ n. codes ++ replicate (run.end - n) run.code) size) in
+    let long : length longer ≡ run.end =
+    omega (arith, ap length whole, length-append codes (replicate (run.end - length codes) run.code), length-replicate (run.end - length codes) run.code) in (
+      subst (λ n. AreFull n rest) (sym long) there.1,
+      ap (λ l. l ++ codes_from (length longer) rest) whole
+          ∙ (append_assoc codes (replicate (run.end - length codes) run.code) (codes_from (length longer) rest)
+          ∙ (ap (λ n. codes ++ (replicate (run.end - length codes) run.code ++ codes_from n rest)) long
+          ∙ (ap (λ rs. codes ++ codes_from (length codes) rs) (sym next) ∙ so_far))),
+    )
+
+-- all are
+pub laid-all : (codes : List ℕ) (runs : List Run) (i : ℕ) → length runs ≤ i → codes ++ codes_from (length codes) (drop i runs) ≡ codes_of runs →
+    codes ≡ codes_of runs
+laid-all codes runs i past so_far =
+    sym (append-nil codes) ∙ (ap (λ rs. codes ++ codes_from (length codes) rs) (sym (drop_all i runs past)) ∙ so_far)

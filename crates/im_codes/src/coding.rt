@@ -70,7 +70,7 @@ fn codes_of(alloc: Global, dict: &Dict, seen: &[&Value]) -> Result<Vec<u32>, NoM
 }
 
 /// For each number the code that stands at its place.
-fn through(alloc: Global, numbers: &[u32], codes: &[u32]) -> Result<Vec<u32>, NoMemory>
+pub(crate) fn through(alloc: Global, numbers: &[u32], codes: &[u32]) -> Result<Vec<u32>, NoMemory>
     requires { All (λ n. n < length codes.now) numbers.now }
     ensures { IfOk result (λ through. through.items ≡ map (λ n. slice_index codes.now n) numbers.now) }
 {

@@ -11,6 +11,7 @@
 mod coding;
 mod dict;
 mod numbering;
+mod picking;
 mod range;
 mod run;
 mod runs;

@@ -50,6 +50,14 @@ impl Runs {
         self.runs[run_at(self.runs.as_slice(), i)].code
     }
 
+    /// The codes, one beside another.
+    pub fn codes(&self, alloc: Global) -> Result<Vec<u32>, NoMemory>
+        ensures { IfOk result (λ codes. codes.items ≡ self.now) }
+    {
+        let codes = laid_out(alloc, self.runs.as_slice())?;
+        Ok(codes)
+    }
+
     /// How many codes there are.
     pub fn len(&self) -> u64
         ensures len { result ≡ length self.now }
@@ -73,6 +81,18 @@ impl Runs {
     {
         self.runs.as_slice()
     }
+}
+
+/// The codes of runs, one beside another.
+fn laid_out(alloc: Global, runs: &[Run]) -> Result<Vec<u32>, NoMemory>
+    requires { AreRuns runs.now }
+    ensures { IfOk result (λ codes. codes.items ≡ codes_of runs.now) }
+{
+    let mut codes = Vec::new(alloc);
+    for i in 0..runs.len() {
+        codes.resize(runs[i].end as usize, runs[i].code)?;
+    }
+    Ok(codes)
 }
 
 /// Which run a place of the list lies in.

@@ -2,3 +2,4 @@ mod SizeLemmas
 mod SummaryLemmas
 mod ColumnLemmas
 mod LendLemmas
+mod PickLemmas

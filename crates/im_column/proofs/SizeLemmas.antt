@@ -18,7 +18,7 @@ use Rattle.im_codes.specs.Dictionary.{AreCodesOf, IsDictionary, IsDictionaryOf}
 use Rattle.im_codes.specs.Runs as codes
 use Rattle.im_codes.proofs.ForCallers.{dictionary-held, dictionary-is, is-dictionary, dictionary-rising, run_count-codes, length-codes}
 use Rattle.im_column.specs.Forms.{IsShort}
-use Rattle.im_column.specs.inner.Sized.{AreRising, Follows}
+use Rattle.im_column.specs.inner.Sized.{AreRising, AreSizes, Follows}
 
 -- the first width whose codes reach the greatest
 pub width_from-is : (more k d m : ℕ) → k ≤ m → m ≤ k + more → d < 2 ^ m → ((j : ℕ) → j < m → 2 ^ j ≤ d) → width_from more k d ≡ m
@@ -107,12 +107,6 @@ unfolding runs_bytes
 runs-sized values dict list size is own stand e =
     e ∙ (ap (λ n. sum_by value_bytes dict + 8 * n) (run_count-codes values dict list own stand)
     ∙ ap (λ l. sum_by value_bytes l + 8 * run_count values) is)
-
--- sizes of the three forms of values
-pub record AreSizes (values : List Value) (p c r : ℕ) : Type 0 where
-  pub plain : p ≡ plain_bytes values
-  pub coded : c ≡ coded_bytes values
-  pub runs : r ≡ runs_bytes values
 
 pub are-sizes : (values dict : List Value) (list : List ℕ) (p c r : ℕ) → p ≡ plain_bytes values → IsDictionaryOf values dict → AreCodesOf values dict list →
     c ≡ sum_by value_bytes dict + 8 * words_for (length list) (width_for (length dict)) → r ≡ sum_by value_bytes dict + 8 * codes.run_count list →

@@ -1,3 +1,4 @@
 pub mod Summaries
 pub mod Forms
+pub mod Picks
 pub mod inner

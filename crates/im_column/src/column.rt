@@ -1,13 +1,13 @@
-ghost use Rattle.std.specs.Prelude.{◌≡◌, ◌==◌, ◌+◌, ◌^◌, ◌<◌, ◌≤◌, ℕ, Some, All, IfOk, length, slice_get, slice_index, get_or};
+ghost use Rattle.std.specs.Prelude.{◌≡◌, ◌==◌, ◌+◌, ◌^◌, ◌<◌, ◌≤◌, ℕ, Some, All, IfOk, length, min, slice_get, slice_index, get_or};
 ghost use Rattle.im_values.specs.declared.value.Value.TheVariants.{Null};
 ghost use Rattle.im_values.specs.Sizes.{column_bytes, plain_bytes, shape_of};
 ghost use Rattle.im_values.specs.Sizes as spec;
-ghost use Rattle.im_codes.specs.Dictionary.{AreCodesOf, IsDictionaryOf, coded, lent};
+ghost use Rattle.im_codes.specs.Dictionary.{AreCodesOf, IsDictionaryOf, coded, lent, values_at};
 ghost use Rattle.im_column.specs.Forms.{AreKeptFor, AreLent, IsFormOf, IsShort};
 ghost use Rattle.im_bits.specs.Packed.{HasCodesFrom};
 ghost use Rattle.im_column.specs.Summaries.{sum_of};
 ghost use Rattle.im_index.specs.Bounds.{bounds_of, bounds_with};
-ghost use Rattle.im_column.specs.inner.Sized.{IsCountedFor, IsSummary};
+ghost use Rattle.im_column.specs.inner.Sized.{AreSizes, IsCountedFor, IsSummary, values_of};
 
 use crate::form::{Form, Kept};
 use crate::sizes::{coded_bytes, rise, runs_bytes, width_for};
@@ -24,7 +24,7 @@ use std::marker::Model;
 /// There are fewer than 2^31 values.
 #[derive(Drop)]
 pub struct Column {
-    kept: Kept,
+    pub(crate) kept: Kept,
     bytes: u64,
     bounds: Bounds,
     sum: i128,
@@ -49,7 +49,7 @@ impl Model for Column {
 
 /// A form, and the bytes that it takes.
 #[derive(Drop)]
-struct Counted {
+pub struct Counted {
     kept: Kept,
     bytes: u64,
 }
@@ -67,7 +67,7 @@ impl Column {
         if rise(values) {
             let bounds = bounds_from(alloc, values, summary.nulls)?;
             let counted = as_plain(alloc, values, summary.bytes)?;
-            return Ok(assembled(values, counted, bounds, summary.sum));
+            return Ok(assembled(counted, bounds, summary.sum));
         }
         let coding = Coding::of(alloc, values)?;
         from_coding(alloc, values, summary, coding)
@@ -157,7 +157,7 @@ impl Column {
 }
 
 /// The value of a code.
-fn value_of<'a>(dict: &'a [Value], null: &'a Value, code: u32) -> &'a Value
+pub fn value_of<'a>(dict: &'a [Value], null: &'a Value, code: u32) -> &'a Value
     requires code { code < length (coded dict.now) }
     requires null { null.now ≡ Null }
     ensures { slice_get (coded dict.now) code ≡ Some result.now }
@@ -268,7 +268,7 @@ fn copy_at(alloc: Global, values: &[Value], i: usize) -> Result<Option<Value>, N
 }
 
 /// The bounds of values that rise.
-fn bounds_from(alloc: Global, rising: &[Value], nulls: u64) -> Result<Bounds, NoMemory>
+pub fn bounds_from(alloc: Global, rising: &[Value], nulls: u64) -> Result<Bounds, NoMemory>
     ensures { IfOk result (λ bounds. bounds ≡ bounds_with rising.now nulls) }
 {
     Ok(Bounds {
@@ -290,19 +290,13 @@ fn as_plain(alloc: Global, values: &[Value], plain: u64) -> Result<Counted, NoMe
     })
 }
 
-/// The values as codes of a dictionary, where that takes the least bytes.
-fn as_coded(
-    alloc: Global,
-    values: &[Value],
-    dict: Dict,
-    codes: &[u32],
-    bytes: u64,
-) -> Result<Counted, NoMemory>
-    requires few { length values.now < 2 ^ 31 }
-    requires shape { shape_of values.now ≡ spec.Coded }
-    requires bytes { bytes ≡ column_bytes values.now }
-    requires kept { AreKeptFor values.now dict codes.now }
-    ensures { IfOk result (λ counted. IsCountedFor values.now counted.kept counted.bytes) }
+/// Codes of a dictionary, where that form takes the least bytes for their values.
+fn as_coded(alloc: Global, dict: Dict, codes: &[u32], bytes: u64) -> Result<Counted, NoMemory>
+    requires few { length codes.now < 2 ^ 31 }
+    requires shape { shape_of (values_at (coded dict) codes.now) ≡ spec.Coded }
+    requires bytes { bytes ≡ column_bytes (values_at (coded dict) codes.now) }
+    requires kept { AreKeptFor (values_at (coded dict) codes.now) dict codes.now }
+    ensures { IfOk result (λ counted. IsCountedFor (values_at (coded dict) codes.now) counted.kept counted.bytes) }
 {
     let bits = Bits::pack(alloc, codes, width_for(dict.len()))?;
     Ok(Counted {
@@ -311,19 +305,13 @@ fn as_coded(
     })
 }
 
-/// The values as runs of codes, where that takes the least bytes.
-fn as_runs(
-    alloc: Global,
-    values: &[Value],
-    dict: Dict,
-    codes: &[u32],
-    bytes: u64,
-) -> Result<Counted, NoMemory>
-    requires few { length values.now < 2 ^ 31 }
-    requires shape { shape_of values.now ≡ spec.Runs }
-    requires bytes { bytes ≡ column_bytes values.now }
-    requires kept { AreKeptFor values.now dict codes.now }
-    ensures { IfOk result (λ counted. IsCountedFor values.now counted.kept counted.bytes) }
+/// Runs of codes of a dictionary, where that form takes the least bytes for their values.
+fn as_runs(alloc: Global, dict: Dict, codes: &[u32], bytes: u64) -> Result<Counted, NoMemory>
+    requires few { length codes.now < 2 ^ 31 }
+    requires shape { shape_of (values_at (coded dict) codes.now) ≡ spec.Runs }
+    requires bytes { bytes ≡ column_bytes (values_at (coded dict) codes.now) }
+    requires kept { AreKeptFor (values_at (coded dict) codes.now) dict codes.now }
+    ensures { IfOk result (λ counted. IsCountedFor (values_at (coded dict) codes.now) counted.kept counted.bytes) }
 {
     let runs = Runs::build(alloc, codes)?;
     Ok(Counted {
@@ -352,10 +340,27 @@ fn as_least(
     if plain <= coded.min(runs) {
         return as_plain(alloc, values, plain);
     }
-    if coded <= runs {
-        return as_coded(alloc, values, dict, codes, coded);
+    as_codes(alloc, dict, codes, coded, runs)
+}
+
+/// Codes of a dictionary in the form of the least bytes, where their values one beside another take more.
+pub fn as_codes(
+    alloc: Global,
+    dict: Dict,
+    codes: &[u32],
+    by_code: u64,
+    by_run: u64,
+) -> Result<Counted, NoMemory>
+    requires few { length codes.now < 2 ^ 31 }
+    requires kept { AreKeptFor (values_at (coded dict) codes.now) dict codes.now }
+    requires sizes { AreSizes (values_at (coded dict) codes.now) (plain_bytes (values_at (coded dict) codes.now)) by_code by_run }
+    requires less { min by_code by_run < plain_bytes (values_at (coded dict) codes.now) }
+    ensures { IfOk result (λ counted. IsCountedFor (values_at (coded dict) codes.now) counted.kept counted.bytes) }
+{
+    if by_code <= by_run {
+        return as_coded(alloc, dict, codes, by_code);
     }
-    as_runs(alloc, values, dict, codes, runs)
+    as_runs(alloc, dict, codes, by_run)
 }
 
 /// A column of values, by their dictionary and codes.
@@ -375,16 +380,16 @@ fn from_coding(
     let bounds = bounds_from(alloc, coding.dict.values(), summary.nulls)?;
     let Coding { dict, codes } = coding;
     let counted = as_least(alloc, values, summary.bytes, dict, codes.as_slice())?;
-    Ok(assembled(values, counted, bounds, summary.sum))
+    Ok(assembled(counted, bounds, summary.sum))
 }
 
-/// A column of these values, in a form that stands for them.
-fn assembled(values: &[Value], counted: Counted, bounds: Bounds, sum: i128) -> Column
-    requires few { length values.now < 2 ^ 31 }
-    requires counted { IsCountedFor values.now counted.kept counted.bytes }
-    requires bounds { bounds ≡ bounds_of values.now }
-    requires sum { sum ≡ sum_of values.now }
-    ensures { result ≡ values.now }
+/// A column of the values that a form stands for.
+pub fn assembled(counted: Counted, bounds: Bounds, sum: i128) -> Column
+    requires few { length (values_of counted.kept) < 2 ^ 31 }
+    requires counted { IsCountedFor (values_of counted.kept) counted.kept counted.bytes }
+    requires bounds { bounds ≡ bounds_of (values_of counted.kept) }
+    requires sum { sum ≡ sum_of (values_of counted.kept) }
+    ensures { result ≡ values_of counted.kept }
 {
     let Counted { kept, bytes } = counted;
     Column {

@@ -4,6 +4,8 @@
 //! one beside another, codes of a dictionary, or runs of codes. Which one that is follows from the values alone, by the
 //! sizes of `im_values/specs/Sizes.antt`, and so do [`Column::bytes`], the sum and the [`Bounds`], which are those of `im_index`.
 //!
+//! [`Column::picked`] makes a column of values of an old one and fresh ones, and keeps the dictionary where it can.
+//!
 //! A column never changes, and costs nothing to share behind an `Arc` of its user's.
 //!
 //! Start with `specs/Forms.antt` and `column.rt`, then `specs/Summaries.antt` and `summary.rt`.
@@ -11,6 +13,7 @@
 
 mod column;
 mod form;
+mod picking;
 mod sizes;
 mod summary;
 

@@ -70,7 +70,7 @@ pub fn summarize(values: &[Value]) -> Summary
 }
 
 /// A summary with one value more.
-fn with_value(summary: Summary, value: &Value, count: u64) -> Summary
+pub fn with_value(summary: Summary, value: &Value, count: u64) -> Summary
     requires few { count < 2 ^ 31 }
     requires nulls { summary.nulls ≤ count }
     requires sum { IsWithin count summary.sum }

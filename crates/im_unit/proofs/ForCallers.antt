@@ -1,5 +1,5 @@
 -- What callers know of a unit: where its rows stand in its columns.
-use Rattle.std.proofs.Common.{◌≡◌, ℕ, zero, suc, ◌-◌, ◌<◌, Bool, true, false, if◌then◌else◌, List, [], ◌∷◌, length, take, get_or, Option, Some, None, refl, sym, ap, ◌∙◌, arith}
+use Rattle.std.proofs.Common.{◌≡◌, ℕ, zero, suc, ◌+◌, ◌-◌, ◌<◌, Bool, true, false, if◌then◌else◌, List, [], ◌∷◌, length, take, get_or, Option, Some, None, refl, sym, ap, ◌∙◌, arith}
 use Rattle.std.specs.Prelude.{is_some, nat_lt}
 use Rattle.std.specs.List.{All}
 use Rattle.std.specs.Option.{option_map}
@@ -7,7 +7,9 @@ use Rattle.std.proofs.lemmas.List.Elements.{All-from_recursion}
 use Rattle.im_history.specs.Rows.{Row}
 use Rattle.im_history.specs.Units.{Content}
 use Rattle.im_unit.specs.Holding.{HaveWidth, columns_of, count_present, present_rows, row_across, row_of, spot_of}
+use Rattle.im_unit.specs.Rebuilt.{rebuilt, row_or_fetched}
 use Rattle.im_unit.proofs.KeptLemmas.{across-back, at-across, columns-long, present-each}
+use Rattle.im_unit.proofs.RebuiltLemmas.{at-with, length-with}
 
 -- as many rows are present as there are rows that are
 pub count-present : (rows : List (Option Row)) → count_present rows ≡ length (present_rows rows)
@@ -59,3 +61,12 @@ spot-row content rid wide = by (row_of content rid) refl
     by (Some row) e =
         let at = present-at content.rows (rid - content.first) row (there row (nat_lt rid content.first) e) in
         ap Some (sym (across-columns content before wide at.0 ∙ at.1))
+
+-- a unit that is built anew has as many rows as the old one
+pub length-rebuilt : (old : Content) (scn : ℕ) (fetched : List (ℕ × Option Row)) → length (rebuilt old scn fetched).rows ≡ length old.rows
+length-rebuilt old scn fetched = length-with fetched old.first old.rows
+
+-- and at each row number the one that was fetched there, where one was, else the old one
+pub row-rebuilt : (old : Content) (scn : ℕ) (fetched : List (ℕ × Option Row)) (place : ℕ) (d : Option Row) → place < length old.rows →
+    get_or (rebuilt old scn fetched).rows place d ≡ row_or_fetched fetched (old.first + place) (get_or old.rows place None)
+row-rebuilt old scn fetched place d inside = at-with fetched old.first old.rows place d inside

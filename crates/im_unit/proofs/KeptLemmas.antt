@@ -199,7 +199,7 @@ present-each P [] all = all
 present-each P (None ∷ rows) all = present-each P rows all.1
 present-each P (Some row ∷ rows) all = (all.0 row refl, present-each P rows all.1)
 
-few-present : (rows : List (Option Row)) → length (present_rows rows) ≤ length rows
+pub few-present : (rows : List (Option Row)) → length (present_rows rows) ≤ length rows
 few-present [] = omega arith
 few-present (None ∷ rows) = let more = few-present rows in omega (arith, more)
 few-present (Some row ∷ rows) = let more = few-present rows in omega (arith, more)

@@ -4,4 +4,6 @@ mod ReadLemmas
 mod UnitLemmas
 mod PieceLemmas
 mod RankLemmas
+mod RebuiltLemmas
+mod PlanLemmas
 pub mod ForCallers

@@ -1,2 +1,3 @@
 pub mod Holding
+pub mod Rebuilt
 pub mod inner

@@ -8,12 +8,18 @@
 //! of the table, in the form of the least bytes. The main promise is that [`ColumnUnit::build`] keeps exactly the rows that it
 //! was given, so that a unit of the rows committed at its SCN answers each scan at that SCN as the versions would.
 //!
-//! Start with `unit.rt`, then `specs/Holding.antt` and `specs/inner/Kept.antt`.
+//! [`ColumnUnit::rebuild`] makes a unit of an old one and the rows that were fetched since (`specs/Rebuilt.antt`). Columns that did
+//! not change are shared, and dictionaries that still fit are kept.
+//!
+//! Start with `unit.rt`, then `specs/Holding.antt` and `specs/inner/Kept.antt`; for `rebuild` go on with `specs/Rebuilt.antt`,
+//! `planning.rt` and `rebuilding.rt`.
 #![tactic(auto)]
 
 mod building;
+mod planning;
 mod presence;
 mod reading;
+mod rebuilding;
 mod size;
 mod unit;
 

@@ -4,7 +4,7 @@ ghost use Rattle.std.specs.Int.{div_ceil};
 ghost use Rattle.im_unit.specs.inner.Kept.{count_set, ranks_of};
 
 use im_bits::{Bits, words_for};
-use im_values::{NoMemory, Row};
+use im_values::NoMemory;
 use std::alloc::Global;
 use std::marker::Model;
 
@@ -28,7 +28,7 @@ impl Model for Presence {
 }
 
 /// 1 for a row, and 0 for none.
-fn bit_of(row: &Option<Row>) -> u32
+fn bit_of<T>(row: &Option<T>) -> u32
     ensures flag { nat_lt 0 result ≡ is_some row.now }
     ensures fits { result < 2 }
 {
@@ -36,7 +36,7 @@ fn bit_of(row: &Option<Row>) -> u32
 }
 
 /// The bit of each row.
-fn bits_of(alloc: Global, rows: &[Option<Row>]) -> Result<Vec<u32>, NoMemory>
+fn bits_of<T>(alloc: Global, rows: &[Option<T>]) -> Result<Vec<u32>, NoMemory>
     ensures flags { IfOk result (λ bits. map (nat_lt 0) bits.items ≡ map is_some rows.now) }
     ensures fit { IfOk result (λ bits. All (λ bit. bit < 2) bits.items) }
 {
@@ -95,8 +95,8 @@ fn count_at(bits: &Bits, ranks: &[u64], place: u64) -> u64
 }
 
 impl Presence {
-    /// Which of these rows are there.
-    pub fn of(alloc: Global, rows: &[Option<Row>]) -> Result<Presence, NoMemory>
+    /// Which of these rows are there, or of whatever stands for them.
+    pub fn of<T>(alloc: Global, rows: &[Option<T>]) -> Result<Presence, NoMemory>
         requires { length rows.now < 2 ^ 31 }
         ensures { IfOk result (λ presence. presence ≡ map is_some rows.now) }
     {

@@ -4,13 +4,17 @@ ghost use Rattle.std.specs.Arc.{arc_value};
 ghost use Rattle.im_values.specs.Sizes.{column_bytes};
 ghost use Rattle.im_index.specs.Bounds.{bounds_of};
 ghost use Rattle.im_unit.specs.Holding.{AreShort, HaveWidth, columns_of, count_present, edges_of, present_rows, row_of, spot_of, values_in};
-ghost use Rattle.im_unit.specs.inner.Kept.{AreBounded};
+ghost use Rattle.im_history.specs.Fetched.{lent_rows};
+ghost use Rattle.im_unit.specs.Rebuilt.{RiseWithin, fetched_rows, rebuilt};
+ghost use Rattle.im_unit.specs.inner.Kept.{AreBounded, HaveLength, content_kept, count_set, rows_kept};
 
 use crate::building::{columns_of, rows_present};
+use crate::planning::{places_of, planned};
 use crate::presence::Presence;
 use crate::reading::{push_row, row_at, rows_of, slots_of, spread_rows};
+use crate::rebuilding::{columns_again, fresh_rows};
 use im_column::Column;
-use im_history::UnitLike;
+use im_history::{LentRow, UnitLike};
 use im_index::Bounds;
 use im_values::limits::MOST_COLUMNS;
 use im_values::{NoMemory, Row, Value};
@@ -36,13 +40,14 @@ impl Model for ColumnUnit {
     ghost use Rattle.im_values.specs.Sizes.{column_bytes};
     ghost use Rattle.im_index.specs.Bounds.{bounds_of};
     ghost use Rattle.im_history.specs.Units.{Content};
-    ghost use Rattle.im_unit.specs.inner.Kept.{HaveLength, content_kept, count_set};
+    ghost use Rattle.im_unit.specs.Holding.{AreShort};
+    ghost use Rattle.im_unit.specs.inner.Kept.{HaveLength, content_kept, count_set, rows_kept};
 
     ghost Value = { Content };
 
     ghost view = { λ u. content_kept u.scn u.first (length u.columns.items) u.presence (map arc_value u.columns.items) };
 
-    ghost invariant = { λ u. HaveLength (count_set u.presence) (map arc_value u.columns.items) × (length u.columns.items ≤ 16) × (u.bytes ≡ 8 * div_ceil (length u.presence) 64 + sum_by column_bytes (map arc_value u.columns.items)) × (u.edges.items ≡ map bounds_of (map arc_value u.columns.items)) };
+    ghost invariant = { λ u. HaveLength (count_set u.presence) (map arc_value u.columns.items) × (length u.columns.items ≤ 16) × (u.bytes ≡ 8 * div_ceil (length u.presence) 64 + sum_by column_bytes (map arc_value u.columns.items)) × (u.edges.items ≡ map bounds_of (map arc_value u.columns.items)) × AreShort (rows_kept u.presence (map arc_value u.columns.items)) };
 }
 
 /// The bytes of columns.
@@ -70,6 +75,32 @@ fn edges_of(alloc: Global, columns: &[Arc<Column>]) -> Result<Vec<Bounds>, NoMem
     Ok(edges)
 }
 
+/// A unit of columns and of which rows are present, with the bounds and the bytes of the columns.
+fn of_parts(
+    alloc: Global,
+    scn: u64,
+    first: u64,
+    presence: Presence,
+    columns: Vec<Arc<Column>>,
+) -> Result<ColumnUnit, NoMemory>
+    requires long { HaveLength (count_set presence) (map arc_value columns.items) }
+    requires few { length columns.items ≤ 16 }
+    requires bounded { AreBounded (map arc_value columns.items) }
+    requires short { AreShort (rows_kept presence (map arc_value columns.items)) }
+    ensures { IfOk result (λ unit. unit ≡ content_kept scn first (length columns.items) presence (map arc_value columns.items)) }
+{
+    let edges = edges_of(alloc, columns.as_slice())?;
+    let bytes = presence.bytes() + bytes_of(columns.as_slice());
+    Ok(ColumnUnit {
+        scn,
+        first,
+        presence,
+        columns,
+        edges,
+        bytes,
+    })
+}
+
 impl ColumnUnit {
     /// A unit of these rows, the first of which has the row number `first`.
     ///
@@ -92,16 +123,40 @@ impl ColumnUnit {
         let presence = Presence::of(alloc, rows)?;
         let present = rows_present(alloc, rows)?;
         let columns = columns_of(alloc, present.as_slice(), columns as usize)?;
-        let edges = edges_of(alloc, columns.as_slice())?;
-        let bytes = presence.bytes() + bytes_of(columns.as_slice());
-        Ok(ColumnUnit {
-            scn,
-            first,
-            presence,
-            columns,
-            edges,
-            bytes,
-        })
+        let unit = of_parts(alloc, scn, first, presence, columns)?;
+        Ok(unit)
+    }
+
+    /// A unit built anew at an SCN: the rows of an old one, with those that were fetched since in their places. A row number that
+    /// was fetched without a row has none then.
+    ///
+    /// A column of which no value changed is shared with the old unit, where the same rows are present. Of another the dictionary is
+    /// kept where it is still exactly that of the values, and only codes are made; else the column is built of all its values. Beside
+    /// that it costs a step for each row number, and the fetched values.
+    pub fn rebuild(
+        alloc: Global,
+        old: &ColumnUnit,
+        scn: u64,
+        fetched: &[LentRow<'_>],
+    ) -> Result<ColumnUnit, NoMemory>
+        requires within { RiseWithin old.now.first (old.now.first + length old.now.rows) (lent_rows fetched.now) }
+        requires width { HaveWidth old.now.columns (fetched_rows (lent_rows fetched.now)) }
+        requires short { AreShort (fetched_rows (lent_rows fetched.now)) }
+        ensures { IfOk result (λ unit. unit ≡ rebuilt old.now scn (lent_rows fetched.now)) }
+    {
+        let slots = planned(alloc, old, fetched)?;
+        let presence = Presence::of(alloc, slots.as_slice())?;
+        let places = places_of(alloc, slots.as_slice())?;
+        let fresh = fresh_rows(alloc, fetched)?;
+        let columns = columns_again(
+            alloc,
+            old.columns.as_slice(),
+            fresh.as_slice(),
+            places.as_slice(),
+            old.presence.count(),
+        )?;
+        let unit = of_parts(alloc, scn, old.first, presence, columns)?;
+        Ok(unit)
     }
 
     /// A copy of the row at a row number: None where there is none, and where the row number is not the unit's.

@@ -4,7 +4,7 @@ use Rattle.std.specs.List.Sorted.{IsStrictlySortedBy}
 use Rattle.std.specs.declared.cmp.Ordering.TheVariants.{Less}
 use Rattle.im_values.specs.declared.value.Value.{Value}
 use Rattle.im_values.specs.Order.{order, is_null}
-use Rattle.im_values.specs.Sizes.{Plain, Coded, Runs, shape_of, width_for, column_bytes, plain_bytes}
+use Rattle.im_values.specs.Sizes.{Plain, Coded, Runs, shape_of, width_for, column_bytes, plain_bytes, coded_bytes, runs_bytes}
 use Rattle.im_codes.specs.Dictionary.{coded, values_at}
 use Rattle.im_column.specs.Forms.{AreKeptFor}
 use Rattle.im_column.specs.Summaries.{sum_of}
@@ -30,6 +30,12 @@ pub record IsCountedFor (values : List Value) (form : Kept) (bytes : ℕ) : Type
   pub stands : values_of form ≡ values
   pub kept : IsKeptFor values form
   pub least : bytes ≡ column_bytes values
+
+-- the sizes of the three forms of values
+pub record AreSizes (values : List Value) (p c r : ℕ) : Type 0 where
+  pub plain : p ≡ plain_bytes values
+  pub coded : c ≡ coded_bytes values
+  pub runs : r ≡ runs_bytes values
 
 -- what is kept beside it
 pub record IsSummedFor (values : List Value) (bytes : ℕ) (bounds : Bounds) (sum : ℤ) : Type 0 where

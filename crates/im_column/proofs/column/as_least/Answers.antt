@@ -1,7 +1,13 @@
-use Rattle.std.proofs.Common.{◌≤◌, ◌<◌, min, arith}
+use Rattle.std.proofs.Common.{◌≤◌, ◌<◌, List, min, ap, subst, arith}
+use Rattle.std.specs.Prelude.{IfOk}
+use Rattle.im_values.specs.declared.value.Value.{Value}
+use Rattle.im_values.specs.Sizes.{plain_bytes}
+use Rattle.im_codes.specs.Dictionary.{coded, values_at}
 use Rattle.im_codes.proofs.ForCallers.{dictionary-is, length-codes}
 use Rattle.im_column.specs.Forms.{AreKeptFor}
-use Rattle.im_column.proofs.SizeLemmas.{AreSizes, are-sizes, short-dictionary, least-plain, least-coded, least-runs}
+use Rattle.im_column.specs.inner.Sized.{AreSizes, IsCountedFor}
+use Rattle.im_column.proofs.ColumnLemmas.{own-kept, own-sizes}
+use Rattle.im_column.proofs.SizeLemmas.{are-sizes, short-dictionary, least-plain}
 use Rattle.im_column.proofs.column.as_least.Goals as goal
 use Rattle.im_column.proofs.column.as_least.Goals.{After-runs_bytes-runs}
 
@@ -36,16 +42,20 @@ as_plain-requires c =
     (are_sizes (goal.at.as_plain-requires c).After-runs_bytes-runs) most in
     record { shape = is.0; plain = is.1 }
 
-pub as_coded-requires : goal.as_coded-requires
-as_coded-requires c =
+pub as_codes-requires : goal.as_codes-requires
+as_codes-requires c =
     let less : min c.coded_bytes-coded.result c.runs_bytes-runs.result < c.args.plain = omega (arith, c.min.ensures, c.if-plain-min.false) in
-    let counted = (goal.at.as_coded-requires c).After-runs_bytes-runs in
-    let is = least-coded c.args.values.now c.args.plain c.coded_bytes-coded.result c.runs_bytes-runs.result (are_sizes counted) less c.if-coded-runs.true in
-    record { few = c.requires.few; shape = is.0; bytes = is.1; kept = are_kept counted }
+    let counted = (goal.at.as_codes-requires c).After-runs_bytes-runs in
+    let values = c.args.values.now in
+    let same = c.requires.codes.same in
+    record {
+      few = omega (arith, length-codes values c.args.dict c.args.codes.now c.requires.codes, c.requires.few);
+      kept = own-kept values c.args.dict c.args.codes.now (are_kept counted);
+      sizes = own-sizes values (values_at (coded c.args.dict) c.args.codes.now) c.args.plain c.coded_bytes-coded.result c.runs_bytes-runs.result same
+          (are_sizes counted);
+      less = omega (arith, less, c.requires.plain, ap plain_bytes same);
+    }
 
-pub as_runs-requires : goal.as_runs-requires
-as_runs-requires c =
-    let less : min c.coded_bytes-coded.result c.runs_bytes-runs.result < c.args.plain = omega (arith, c.min.ensures, c.if-plain-min.false) in
-    let counted = (goal.at.as_runs-requires c).After-runs_bytes-runs in
-    let is = least-runs c.args.values.now c.args.plain c.coded_bytes-coded.result c.runs_bytes-runs.result (are_sizes counted) less c.if-coded-runs.false in
-    record { few = c.requires.few; shape = is.0; bytes = is.1; kept = are_kept counted }
+pub returns : goal.returns
+returns c =
+    subst (λ (v : List Value). IfOk c.as_codes.result (λ counted. IsCountedFor v counted.kept counted.bytes)) c.requires.codes.same c.as_codes.ensures

@@ -4,7 +4,7 @@ use Rattle.im_unit.proofs.presence.bits_of.Given as goal
 
 -- the bits so far are those of the rows so far
 abbrev pub invariant-loop-row : goal.invariant-loop-row
-invariant-loop-row l = record {
+invariant-loop-row g l = record {
   flags : map (nat_lt 0) l.bits.items ≡ map is_some (take l.row-index l.rows);
   fit : All (λ bit. bit < 2) l.bits.items;
 }

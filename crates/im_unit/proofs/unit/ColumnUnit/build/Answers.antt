@@ -1,17 +1,14 @@
-use Rattle.std.proofs.Common.{◌≡◌, ◌∙◌, ℕ, ◌+◌, ◌*◌, List, Option, length, map, sym, ap, subst, arith}
-use Rattle.std.specs.Prelude.{sum_by}
-use Rattle.std.specs.Int.{div_ceil}
+use Rattle.std.proofs.Common.{◌≡◌, ◌∙◌, ℕ, List, Option, length, map, sym, ap, subst, arith}
 use Rattle.std.specs.Arc.{arc_value}
 use Rattle.std.specs.List.{range_with_len}
 use Rattle.std.proofs.lemmas.List.{length-map}
-use Rattle.im_values.specs.Sizes.{column_bytes}
-use Rattle.im_index.specs.Bounds.{bounds_of}
 use Rattle.im_history.specs.Rows.{Row}
-use Rattle.im_unit.specs.Holding.{values_in}
+use Rattle.im_unit.specs.Holding.{AreShort, values_in}
 use Rattle.im_unit.specs.inner.Kept.{AreRows, lent, content_kept}
 use Rattle.im_unit.proofs.KeptLemmas.{are-rows}
-use Rattle.im_unit.proofs.UnitLemmas.{built}
+use Rattle.im_unit.proofs.UnitLemmas.{IsBuilt, built}
 use Rattle.im_unit.proofs.unit.ColumnUnit.build.Goals as goal
+use Rattle.im_unit.proofs.unit.ColumnUnit.build.Goals.{In_ok-columns}
 
 pub columns_of-requires : goal.columns_of-requires
 columns_of-requires c = record {
@@ -21,46 +18,31 @@ columns_of-requires c = record {
       (are-rows c.args.columns rows c.requires.width c.requires.short c.requires.few_rows);
 }
 
-pub bytes_of-requires : goal.bytes_of-requires
-bytes_of-requires c =
+-- what is built stands for the rows
+is_built : (c : In_ok-columns) → IsBuilt c.args.columns c.args.rows.now c.in_ok-presence.presence (map arc_value c.in_ok-columns.columns.items)
+is_built c =
     let rows = c.args.rows.now in
-    let columns = c.in_ok-columns.columns.items in
-    let is = built c.args.columns rows c.in_ok-presence.presence (map arc_value columns)
+    built c.args.columns rows c.in_ok-presence.presence (map arc_value c.in_ok-columns.columns.items)
     (are-rows c.args.columns rows c.requires.width c.requires.short c.requires.few_rows) c.in_ok-presence.ensures
     (c.in_ok-columns.ensures
     ∙ ap (λ (l : List Row). map (λ column. values_in column l) (range_with_len 0 c.args.columns))
-    (ap lent c.as_slice.ensures.value ∙ c.in_ok-present.ensures)) in
-    record {
-      few = omega (arith, ap length c.as_slice-3.ensures.value, length-map columns arc_value, is.wide, c.requires.few_columns);
-      bounded = rw c.as_slice-3.ensures.value is.bounded;
-    }
+    (ap lent c.as_slice.ensures.value ∙ c.in_ok-present.ensures))
 
-pub invariant_of-result : goal.invariant_of-result
-invariant_of-result c =
-    let rows = c.args.rows.now in
-    let columns = c.in_ok-columns.columns.items in
-    let is = built c.args.columns rows c.in_ok-presence.presence (map arc_value columns)
-    (are-rows c.args.columns rows c.requires.width c.requires.short c.requires.few_rows) c.in_ok-presence.ensures
-    (c.in_ok-columns.ensures
-    ∙ ap (λ (l : List Row). map (λ column. values_in column l) (range_with_len 0 c.args.columns))
-    (ap lent c.as_slice.ensures.value ∙ c.in_ok-present.ensures)) in (
-      is.long,
-      omega (arith, length-map columns arc_value, is.wide, c.requires.few_columns),
-      ap (λ (n : ℕ). n + c.bytes_of.result) c.bytes.ensures.bytes
-          ∙ ap (λ (n : ℕ). 8 * div_ceil (length c.in_ok-presence.presence) 64 + n)
-          (c.bytes_of.ensures.bytes ∙ ap (λ slice. sum_by column_bytes (map arc_value slice)) c.as_slice-3.ensures.value),
-      c.in_ok-edges.ensures ∙ ap (λ slice. map bounds_of (map arc_value slice)) c.as_slice-2.ensures.value,
-    )
+pub of_parts-requires : goal.of_parts-requires
+of_parts-requires c =
+    let is = is_built (goal.at.of_parts-requires c).In_ok-columns in
+    record {
+      long = is.long;
+      few = omega (arith, length-map c.in_ok-columns.columns.items arc_value, is.wide, c.requires.few_columns);
+      bounded = is.bounded;
+      short = subst AreShort (sym is.back) c.requires.short;
+    }
 
 pub returns : goal.returns
 returns c =
-    let rows = c.args.rows.now in
     let columns = c.in_ok-columns.columns.items in
-    let is = built c.args.columns rows c.in_ok-presence.presence (map arc_value columns)
-    (are-rows c.args.columns rows c.requires.width c.requires.short c.requires.few_rows) c.in_ok-presence.ensures
-    (c.in_ok-columns.ensures
-    ∙ ap (λ (l : List Row). map (λ column. values_in column l) (range_with_len 0 c.args.columns))
-    (ap lent c.as_slice.ensures.value ∙ c.in_ok-present.ensures)) in
+    let is = is_built (goal.at.returns c).In_ok-columns in
     let wide : length columns ≡ c.args.columns = omega (arith, length-map columns arc_value, is.wide) in
-    ap (λ (n : ℕ). content_kept c.args.scn c.args.first n c.in_ok-presence.presence (map arc_value columns)) wide
-    ∙ ap (λ (l : List (Option Row)). record { scn = c.args.scn; first = c.args.first; columns = c.args.columns; rows = l }) is.back
+    c.in_ok-unit.ensures
+    ∙ (ap (λ (n : ℕ). content_kept c.args.scn c.args.first n c.in_ok-presence.presence (map arc_value columns)) wide
+    ∙ ap (λ (l : List (Option Row)). record { scn = c.args.scn; first = c.args.first; columns = c.args.columns; rows = l }) is.back)

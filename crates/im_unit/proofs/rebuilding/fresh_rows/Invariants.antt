@@ -1,0 +1,10 @@
+use Rattle.std.proofs.Common.{◌≡◌, take}
+use Rattle.im_history.specs.Fetched.{lent_rows}
+use Rattle.im_unit.specs.Holding.{present_rows}
+use Rattle.im_unit.specs.Rebuilt.{fetched_rows}
+use Rattle.im_unit.specs.inner.Kept.{lent}
+use Rattle.im_unit.proofs.rebuilding.fresh_rows.Given as goal
+
+-- the rows that are there so far
+abbrev pub invariant-loop-i : goal.invariant-loop-i
+invariant-loop-i l = lent l.fresh.items ≡ present_rows (take l.i (fetched_rows (lent_rows l.fetched)))
