@@ -16,7 +16,7 @@ use Rattle.im_blocks.specs.declared.run.Run.{Run}
 use Rattle.im_blocks.specs.declared.slot.Slot.TheVariants.{Empty, InRun}
 use Rattle.im_blocks.specs.Chains.{AllVersions, run_at, slot_at, versions_at, rows_at}
 use Rattle.im_blocks.specs.Runs.{holds, rows_in, version_in}
-use Rattle.im_blocks.specs.declared.blocks.extents.Asked.{Asked}
+use Rattle.im_blocks.specs.declared.version_table.extents.Asked.{Asked}
 use Rattle.im_blocks.specs.declared.slot.Slot.{Slot}
 use Rattle.im_blocks.specs.declared.gathered.Gathered.{Gathered}
 use Rattle.im_blocks.specs.inner.Gathering.{Gathers, gathered}
@@ -57,7 +57,7 @@ rows_at-one blocks table rid scn row is =
     let one : 1 ≡ rid + 1 - rid = omega arith in
     ap (λ (r : Option (List Value)). (rid, r) ∷ []) is ∙ ap (λ (n : ℕ). rows_at blocks table rid n scn) one
 
-drop-got : {X : Type 0} (xs : List X) (k : ℕ) (x : X) → slice_get xs k ≡ Some x → drop k xs ≡ x ∷ drop (k + 1) xs
+pub drop-got : {X : Type 0} (xs : List X) (k : ℕ) (x : X) → slice_get xs k ≡ Some x → drop k xs ≡ x ∷ drop (k + 1) xs
 drop-got [] k x is = absurd (cc is)
 drop-got (y ∷ ys) zero x is = first y x ys is
   where
@@ -118,7 +118,7 @@ rows_at-run b table number scn run at table_is upto (suc count) rid from inside 
     (λ r low high. slots r (omega (arith, low)) (omega (arith, high))))
 
 -- the same rows, said in another way
-Gathers-same : (old new : Gathered) (these those : List (ℕ × Option (List Value))) → these ≡ those → Gathers old new these → Gathers old new those
+pub Gathers-same : (old new : Gathered) (these those : List (ℕ × Option (List Value))) → these ≡ those → Gathers old new these → Gathers old new those
 Gathers-same old new these those same gathers = record {
   rows = gathers.rows ∙ ap (λ (l : List (ℕ × Option (List Value))). gathered old ++ l) same;
   whole = gathers.whole;

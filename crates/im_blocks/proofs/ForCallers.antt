@@ -37,7 +37,7 @@ versions_of-push h entry table rid =
     ∙ (versions_from-append 1 (commits h) (committed_by h entry.who entry.what) table rid
     ∙ ap (λ (k : ℕ). versions_from 1 (commits h) table rid ++ versions_from k (committed_by h entry.who entry.what) table rid) next)
 
-versions_at-nil : (table rid : ℕ) → versions_at no_versions table rid ≡ []
+pub versions_at-nil : (table rid : ℕ) → versions_at no_versions table rid ≡ []
 unfolding versions_at
 versions_at-nil table rid = ap (versions_in [] [] table rid) (cell_at-nil Empty table rid)
 

@@ -3,6 +3,8 @@ mod ExtentLemmas
 pub mod ForCallers
 mod GatherLemmas
 mod HandingLemmas
+mod ImageLemmas
+mod PageLemmas
 mod Places
 mod RoomLemmas
 mod RunLemmas

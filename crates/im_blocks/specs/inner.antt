@@ -1,5 +1,7 @@
 pub mod Gathering
 pub mod Handing
+pub mod Images
+pub mod Pages
 pub mod Puts
 pub mod Readying
 pub mod Reading

@@ -1,58 +1,53 @@
-ghost use Rattle.std.specs.Prelude.{◌≡◌, ◌==◌, ◌+◌, ◌^◌, ◌<◌, ◌≤◌, [], ◌∷◌, All, true, length, is_some, option_copied, IfOk, OnOk};
-ghost use Rattle.im_blocks.specs.declared.slot.Slot.TheVariants as slots;
-ghost use Rattle.im_tables.specs.Table.{HasCell};
+ghost use Rattle.std.specs.Prelude.{◌≡◌, ◌+◌, ◌-◌, ◌/◌, ◌%◌, ◌^◌, ◌<◌, ◌≤◌, drop, length, option_copied, take, IfOk, IfSome, OnOk, Some};
 ghost use Rattle.im_versions.specs.Versions.{row_at};
 ghost use Rattle.im_blocks.specs.Chains as seen;
-ghost use Rattle.im_blocks.specs.Chains.{IsReady, newest_scn, versions_at};
-ghost use Rattle.im_blocks.specs.Readied.{HasPlace, HasRoom, IsFree, IsReadyFor, ready_changes};
-ghost use Rattle.im_blocks.specs.Runs.{rows_in};
-ghost use Rattle.im_blocks.specs.Transitions.{SameVersions, IsBefore, Applied};
-ghost use Rattle.im_blocks.specs.inner.Handing.{MayTake, MayTakeRun, HasTaken, HasTakenRun};
-ghost use Rattle.im_blocks.specs.inner.Readying.{AreReady};
-ghost use Rattle.im_history.specs.Puts.{all_changes, put_from};
+ghost use Rattle.im_blocks.specs.Chains.{newest_scn, rows_among, rows_at, versions_at};
+ghost use Rattle.im_blocks.specs.Readied.{HasRoom, IsReadyFor, ready_changes};
+ghost use Rattle.im_blocks.specs.Transitions.{Applied, IsBefore, SameVersions};
+ghost use Rattle.im_blocks.specs.inner.Gathering.{Gathers, IsWhole};
+ghost use Rattle.im_blocks.specs.inner.Reading.{AreRead, IsReadable, IsShownTo};
+ghost use Rattle.im_history.specs.Fetched.{run_from};
+ghost use Rattle.im_history.specs.Puts.{all_changes};
 
-use crate::entering::enter;
+use crate::gathered::Gathered;
+use crate::image::{Image, fresh_end};
+use crate::pages::{PAGE, Page, note_each, renew_each};
 use crate::ready::Ready;
-use crate::run::Run;
-use crate::slot::Slot;
-use crate::touched::Touched;
-use crate::{chains, runs};
-use im_history::{Change, Changes, LentPut};
+use crate::scattered::Scattered;
+use crate::version_table::VersionTable;
+use crate::version_table::extents::{Asked, count};
+use im_history::{Changes, Fetched};
 use im_tables::Cells;
-use im_values::{NoMemory, Row, Rows, Steps, Value};
-use im_versions::Chain;
+use im_values::{NoMemory, Steps, Value};
 use std::alloc::Global;
 use std::marker::Model;
 use std::sync::ledger::Ledger;
 
-mod extents;
-
-/// The most runs: their numbers have 32 bits.
-const MOST_RUNS: usize = 1 << 32;
+/// The first number that no row has.
+const END: u64 = 1 << 63;
 
 /// The versions of every row of every table.
 ///
 /// Contracts see where the versions of each row number are kept, and read them through `versions_at`. A row number takes 8
 /// bytes. Rows that one commit put together at row numbers in a row share a run of 64 bytes; a row that was
-/// touched again, or taken away, has a chain of 80 bytes.
+/// touched again, or taken away, has a chain of 80 bytes. Of 2,048 row numbers in a row that were changed often the newest rows
+/// are kept once more, side by side, so that a scan reads them together.
 #[derive(Drop)]
 pub struct Blocks {
     alloc: Global,
-    slots: Cells<Slot>,
-    runs: Vec<Run>,
-    room: usize,
-    chains: Vec<Touched>,
+    versions: VersionTable,
+    pages: Cells<Page>,
 }
 
 impl Model for Blocks {
-    ghost use Rattle.std.specs.Prelude.{◌+◌, ◌^◌, ◌≤◌, vec_len, vec_capacity};
     ghost use Rattle.im_blocks.specs.Chains.{AllVersions};
+    ghost use Rattle.im_blocks.specs.inner.Pages.{AreShown};
 
     ghost Value = { AllVersions };
 
-    ghost view = { λ b. record { slots = b.slots; runs = b.runs.items; chains = b.chains.items; room = b.room } };
+    ghost view = { λ b. b.versions };
 
-    ghost invariant = { λ b. (vec_len b.runs + b.room ≤ vec_capacity b.runs) × (vec_len b.runs + b.room ≤ 2 ^ 32) };
+    ghost invariant = { λ b. AreShown b.versions b.pages };
 }
 
 impl Blocks {
@@ -62,27 +57,28 @@ impl Blocks {
     {
         Blocks {
             alloc,
-            slots: Cells::new(alloc),
-            runs: Vec::new(alloc),
-            room: 0,
-            chains: Vec::new(alloc),
+            versions: VersionTable::new(alloc),
+            pages: Cells::new(alloc),
         }
     }
 
     /// Makes the changes of these pieces ready to be put in, in order, and makes room for them.
     ///
     /// Rows that are put together at row numbers that have no version stay together, and are shared. It costs one look-up for
-    /// each row number below those that were ever used, and for each other change; and the chains that are new. After an error
+    /// each row number below those that were ever used, and for each other change; and the chains that are new. After 64
+    /// changes of a page of 2,048 row numbers its newest rows are copied, if there is memory. After an error
     /// some room may be there.
     pub fn reserve(&mut self, pieces: &[Changes]) -> Result<Vec<Ready>, NoMemory>
         ensures same { SameVersions self.old self.new }
         ensures ready { IfOk result (λ ready. IsReadyFor self.new ready.items (all_changes pieces.now)) }
     {
-        let mut ready = Vec::with_capacity(self.alloc, pieces.len())?;
-        for piece in pieces {
-            self.reserve_piece(&mut ready, piece)?;
-        }
-        self.reserve_runs(ready.len())?;
+        let ready = self.versions.reserve(pieces)?;
+        renew_each(
+            self.alloc,
+            &self.versions,
+            &mut self.pages,
+            ready.as_slice(),
+        );
         Ok(ready)
     }
 
@@ -93,15 +89,8 @@ impl Blocks {
         requires later { IsBefore self.old scn }
         ensures { Applied self.old self.new scn (ready_changes ready.items) }
     {
-        let mut left = ready;
-        while let Some(last) = left.pop() {
-            match last {
-                Ready::Run { table, first, rows } => {
-                    self.put_run(Run::of_rows(table, first, scn, rows));
-                }
-                Ready::One(change) => self.put(scn, change),
-            }
-        }
+        note_each(&mut self.pages, ready.as_slice());
+        self.versions.apply(scn, ready);
     }
 
     /// The values of the row of a row number at an SCN, or none where there was none. It is at most one step.
@@ -115,17 +104,12 @@ impl Blocks {
         ensures row { option_copied result ≡ row_at (versions_at self.now table rid) scn }
         ensures few { steps.new ≤ steps.old + 1 }
     {
-        match self.slot(table, rid) {
-            Slot::Empty => None,
-            Slot::InRun(number) => {
+        match self.shown_at(table, rid, scn) {
+            Some(values) => {
                 steps.tick();
-                runs::values_at(self.run(number, table, rid), rid, scn)
+                Some(values)
             }
-            Slot::InChain(number) => chains::values_at(
-                self.touched(number, table, rid),
-                scn,
-                steps,
-            ),
+            None => self.versions.at(table, rid, scn, steps),
         }
     }
 
@@ -133,244 +117,143 @@ impl Blocks {
     pub fn latest(&self, table: u32, rid: u64) -> u64
         ensures { result ≡ newest_scn (versions_at self.now table rid) }
     {
-        match self.slot(table, rid) {
-            Slot::Empty => 0,
-            Slot::InRun(number) => runs::newest(self.run(number, table, rid)),
-            Slot::InChain(number) => chains::newest(self.touched(number, table, rid)),
-        }
+        self.versions.latest(table, rid)
     }
 
-    /// Where the versions of a row number are kept.
-    fn slot(&self, table: u32, rid: u64) -> Slot
-        ensures { result ≡ seen.slot_at self.now table rid }
-    {
-        self.slots.get(table, rid).copied().unwrap_or(Slot::Empty)
-    }
-
-    /// The run of a number, if it holds the row number.
-    fn run(&self, number: u32, table: u32, rid: u64) -> Option<&Run>
-        ensures { option_copied result ≡ seen.run_at self.now.runs number table rid }
-    {
-        runs::at(&self.runs, number, table, rid)
-    }
-
-    /// The chain of a number, if it is that of the row number.
-    fn touched(&self, number: u32, table: u32, rid: u64) -> Option<&Touched>
-        ensures { option_copied result ≡ seen.chain_at self.now.chains number table rid }
-    {
-        chains::at(&self.chains, number, table, rid)
-    }
-
-    /// Whether the chain of a number is that of the row number.
-    fn has_chain(&self, number: u32, table: u32, rid: u64) -> bool
-        ensures { result ≡ is_some (seen.chain_at self.now.chains number table rid) }
-    {
-        self.touched(number, table, rid).is_some()
-    }
-
-    /// Makes room for so many runs, unless there is as much.
-    fn reserve_runs(&mut self, count: usize) -> Result<(), NoMemory>
-        ensures same { SameVersions self.old self.new }
-        ensures room { OnOk result (count ≤ self.new.room) }
-    {
-        if count <= self.room {
-            return Ok(());
-        }
-        if count > MOST_RUNS || self.runs.len() > MOST_RUNS - count {
-            return Err(NoMemory);
-        }
-        self.runs.reserve(count)?;
-        self.room = count;
-        Ok(())
-    }
-
-    /// Makes the changes of a piece ready, behind others.
-    fn reserve_piece(&mut self, ready: &mut Vec<Ready>, piece: &Changes) -> Result<(), NoMemory>
-        requires { All (HasPlace self.old) ready.old.items }
-        ensures same { SameVersions self.old self.new }
-        ensures more { OnOk result (AreReady self.new ready.old.items ready.new.items piece.now) }
-    {
-        match piece.as_put() {
-            Some(put) => self.reserve_put(ready, piece, put),
-            None => self.reserve_each(ready, piece),
-        }
-    }
-
-    /// Makes the changes of a piece that puts rows ready.
-    fn reserve_put(
-        &mut self,
-        ready: &mut Vec<Ready>,
-        piece: &Changes,
-        put: LentPut,
-    ) -> Result<(), NoMemory>
-        requires each { All (HasPlace self.old) ready.old.items }
-        requires put { piece.now ≡ put_from put.table put.first put.rows.now }
-        requires numbers { put.first + length put.rows.now ≤ 2 ^ 63 }
-        ensures same { SameVersions self.old self.new }
-        ensures more { OnOk result (AreReady self.new ready.old.items ready.new.items piece.now) }
-    {
-        if put.rows.is_empty() {
-            return Ok(());
-        }
-        if !self.is_free(put.table, put.first, put.rows.len() as u64) {
-            return self.reserve_each(ready, piece);
-        }
-        self.reserve_run(ready, put.table, put.first, put.rows)
-    }
-
-    /// Makes rows at row numbers that have no version ready.
-    fn reserve_run(
-        &mut self,
-        ready: &mut Vec<Ready>,
+    /// So many row numbers from the first on, each with its row at an SCN.
+    ///
+    /// Many rows of one run are shared together, and so are those of an image that were not changed since. Others are copied, and
+    /// those that are copied at row numbers in a row share one block, so no row takes a handle. It costs a look at each slot and
+    /// at most one step for each row number, and the copies.
+    pub fn extent_rows<L: Ledger>(
+        &self,
+        alloc: Global,
         table: u32,
         first: u64,
-        rows: &Rows,
-    ) -> Result<(), NoMemory>
-        requires each { All (HasPlace self.old) ready.old.items }
-        requires some { 0 < length rows.now }
-        requires numbers { first + length rows.now ≤ 2 ^ 63 }
-        requires free { IsFree self.old table first (length rows.now) }
-        ensures same { SameVersions self.old self.new }
-        ensures more { OnOk result (AreReady self.new ready.old.items ready.new.items (put_from table first rows.now)) }
+        count: u64,
+        scn: u64,
+        steps: &mut Steps<L>,
+    ) -> Result<Fetched, NoMemory>
+        requires { first + count < 2 ^ 64 }
+        ensures rows { IfOk result (λ fetched. fetched ≡ rows_at self.now table first count scn) }
+        ensures few { steps.new ≤ steps.old + count }
     {
-        self.slots.reserve(table, first + (rows.len() as u64 - 1))?;
-        let rows = rows.share()?;
-        ready.push(Ready::Run { table, first, rows })?;
-        Ok(())
-    }
-
-    /// Makes the changes of a piece ready one by one.
-    fn reserve_each(&mut self, ready: &mut Vec<Ready>, piece: &Changes) -> Result<(), NoMemory>
-        requires { All (HasPlace self.old) ready.old.items }
-        ensures same { SameVersions self.old self.new }
-        ensures more { OnOk result (AreReady self.new ready.old.items ready.new.items piece.now) }
-    {
-        for place in 0..piece.len() {
-            let change = piece.change(self.alloc, place)?;
-            self.reserve_one(ready, change)?;
+        let asked = Asked {
+            table,
+            end: first + count,
+            scn,
+        };
+        let mut read = Gathered::new(alloc);
+        let mut rid = first;
+        while rid < asked.end {
+            rid = self.read_from(&mut read, asked, rid, steps)?;
         }
-        Ok(())
+        Ok(read.finish()?)
     }
 
-    /// Makes a change ready, behind others.
-    fn reserve_one(&mut self, ready: &mut Vec<Ready>, change: Change) -> Result<(), NoMemory>
-        requires { All (HasPlace self.old) ready.old.items }
-        ensures same { SameVersions self.old self.new }
-        ensures more { OnOk result (AreReady self.new ready.old.items ready.new.items (change ∷ [])) }
+    /// These row numbers, each with a copy of its row at an SCN. The copies share one block, whichever row numbers they are.
+    ///
+    /// It costs one look-up and at most one step for each, and the copies.
+    pub fn rows_of<L: Ledger>(
+        &self,
+        alloc: Global,
+        table: u32,
+        rids: &[u64],
+        scn: u64,
+        steps: &mut Steps<L>,
+    ) -> Result<Fetched, NoMemory>
+        ensures rows { IfOk result (λ fetched. fetched ≡ rows_among self.now table rids.now scn) }
+        ensures few { steps.new ≤ steps.old + length rids.now }
     {
-        self.reserve_row(change.table, change.rid, change.row.is_some())?;
-        ready.push(Ready::One(change))?;
-        Ok(())
-    }
-
-    /// Whether so many row numbers from the first on have no version. It costs a look at each that has a slot.
-    fn is_free(&self, table: u32, first: u64, count: u64) -> bool
-        requires { first + count ≤ 2 ^ 63 }
-        ensures { result ≡ true → IsFree self.now table first count }
-    {
-        if self.slots.count(table) <= first {
-            return true;
+        let mut read = Scattered::new(alloc, rids.len())?;
+        for rid in rids {
+            read.push(*rid, self.at(table, *rid, scn, steps))?;
         }
-        for rid in first..first + count {
-            if !self.has_none(table, rid) {
-                return false;
+        Ok(read.finish()?)
+    }
+
+    /// The image of the page of a row number, where what it shows can be read at an SCN.
+    fn image_at(&self, table: u32, rid: u64, scn: u64) -> Option<&Image>
+        ensures { IfSome result (λ image. IsReadable self.now table (rid / 2048) scn image.now) }
+    {
+        let page = self.pages.get(table, rid / PAGE)?;
+        let image = page.image.as_ref()?;
+        if image.scn > scn {
+            return None;
+        }
+        Some(image)
+    }
+
+    /// The values of the row of a row number at an SCN, where an image shows it.
+    fn shown_at(&self, table: u32, rid: u64, scn: u64) -> Option<&[Value]>
+        ensures { IfSome result (λ row. row_at (versions_at self.now table rid) scn ≡ Some row.now) }
+    {
+        let image = self.image_at(table, rid, scn)?;
+        let values = image.values(rid % PAGE)?;
+        Some(values)
+    }
+
+    /// Reads what is at a row number, and at those behind it that are read together with it. It answers the next row number.
+    fn read_from<L: Ledger>(
+        &self,
+        read: &mut Gathered,
+        asked: Asked,
+        rid: u64,
+        steps: &mut Steps<L>,
+    ) -> Result<u64, NoMemory>
+        requires whole { IsWhole read.old }
+        requires before { rid < asked.end }
+        ensures next { IfOk result (λ next. AreRead self.now asked rid next read.old read.new) }
+        ensures counted { IfOk result (λ next. steps.new + rid ≤ steps.old + next) }
+        ensures few { steps.new + rid ≤ steps.old + asked.end }
+    {
+        if asked.end > END {
+            return self.versions.fetch_from(read, asked, rid, steps);
+        }
+        if let Some(image) = self.image_at(asked.table, rid, asked.scn) {
+            let next = shown_end(image, asked, rid);
+            if next > rid {
+                read_image(image, read, rid, next, steps)?;
+                return Ok(next);
             }
         }
-        true
+        self.versions
+            .fetch_from(read, asked.in_page(rid), rid, steps)
     }
+}
 
-    /// Whether a row number has no version.
-    fn has_none(&self, table: u32, rid: u64) -> bool
-        ensures { result ≡ true → versions_at self.now table rid ≡ [] }
-    {
-        match self.slot(table, rid) {
-            Slot::Empty => true,
-            Slot::InRun(number) => self.run(number, table, rid).is_none(),
-            Slot::InChain(number) => chains::are_empty(self.touched(number, table, rid)),
-        }
+/// The first row number from one on that is not shown by the image of its page, or where the page or what is asked for ends.
+fn shown_end(image: &Image, asked: Asked, rid: u64) -> u64
+    requires { rid < asked.end }
+    ensures { IsShownTo image.now asked rid result }
+{
+    let place = rid % PAGE;
+    let rows = (image.fresh.len().min(image.rows.len()) as u64).min(PAGE);
+    if place >= rows {
+        return rid;
     }
+    let end = rows.min(place + (asked.end - rid));
+    let next = fresh_end(image.fresh.as_slice(), place as usize, end as usize) as u64;
+    rid + (next - place)
+}
 
-    /// Makes a row number ready to take a row, if one is put, or that there is none then.
-    fn reserve_row(&mut self, table: u32, rid: u64, put: bool) -> Result<(), NoMemory>
-        ensures same { SameVersions self.old self.new }
-        ensures room { OnOk result (IsReady self.new table rid put) }
-    {
-        self.slots.reserve(table, rid)?;
-        self.make_ready(table, rid, put)
-    }
-
-    /// Makes a row number that has a slot ready.
-    fn make_ready(&mut self, table: u32, rid: u64, put: bool) -> Result<(), NoMemory>
-        requires { HasCell self.old.slots table rid }
-        ensures same { SameVersions self.old self.new }
-        ensures room { OnOk result (IsReady self.new table rid put) }
-    {
-        match self.slot(table, rid) {
-            Slot::Empty if put => Ok(()),
-            Slot::Empty => self.put_chain(table, rid, Chain::new(self.alloc)),
-            Slot::InRun(number) => {
-                let chain = runs::chain_of(self.alloc, self.run(number, table, rid), rid)?;
-                self.put_chain(table, rid, chain)
-            }
-            Slot::InChain(number) => self.make_room(number, table, rid),
-        }
-    }
-
-    /// Makes room in the chain of a row number.
-    fn make_room(&mut self, number: u32, table: u32, rid: u64) -> Result<(), NoMemory>
-        requires there { HasCell self.old.slots table rid }
-        requires slot { seen.slot_at self.old table rid ≡ slots.InChain number }
-        ensures same { SameVersions self.old self.new }
-        ensures room { OnOk result (0 < seen.spare_in self.new.chains table rid (seen.slot_at self.new table rid)) }
-    {
-        if !self.has_chain(number, table, rid) {
-            return self.put_chain(table, rid, Chain::new(self.alloc));
-        }
-        self.chains[number as usize].reserve()
-    }
-
-    /// Gives a row number a chain of the versions that it has, with room for one more.
-    fn put_chain(&mut self, table: u32, rid: u64, chain: Chain) -> Result<(), NoMemory>
-        requires there { HasCell self.old.slots table rid }
-        requires chain { chain.versions ≡ versions_at self.old table rid }
-        ensures same { SameVersions self.old self.new }
-        ensures room { OnOk result (0 < seen.spare_in self.new.chains table rid (seen.slot_at self.new table rid)) }
-    {
-        let number = chains::push(&mut self.chains, table, rid, chain)?;
-        *self.slots.cell_mut(table, rid) = Slot::InChain(number);
-        Ok(())
-    }
-
-    /// Puts a change in, unless its row has a version of this commit.
-    fn put(&mut self, scn: u64, change: Change)
-        requires { MayTake self.old change.table change.rid (is_some change.row) scn }
-        ensures { HasTaken self.old self.new change.table change.rid scn change.row }
-    {
-        let Change { table, rid, row } = change;
-        if self.has_taken(table, rid, scn) {
-            return;
-        }
-        match self.slot(table, rid) {
-            Slot::InChain(number) => self.chains[number as usize].take(scn, row),
-            _ => self.put_run(Run::of_row(table, rid, scn, row.unwrap())),
-        }
-    }
-
-    /// Whether a row number has a version of the commit with this SCN already.
-    fn has_taken(&self, table: u32, rid: u64, scn: u64) -> bool
-        ensures { result ≡ (newest_scn (versions_at self.now table rid) == scn) }
-    {
-        self.latest(table, rid) == scn
-    }
-
-    /// Puts a run in: its row numbers are read from it, all but those that have a version of its commit.
-    fn put_run(&mut self, run: Run)
-        requires { MayTakeRun self.old run.table run.first (length (rows_in run.rows)) run.scn }
-        ensures { HasTakenRun self.old self.new run.table run.first run.scn (rows_in run.rows) }
-    {
-        let number = self.runs.len() as u32;
-        enter(&mut self.slots, &self.runs, &self.chains, number, &run);
-        self.runs.push_reserved(run);
-        self.room -= 1;
-    }
+/// Reads rows of an image from a row number up to another.
+fn read_image<L: Ledger>(
+    image: &Image,
+    read: &mut Gathered,
+    rid: u64,
+    next: u64,
+    steps: &mut Steps<L>,
+) -> Result<(), NoMemory>
+    requires whole { IsWhole read.old }
+    requires some { rid < next }
+    requires upto { next ≤ 2 ^ 63 }
+    requires within { rid % 2048 + (next - rid) ≤ length image.now.rows }
+    ensures next { OnOk result (Gathers read.old read.new (run_from rid (take (next - rid) (drop (rid % 2048) image.now.rows)))) }
+    ensures counted { steps.new ≡ steps.old + (next - rid) }
+{
+    let many = next - rid;
+    count(steps, many);
+    read.take(rid, &image.rows, (rid % PAGE) as usize, many as usize)?;
+    Ok(())
 }

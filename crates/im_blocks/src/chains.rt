@@ -33,6 +33,13 @@ pub fn values_at<'a, L: Ledger>(
     Some(touched?.chain.at(scn, steps)?.values())
 }
 
+/// The values of the row that the newest version of a row number left, by its chain.
+pub fn newest_values(touched: Option<&Touched>) -> Option<&[Value]>
+    ensures { option_copied result ≡ versions.newest_row (chain_versions (option_copied touched.entry)) }
+{
+    Some(touched?.chain.newest()?.values())
+}
+
 /// The SCN of the newest version of a row number, by its chain.
 pub fn newest(touched: Option<&Touched>) -> u64
     ensures { result ≡ newest_scn (chain_versions (option_copied touched.entry)) }

@@ -14,14 +14,18 @@
 
 mod blocks;
 mod chains;
+mod drawing;
 mod entering;
 mod gathered;
+mod image;
+mod pages;
 mod ready;
 mod run;
 mod runs;
 mod scattered;
 mod slot;
 mod touched;
+mod version_table;
 
 pub use blocks::Blocks;
 pub use ready::Ready;

@@ -54,6 +54,13 @@ pub fn values_at(run: Option<&Run>, rid: u64, scn: u64) -> Option<&[Value]>
     run.values(rid)
 }
 
+/// The values of the row of a row number, by its run.
+pub fn newest_values(run: Option<&Run>, rid: u64) -> Option<&[Value]>
+    ensures { option_copied result ≡ versions.newest_row (run_versions rid (option_copied run.entry)) }
+{
+    run?.values(rid)
+}
+
 /// The SCN of the newest version of each row number that a run holds.
 pub fn newest(run: Option<&Run>) -> u64
     ensures { (rid : ℕ) → result ≡ newest_scn (run_versions rid (option_copied run.entry)) }

@@ -93,6 +93,13 @@ impl Chain {
         newest_row(versions_to(versions_in(&self.form), scn))
     }
 
+    /// The row that the newest version left, or none where there is no version, or it took the row away.
+    pub fn newest(&self) -> Option<&Row>
+        ensures { option_copied result ≡ newest_row self.now.versions }
+    {
+        newest_row(versions_in(&self.form))
+    }
+
     /// The SCN of the newest version, or none where there is no version.
     pub fn latest(&self) -> Option<u64>
         ensures { result ≡ latest self.now.versions }

@@ -14,7 +14,7 @@ loop-rid-preserved g c =
     record {
       from = omega (arith, from, past);
       upto = upto;
-      rows = rows_at-more c.args.self.now c.args.table c.args.first c.loop-rid.rid c.in_ok-rid.rid c.args.scn (gathered c.loop-rid.read) (gathered c.fetch_from.new.read)
+      rows = rows_at-more c.args.self.now c.args.table c.args.first c.loop-rid.rid c.in_ok-rid.rid c.args.scn (gathered c.loop-rid.read) (gathered c.read_from.new.read)
           from (omega (arith, past)) c.loop-rid.invariant.rows next.rows.rows;
       whole = next.rows.whole;
       few = omega (arith, counted, few);

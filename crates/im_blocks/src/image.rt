@@ -1,0 +1,58 @@
+ghost use Rattle.std.specs.Prelude.{◌≡◌, ℕ, ◌<◌, ◌≤◌, false, get_or, length, true, IfSome};
+ghost use Rattle.im_blocks.specs.inner.Images.{IsForgotten, IsFresh};
+
+use im_values::{Rows, Value};
+
+/// The newest rows of row numbers in a row, copied into one block.
+///
+/// A scan at its SCN or behind reads them there together, and each row that was changed since from its versions.
+#[derive(Drop)]
+pub struct Image {
+    /// No version that it shows is of a later commit.
+    pub scn: u64,
+    /// The rows, one for each row number from a first one on: of NULLs where there was none.
+    pub rows: Rows,
+    /// Of each whether it is what the newest version of its row number left.
+    pub fresh: Vec<bool>,
+}
+
+impl Image {
+    /// The values of the row at a place, where it is shown.
+    pub fn values(&self, place: u64) -> Option<&[Value]>
+        ensures { IfSome result (λ row. IsFresh self.now place row.now) }
+    {
+        let place = place as usize;
+        if place < self.fresh.len() && place < self.rows.len() && self.fresh[place] {
+            Some(self.rows.values(place))
+        } else {
+            None
+        }
+    }
+
+    /// Shows the row at a place no more, and answers whether the place is one of the image's. It takes no memory.
+    pub fn forget(&mut self, place: u64) -> bool
+        ensures { IsForgotten self.old self.new place }
+    {
+        if place >= self.fresh.len() as u64 {
+            return false;
+        }
+        self.fresh[place as usize] = false;
+        true
+    }
+}
+
+/// The first place from one on that is not fresh, or their end.
+pub fn fresh_end(fresh: &[bool], from: usize, end: usize) -> usize
+    requires from { from ≤ end }
+    requires within { end ≤ length fresh.now }
+    ensures from { from ≤ result }
+    ensures upto { result ≤ end }
+    ensures all { (i : ℕ) → from ≤ i → i < result → get_or fresh.now i false ≡ true }
+{
+    for place in from..end {
+        if !fresh[place] {
+            return place;
+        }
+    }
+    end
+}
