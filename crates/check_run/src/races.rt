@@ -24,6 +24,16 @@ pub const STEPPED: &str = "1> CREATE TABLE T (K NUMBER) BLOCK 2 EXTENT 2 INMEMOR
     1> INSERT INTO T VALUES (1), (2), (3), (4), (5), (6)\n1> COMMIT\nrace>\n\
     1> OPEN 1 FOR SELECT SUM(K) FROM T\n1> STEP 1\n1> STEP 1\n1> FETCH 1";
 
+/// A session reads a table, and another one commits a row and reads it then, beside a worker that builds its units.
+const COMMIT_FIRST: &str = "1> CREATE TABLE T (K NUMBER) BLOCK 2 EXTENT 2 INMEMORY PRIORITY HIGH\n\
+    1> INSERT INTO T VALUES (1), (2), (3)\n1> COMMIT\nrace>\n\
+    1> SELECT SUM(K) FROM T\n2> INSERT INTO T VALUES (4)\n2> COMMIT\n2> SELECT COUNT(*) FROM T";
+
+/// The same, but that the other one reads before it commits.
+const COMMIT_LAST: &str = "1> CREATE TABLE T (K NUMBER) BLOCK 2 EXTENT 2 INMEMORY PRIORITY HIGH\n\
+    1> INSERT INTO T VALUES (1), (2), (3)\n1> COMMIT\nrace>\n\
+    1> SELECT SUM(K) FROM T\n2> SELECT COUNT(*) FROM T\n2> INSERT INTO T VALUES (4)\n2> COMMIT";
+
 /// Two sessions have a table each, and both create one that they share, so one is refused.
 const SHARED: &str = "race>\n\
     1> CREATE TABLE A (K NUMBER)\n1> CREATE TABLE S (K NUMBER)\n1> INSERT INTO A VALUES (1), (2)\n\
@@ -179,5 +189,58 @@ fn a_switch_waits_for_a_step(rt: HostRuntime) -> Result<(), Fail> {
     let text = text_of(report.as_slice());
     assert_eq!(rt; steps_late(text), Some(false));
     assert!(rt; text.contains("\n6,served,0,blocks\n") && text.contains("\n7,served,1,blocks\n"));
+    Ok(())
+}
+
+/// What a gate may put in an order: a step of session 1, the commit of session 2, and the first switch of the worker.
+#[derive(Clone, Copy)]
+enum Event {
+    Step,
+    Commit,
+    Switch,
+}
+
+impl Event {
+    /// When it came: an entry comes behind those before it, and a step behind the entries that it saw.
+    fn instant(self, text: &str) -> Option<u64> {
+        let (word, field, behind) = match self {
+            Event::Step => ("mark,5,", 2, 0),
+            Event::Commit => (",2,commit", 1, 1),
+            Event::Switch => (",17,switch,", 1, 1),
+        };
+        let place = place_in(text, word, field)?;
+        Some(place.saturating_mul(2).saturating_add(behind))
+    }
+}
+
+/// An order that a gate forces: the script, the step that is held up, the one until which it is, and what then comes first and last.
+type Order = (&'static str, (u32, u32), (u32, u32), Event, Event);
+
+const ORDERS: [Order; 4] = [
+    (COMMIT_FIRST, (1, 1), (2, 1), Event::Commit, Event::Step),
+    (COMMIT_LAST, (2, 1), (1, 1), Event::Step, Event::Commit),
+    (COMMIT_FIRST, (17, 1), (2, 1), Event::Commit, Event::Switch),
+    (COMMIT_LAST, (2, 1), (17, 1), Event::Switch, Event::Commit),
+];
+
+#[test]
+fn a_step_a_commit_and_a_switch_wait_for_each_other(rt: HostRuntime) -> Result<(), Fail> {
+    let words = ["ime", "race", "--workers", "1", "--turns", "1000000"];
+    for (script, held, until, first, last) in ORDERS {
+        let gate = MeetingGate::new(held, until, 10_000_000);
+        let report = report_of(&rt, rt.alloc(), &words, script, &gate)?;
+        let race = Race {
+            script,
+            prelude: 4,
+            workers: 1,
+        };
+        assert_eq!(rt; read_report(rt.alloc(), &race, report.as_slice()), Ok(()));
+        assert!(rt; !gate.gave_up());
+        let text = text_of(report.as_slice());
+        match (first.instant(text), last.instant(text)) {
+            (Some(first), Some(last)) => assert!(rt; first < last),
+            _ => assert!(rt; false),
+        }
+    }
     Ok(())
 }

@@ -200,6 +200,40 @@ fn a_fault_of_the_source_or_the_sink_ends_a_run(rt: HostRuntime) -> Result<(), F
     Ok(())
 }
 
+/// How many reads take the script of two rows in pieces of 7 bytes, with the one that finds its end, and how many writes its text in
+/// pieces of 5.
+const READS: u64 = 19;
+
+const WRITES: u64 = 16;
+
+#[test]
+fn each_read_and_each_write_may_fail(rt: HostRuntime) -> Result<(), Fail> {
+    for call in 1..READS + 1 {
+        let case = Case {
+            read_fails: call,
+            status: Status::ReadFault,
+            ..plain(TWO_ROWS, "")
+        };
+        check(&rt, rt.alloc(), &["ime", "run"], &case)?;
+    }
+    for call in 1..WRITES + 1 {
+        let case = Case {
+            write_fails: call,
+            ..plain(TWO_ROWS, "")
+        };
+        let (status, text) = played(&rt, rt.alloc(), &["ime", "run"], &case, &OpenGate)?;
+        assert_eq!(rt; status, Status::WriteFault);
+        assert!(rt; text.len() as u64 == (call - 1) * 5);
+        assert!(rt; TWO_ROWS_TEXT.as_bytes().starts_with(text.as_slice()));
+    }
+    let none_left = Case {
+        read_fails: READS + 1,
+        write_fails: WRITES + 1,
+        ..plain(TWO_ROWS, TWO_ROWS_TEXT)
+    };
+    check(&rt, rt.alloc(), &["ime", "run"], &none_left)
+}
+
 #[test]
 fn wrong_words_are_refused(rt: HostRuntime) -> Result<(), Fail> {
     let commands: [&[&str]; 6] = [

@@ -83,7 +83,7 @@ fn fitted(values: Vec<Value>) -> Vec<Value>
     ensures { result.items ≡ values.items }
 {
     let mut fitted = values;
-    if fitted.capacity() - fitted.len() > LITTLE.max(fitted.len() / 16) {
+    if fitted.capacity() - fitted.len() > LITTLE {
         fitted.shrink_to_fit();
     }
     fitted
