@@ -28,7 +28,7 @@ const END: u64 = 1 << 63;
 
 /// The versions of every row of every table.
 ///
-/// Contracts see where the versions of each row number are kept, and read them through `versions_at`. A row number takes 8
+/// Contracts see where the versions of each row number are kept, and read them through `versions_at`. A row number takes 4
 /// bytes. Rows that one commit put together at row numbers in a row share a run of 64 bytes; a row that was
 /// touched again, or taken away, has a chain of 80 bytes. Of 2,048 row numbers in a row that were changed often the newest rows
 /// are kept once more, side by side, so that a scan reads them together.

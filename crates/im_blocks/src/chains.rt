@@ -1,8 +1,10 @@
 ghost use Rattle.std.specs.Prelude.{◌≡◌, ◌+◌, ◌∷◌, ◌<◌, ◌≤◌, ◌++◌, [], length, option_copied, true, IfOk, OnOk, OnErr};
 ghost use Rattle.im_versions.specs.Versions as versions;
 ghost use Rattle.im_blocks.specs.Chains.{chain_at, chain_versions, newest_scn};
+ghost use Rattle.im_blocks.specs.inner.Packing.{IsNumbered};
 ghost use Rattle.im_blocks.specs.inner.Puts.{IsChained};
 
+use crate::slot::MOST;
 use crate::touched::Touched;
 use im_values::{NoMemory, Steps, Value};
 use im_versions::Chain;
@@ -63,11 +65,13 @@ pub fn are_empty(touched: Option<&Touched>) -> bool
 /// Adds a chain for a row number, with room for one version more, and answers its number.
 pub fn push(chains: &mut Vec<Touched>, table: u32, rid: u64, chain: Chain) -> Result<u32, NoMemory>
     ensures ok { IfOk result (λ number. IsChained chains.old.items chains.new.items number table rid chain.versions) }
+    ensures few { IfOk result (λ number. IsNumbered number) }
     ensures err { OnErr result (chains.new.items ≡ chains.old.items) }
 {
-    let Ok(number) = u32::try_from(chains.len()) else {
+    if chains.len() >= MOST {
         return Err(NoMemory);
-    };
+    }
+    let number = chains.len() as u32;
     let mut chain = chain;
     chain.reserve()?;
     chains.push(Touched { table, rid, chain })?;

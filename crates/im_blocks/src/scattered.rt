@@ -93,6 +93,8 @@ impl Scattered {
             return Ok(());
         }
         self.flush()?;
+        self.values
+            .reserve(width.saturating_mul(self.rids.capacity()))?;
         self.width = width;
         Ok(())
     }

@@ -14,7 +14,7 @@ ghost use Rattle.im_history.specs.Puts.{all_changes, put_from};
 use crate::entering::enter;
 use crate::ready::Ready;
 use crate::run::Run;
-use crate::slot::Slot;
+use crate::slot::{MOST, PackedSlot, Slot};
 use crate::touched::Touched;
 use crate::{chains, runs};
 use im_history::{Change, Changes, LentPut};
@@ -27,28 +27,25 @@ use std::sync::ledger::Ledger;
 
 pub mod extents;
 
-/// The most runs: their numbers have 32 bits.
-const MOST_RUNS: usize = 1 << 32;
-
 /// Where the versions of every row of every table are kept.
 #[derive(Drop)]
 pub struct VersionTable {
     alloc: Global,
-    slots: Cells<Slot>,
+    slots: Cells<PackedSlot>,
     runs: Vec<Run>,
     room: usize,
     chains: Vec<Touched>,
 }
 
 impl Model for VersionTable {
-    ghost use Rattle.std.specs.Prelude.{◌+◌, ◌^◌, ◌≤◌, vec_len, vec_capacity};
+    ghost use Rattle.std.specs.Prelude.{◌+◌, ◌-◌, ◌^◌, ◌≤◌, vec_len, vec_capacity};
     ghost use Rattle.im_blocks.specs.Chains.{AllVersions};
 
     ghost Value = { AllVersions };
 
     ghost view = { λ b. record { slots = b.slots; runs = b.runs.items; chains = b.chains.items; room = b.room } };
 
-    ghost invariant = { λ b. (vec_len b.runs + b.room ≤ vec_capacity b.runs) × (vec_len b.runs + b.room ≤ 2 ^ 32) };
+    ghost invariant = { λ b. (vec_len b.runs + b.room ≤ vec_capacity b.runs) × (vec_len b.runs + b.room ≤ 2 ^ 31 - 1) };
 }
 
 impl VersionTable {
@@ -156,7 +153,10 @@ impl VersionTable {
     fn slot(&self, table: u32, rid: u64) -> Slot
         ensures { result ≡ seen.slot_at self.now table rid }
     {
-        self.slots.get(table, rid).copied().unwrap_or(Slot::Empty)
+        match self.slots.get(table, rid) {
+            Some(packed) => packed.slot(),
+            None => Slot::Empty,
+        }
     }
 
     /// The run of a number, if it holds the row number.
@@ -188,7 +188,7 @@ impl VersionTable {
         if count <= self.room {
             return Ok(());
         }
-        if count > MOST_RUNS || self.runs.len() > MOST_RUNS - count {
+        if count > MOST || self.runs.len() > MOST - count {
             return Err(NoMemory);
         }
         self.runs.reserve(count)?;
@@ -349,7 +349,7 @@ impl VersionTable {
         ensures room { OnOk result (0 < seen.spare_in self.new.chains table rid (seen.slot_at self.new table rid)) }
     {
         let number = chains::push(&mut self.chains, table, rid, chain)?;
-        *self.slots.cell_mut(table, rid) = Slot::InChain(number);
+        *self.slots.cell_mut(table, rid) = PackedSlot::in_chain(number);
         Ok(())
     }
 

@@ -8,7 +8,7 @@ ghost use Rattle.im_blocks.specs.inner.Seen.{AreSeen};
 use crate::gathered::Gathered;
 use crate::pages::PAGE;
 use crate::runs::{LentRows, rows_seen};
-use crate::slot::Slot;
+use crate::slot::{PackedSlot, Slot};
 use crate::version_table::VersionTable;
 use im_values::{NoMemory, Steps};
 use std::sync::ledger::Ledger;
@@ -37,7 +37,7 @@ impl Asked {
 }
 
 /// The first row number behind these that is not in the run of this number, or their end.
-fn run_end(cells: &[Slot], number: u32, from: u64, end: u64) -> u64
+fn run_end(cells: &[PackedSlot], number: u32, from: u64, end: u64) -> u64
     requires from { from ≤ end }
     requires within { end ≤ length cells.now }
     ensures from { from ≤ result }

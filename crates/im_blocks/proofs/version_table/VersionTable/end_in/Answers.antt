@@ -58,6 +58,6 @@ returns c =
       upto = omega (arith, upto, many, least, there, long, before);
       behind = from;
       inside = omega (arith, upto, many, count, from, to);
-      small = let cells_fit = c.of_table-cells.type_inv in let few : length c.of_table-cells.result.now * 8 < 2 ^ 63 = cells_fit.1 in omega (arith, upto, many, least, few);
+      small = let cells_fit = c.of_table-cells.type_inv in let few : length c.of_table-cells.result.now * 4 < 2 ^ 63 = cells_fit.1 in omega (arith, upto, many, least, few);
       slots = slots-upto c.args.self.now table c.args.rid c.args.number c.run_end.result c.of_table-cells.result.now cells c.requires.slot c.run_end.ensures.all;
     }
