@@ -13,8 +13,11 @@ use std::alloc::Global;
 /// How many row numbers a page has.
 pub const PAGE: u64 = 2048;
 
-/// From so many changes on a page gets a new image: a change then costs the copies of 32 rows.
+/// From so many changes on a page gets an image: a change then costs the copies of 32 rows.
 const MANY: u64 = 64;
+
+/// From so many changes on it gets a new one.
+const SOME: u64 = 16;
 
 /// What is kept of row numbers in a row beside their versions.
 #[derive(Drop)]
@@ -40,16 +43,15 @@ impl Cell for Page {
 }
 
 impl Page {
-    /// Whether so much was changed that a new image pays.
+    /// Whether so much was changed, or put behind, that an image pays. One that is there takes its memory already, so it is
+    /// made anew earlier: then what is read beside it stays little.
     fn is_due(&self) -> bool {
-        self.changed >= MANY || self.added >= MANY.max(self.len())
-    }
-
-    /// How many rows its image has.
-    fn len(&self) -> u64 {
         match &self.image {
-            Some(image) => image.fresh.len() as u64,
-            None => 0,
+            Some(image) => {
+                let rows = image.fresh.len() as u64;
+                self.changed >= SOME || self.added >= MANY.max(rows / 2)
+            }
+            None => self.changed >= MANY || self.added >= MANY,
         }
     }
 

@@ -63,7 +63,7 @@ fn rows_word(probe: &Probe, rows: &Rows, column: u32, place: usize) -> u64
     }
 }
 
-/// The same where it is known which numbers pass. The last row comes first, so that each bit is put below those behind it.
+/// The same where it is known which numbers pass.
 fn numbers_word(probe: &Probe, numbers: Numbers, rows: &Rows, column: u32, place: usize) -> u64
     requires known { Holds numbers (passes probe.now) }
     requires few { length rows.now < 2 ^ 31 }
@@ -72,12 +72,11 @@ fn numbers_word(probe: &Probe, numbers: Numbers, rows: &Rows, column: u32, place
     ensures { result ≡ word_at (map (passes_in probe.now column) rows.now) place }
 {
     let first = place * 64;
-    let mut left = (rows.len() - first).min(64);
+    let count = (rows.len() - first).min(64);
     let mut word = 0;
-    while left > 0 {
-        left -= 1;
-        let met = probe.meets_among(numbers, value_in(rows, first + left, column));
-        word = word * 2 + u64::from(met);
+    for i in 0..count {
+        let met = probe.meets_among(numbers, value_in(rows, first + i, column));
+        word = with_bit(word, i as u32, met);
     }
     word
 }

@@ -12,7 +12,7 @@ use Rattle.indexmap.specs.IndexMap.{set_value_at}
 use Rattle.im_group.specs.Tallies.{Tallied}
 use Rattle.im_group.specs.Partials.{key_of, is_key, keyed}
 use Rattle.im_group.specs.inner.Steps.{tallies_at, placed, stands_at}
-use Rattle.im_group.proofs.Agreement.{same_value}
+use Rattle.im_group.proofs.Agreement.{keys_tie, same_value}
 use Rattle.im_group.proofs.GroupLemmas.{equal}
 use Rattle.im_group.proofs.Held.{Agrees}
 use Rattle.im_group.proofs.Orders.{key_same}
@@ -121,3 +121,15 @@ module _ {K : Type 0} (test : K → Bool) (q : List Value) (f : K → List Value
 pub none_is : {X : Type 0} (r : Option X) → false ≡ is_some r → r ≡ None
 none_is None e = refl
 none_is (Some x) e = absurd cc
+
+-- ---- a key of one value
+
+and_true : (b : Bool) → (b && true) ≡ b
+and_true true = refl
+and_true false = refl
+
+-- a key of one value is compared by that
+pub only : (v : Value) (key : List Value) (k : Value) → length key ≡ 1 → k ≡ get_or key 0 k → same_value v k ≡ is_key (v ∷ []) key
+only v [] k long is = cc
+only v (x ∷ []) k long is = ap (same_value v) is ∙ (sym (and_true (same_value v x)) ∙ keys_tie (v ∷ []) (x ∷ []))
+only v (x ∷ y ∷ key) k long is = cc

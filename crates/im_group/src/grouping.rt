@@ -10,8 +10,9 @@ ghost use Rattle.im_group.specs.inner.Steps.{stands_at, tallies_at, first_groups
 ghost use Rattle.im_group.specs.Tallies.{CanJoin, tallied};
 
 use crate::asked::Asked;
-use crate::hints::{Hints, SLOTS, slot_of};
-use crate::near::near;
+use crate::hints::{Hints, SLOTS, slot_of, slot_of_one};
+use crate::near::{near, near_one};
+use crate::same::Sought;
 use crate::sums::Sums;
 use crate::tallies::Tallies;
 use im_eval::holds;
@@ -169,7 +170,7 @@ fn take_far(
 
 /// The group of the key of a row takes the row. The key is looked up where the group is not near.
 #[inline(always)]
-pub fn take_grouped(
+fn take_by_many(
     alloc: Global,
     columns: &[u32],
     asked: &[Asked],
@@ -186,6 +187,52 @@ pub fn take_grouped(
     match near(columns, row, groups, room.hints.place(slot)) {
         Some(place) => take_there(alloc, columns, asked, place, row, groups),
         None => take_far(alloc, columns, asked, row, slot, room, groups),
+    }
+}
+
+/// The same where the key is of one column: its value is told once.
+#[inline(always)]
+fn take_by_one(
+    alloc: Global,
+    columns: &[u32],
+    asked: &[Asked],
+    row: &[Value],
+    room: &mut Room,
+    groups: &mut Groups,
+) -> Result<(), NoMemory>
+    requires one { length columns.now ≡ 1 }
+    requires keyed { AllByRecursion (λ column. column < length row.now) columns.now }
+    requires fits { AllByRecursion (λ a. a.column < length row.now) asked.now }
+    requires few { CanTake asked.now (own groups.old.entries) (spec.key_of columns.now row.now) }
+    ensures { OnOk result (own groups.new.entries ≡ with_taken asked.now (own groups.old.entries) (spec.key_of columns.now row.now) row.now) }
+{
+    let sought = Sought::of(&row[columns[0] as usize]);
+    let slot = slot_of_one(sought);
+    match near_one(columns, row, sought, groups, room.hints.place(slot)) {
+        Some(place) => take_there(alloc, columns, asked, place, row, groups),
+        None => take_far(alloc, columns, asked, row, slot, room, groups),
+    }
+}
+
+/// The group of the key of a row takes the row.
+#[inline(always)]
+pub fn take_grouped(
+    alloc: Global,
+    columns: &[u32],
+    asked: &[Asked],
+    row: &[Value],
+    room: &mut Room,
+    groups: &mut Groups,
+) -> Result<(), NoMemory>
+    requires keyed { AllByRecursion (λ column. column < length row.now) columns.now }
+    requires fits { AllByRecursion (λ a. a.column < length row.now) asked.now }
+    requires few { CanTake asked.now (own groups.old.entries) (spec.key_of columns.now row.now) }
+    ensures { OnOk result (own groups.new.entries ≡ with_taken asked.now (own groups.old.entries) (spec.key_of columns.now row.now) row.now) }
+{
+    if columns.len() == 1 {
+        take_by_one(alloc, columns, asked, row, room, groups)
+    } else {
+        take_by_many(alloc, columns, asked, row, room, groups)
     }
 }
 

@@ -1,7 +1,7 @@
 ghost use Rattle.std.specs.Prelude.{◌<◌, length};
 ghost use Rattle.std.specs.List.{AllByRecursion};
 
-use crate::same::ends;
+use crate::same::Sought;
 use im_values::Value;
 
 /// How many hints there are.
@@ -15,20 +15,36 @@ pub struct Hints {
     places: [u16; SLOTS],
 }
 
-/// A number that texts seldom share: their ends and how many bytes there are.
+/// A number that values seldom share: of a text its ends and how many bytes there are.
 #[inline(always)]
-fn print_of_text(text: &[u8]) -> u64 {
-    ends(text) ^ ((text.len() as u64) << 56)
-}
-
-/// A number that values seldom share.
-#[inline(always)]
-fn print_of(value: &Value) -> u64 {
-    match value {
+fn print_of(sought: Sought<'_>) -> u64 {
+    match sought.value {
         Value::Int(number) => number.cast_unsigned(),
-        Value::Text(text) => print_of_text(text.bytes()),
+        Value::Text(text) => sought.ends ^ ((text.bytes().len() as u64) << 56),
         Value::Null => u64::MAX,
     }
+}
+
+/// A print and one more, mixed.
+#[inline(always)]
+fn mixed(print: u64, more: u64) -> u64 {
+    (print ^ more).wrapping_mul(0x9E37_79B9_7F4A_7C15)
+}
+
+/// The slot of a print.
+#[inline(always)]
+fn slot_at(print: u64) -> usize
+    ensures { result < SLOTS }
+{
+    (print >> 58) as usize % SLOTS
+}
+
+/// The slot of a key of one value.
+#[inline(always)]
+pub fn slot_of_one(sought: Sought<'_>) -> usize
+    ensures { result < SLOTS }
+{
+    slot_at(mixed(0, print_of(sought)))
 }
 
 /// The slot of the key of a row.
@@ -37,11 +53,11 @@ pub fn slot_of(columns: &[u32], row: &[Value]) -> usize
     requires { AllByRecursion (λ column. column < length row.now) columns.now }
     ensures { result < SLOTS }
 {
-    let mut print = 0u64;
+    let mut print = 0;
     for column in columns {
-        print = (print ^ print_of(&row[*column as usize])).wrapping_mul(0x9E37_79B9_7F4A_7C15);
+        print = mixed(print, print_of(Sought::of(&row[*column as usize])));
     }
-    (print >> 58) as usize % SLOTS
+    slot_at(print)
 }
 
 impl Hints {

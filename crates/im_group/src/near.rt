@@ -1,12 +1,13 @@
-ghost use Rattle.std.specs.Prelude.{◌≡◌, ◌<◌, true, length};
+ghost use Rattle.std.specs.Prelude.{◌≡◌, ◌<◌, ◌∷◌, [], true, length};
 ghost use Rattle.std.specs.List.{AllByRecursion};
 ghost use Rattle.std.specs.Option.{ForSome};
+ghost use Rattle.im_group.specs.inner.Ends.{IsSought};
 ghost use Rattle.im_group.specs.inner.Holding.{own};
 ghost use Rattle.im_group.specs.inner.Steps.{stands_at};
 ghost use Rattle.im_group.specs.Partials as spec;
 
 use crate::grouping::Groups;
-use crate::same::same;
+use crate::same::{Sought, same};
 use im_values::Value;
 
 /// Whether a row has this key. Nothing is copied or hashed.
@@ -48,5 +49,33 @@ pub fn near(columns: &[u32], row: &[Value], groups: &Groups, thought: usize) -> 
         Some(thought)
     } else {
         None
+    }
+}
+
+/// Whether a key is of one value, and that is the one that is looked for.
+#[inline(always)]
+fn is_only(sought: Sought<'_>, key: &[Value]) -> bool
+    requires { IsSought sought }
+    ensures { result ≡ spec.is_key (sought.entry.value.now ∷ []) key.now }
+{
+    key.len() == 1 && sought.is(&key[0])
+}
+
+/// The same as [`near`] for a key of one value, which is looked for.
+#[inline(always)]
+pub fn near_one(
+    columns: &[u32],
+    row: &[Value],
+    sought: Sought<'_>,
+    groups: &Groups,
+    thought: usize,
+) -> Option<usize>
+    requires sought { IsSought sought }
+    requires key { spec.key_of columns.now row.now ≡ sought.value.now ∷ [] }
+    ensures { ForSome result (λ place. stands_at (own groups.now.entries) (spec.key_of columns.now row.now) place ≡ true) }
+{
+    match groups.get_index(thought) {
+        Some((key, _)) => is_only(sought, key.as_slice()).then_some(thought),
+        None => None,
     }
 }

@@ -1,9 +1,10 @@
 ghost use Rattle.std.specs.Prelude.{◌≡◌, ◌+◌, ◌≤◌, length, nat_eq};
+ghost use Rattle.std.specs.Option.{ForSome};
 ghost use Rattle.std.specs.Cmp.Lexicographic.{pointwise};
 ghost use Rattle.im_values.specs.contracts.value.ValuePartialEq.TheImpl as value_eq;
 ghost use Rattle.im_group.specs.inner.Ends as spec;
 
-use im_values::Value;
+use im_values::{Name, Value};
 
 /// Up to so many bytes are all told by the number of a text's ends.
 const TOLD: usize = 8;
@@ -34,18 +35,78 @@ pub fn ends(text: &[u8]) -> u64
     }
 }
 
-/// Whether two texts are the same. Short ones are compared without a call.
-#[inline(always)]
-fn same_text(text: &[u8], other: &[u8]) -> bool
+/// Whether two texts are the same, by all their bytes.
+#[inline(never)]
+fn same_far(text: &Name, other: &Name) -> bool
     ensures { result ≡ pointwise nat_eq text.now other.now }
 {
+    text.bytes() == other.bytes()
+}
+
+/// Whether two texts are the same, as far as their lengths and their ends tell it. The ends of one are told.
+#[inline(always)]
+fn told_same(text: &[u8], told: u64, other: &[u8]) -> Option<bool>
+    requires { told ≡ spec.ends_of text.now }
+    ensures { ForSome result (λ same. same ≡ pointwise nat_eq text.now other.now) }
+{
     if text.len() != other.len() {
-        return false;
+        return Some(false);
     }
-    if ends(text) != ends(other) {
-        return false;
+    if told != ends(other) {
+        return Some(false);
     }
-    text.len() <= TOLD || text == other
+    if text.len() <= TOLD {
+        return Some(true);
+    }
+    None
+}
+
+/// Whether two texts are the same. Short ones are compared without a call.
+#[inline(always)]
+fn same_text(text: &Name, told: u64, other: &Name) -> bool
+    requires { told ≡ spec.ends_of text.now }
+    ensures { result ≡ pointwise nat_eq text.now other.now }
+{
+    match told_same(text.bytes(), told, other.bytes()) {
+        Some(same) => same,
+        None => same_far(text, other),
+    }
+}
+
+/// A value that is looked for among others. The ends of a text are told once.
+#[derive(Clone, Copy)]
+pub struct Sought<'a> {
+    pub value: &'a Value,
+    pub ends: u64,
+}
+
+impl<'a> Sought<'a> {
+    /// This value.
+    #[inline(always)]
+    pub fn of(value: &'a Value) -> Sought<'a>
+        ensures sought { spec.IsSought result }
+        ensures value { result.value.now ≡ value.now }
+    {
+        let ends = match value {
+            Value::Text(text) => ends(text.bytes()),
+            Value::Int(_) | Value::Null => 0,
+        };
+        Sought { value, ends }
+    }
+
+    /// Whether it is another value.
+    #[inline(always)]
+    pub fn is(&self, other: &Value) -> bool
+        requires { spec.IsSought self.now }
+        ensures { result ≡ (value_eq.ghosts).eq self.now.value.now other.now }
+    {
+        match (self.value, other) {
+            (Value::Int(number), Value::Int(other)) => *number == *other,
+            (Value::Text(text), Value::Text(other)) => same_text(text, self.ends, other),
+            (Value::Null, Value::Null) => true,
+            _ => false,
+        }
+    }
 }
 
 /// Whether two values are the same.
@@ -53,10 +114,5 @@ fn same_text(text: &[u8], other: &[u8]) -> bool
 pub fn same(value: &Value, other: &Value) -> bool
     ensures { result ≡ (value_eq.ghosts).eq value.now other.now }
 {
-    match (value, other) {
-        (Value::Int(number), Value::Int(other)) => *number == *other,
-        (Value::Text(text), Value::Text(other)) => same_text(text.bytes(), other.bytes()),
-        (Value::Null, Value::Null) => true,
-        _ => false,
-    }
+    Sought::of(value).is(other)
 }
