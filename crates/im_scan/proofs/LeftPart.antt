@@ -1,5 +1,5 @@
 -- The part of what is left of a unit and of the rows beside it.
-use Rattle.std.proofs.Common.{◌≡◌, ℕ, zero, suc, ◌+◌, ◌-◌, ◌<◌, ◌≤◌, ◌^◌, ◌==◌, Bool, true, false, if◌then◌else◌, List, [], ◌∷◌, ◌++◌, length, take, map, filter, get_or, Option, Some, None, refl, sym, ap, subst, ◌∙◌, ⊎_elim, arith, append-nil}
+use Rattle.std.proofs.Common.{◌≡◌, ℕ, zero, suc, ◌+◌, ◌-◌, ◌<◌, ◌≤◌, ◌^◌, ◌==◌, Bool, true, false, if◌then◌else◌, List, [], ◌∷◌, ◌++◌, length, take, map, get_or, Option, Some, None, refl, sym, ap, subst, ◌∙◌, ⊎_elim, arith, append-nil}
 use Rattle.std.specs.Prelude.{nat_lt}
 use Rattle.std.specs.List.{cons_option, fold}
 use Rattle.std.specs.Option.{option_copied, option_map}
@@ -272,6 +272,25 @@ module _ (bound : Bound) (content : Content) (beside : Beside) (count : ℕ) whe
   left-whole grouped spots part new are is gives goes =
       goes.goes left_rows (gives.gives left_rows (left-values bound content beside spots count is))
       ∙ sym (partial-interleaved bound left_rows (numbered_all beside) whole_rows grouped (woven are).woven)
+
+-- ---- rows beside a unit that is not gone over
+
+none-present : (first n : ℕ) → present (λ rid. None) first n ≡ []
+none-present first zero = refl
+none-present first (suc n) = none-present (first + 1) n
+
+alone : {front back whole : List Numbered} → Interleaves front back whole → front ≡ [] → back ≡ whole
+alone nothing none = refl
+alone (from_front rest) none = cc
+alone (from_back {x = row} {front = front} {back = back} {whole = whole} rest) none = ap (λ (l : List Numbered). row ∷ l) (alone rest none)
+
+-- they are all that stands there
+pub beside-alone : (first count : ℕ) (beside : Beside) → AreBetween first (first + count) beside →
+    numbered_all beside ≡ present (standing None beside) first count
+beside-alone first count beside are =
+    let woven = (weave (first + count) beside (λ rid. None) (λ rid. None) (standing None beside) first count refl are
+    (λ k low high. sym (either-none (is_left (first + count) beside k))) (λ k low high. refl)).woven in
+    alone woven (none-present first count)
 
 -- ---- the rows beside a unit, one by one
 

@@ -306,10 +306,10 @@ run-pass bound first at rows old now row is not so_far =
     (goes-unkept bound old now (numbered_all (run_from first (take at rows))) ((first + at, row) ∷ []) so_far
     (ap (λ (b : Bool). if b then (first + at, row) ∷ [] else []) not))
 
-row-at : (rows : List Row) (at : ℕ) → at < length rows → (row : Row) × (slice_get rows at ≡ Some row)
-row-at [] at within = absurd (omega (arith, within))
-row-at (r ∷ rows) zero within = (r, refl)
-row-at (r ∷ rows) (suc at) within = row-at rows at (omega (arith, within))
+one-at : {A : Type 0} (xs : List A) (at : ℕ) → at < length xs → (x : A) × (slice_get xs at ≡ Some x)
+one-at [] at within = absurd (omega (arith, within))
+one-at (x ∷ xs) zero within = (x, refl)
+one-at (x ∷ xs) (suc at) within = one-at xs at (omega (arith, within))
 
 pass-more : (bound : Bound) (first at n : ℕ) (rows : List Row) (old now : Parts) → at + n ≤ length rows
     → AreClear (map (keeps bound.filter) rows) at (at + n) → GoesOnBy bound old (numbered_all (run_from first (take at rows))) now
@@ -319,7 +319,7 @@ pass-more bound first at zero rows old now within clear so_far =
     subst (λ (k : ℕ). GoesOnBy bound old (numbered_all (run_from first (take k rows))) now) same so_far
 pass-more bound first at (suc n) rows old now within clear so_far =
     let next : at + 1 + n ≡ at + suc n = omega arith in
-    let found = row-at rows at (omega (arith, within)) in
+    let found = one-at rows at (omega (arith, within)) in
     subst (λ (k : ℕ). GoesOnBy bound old (numbered_all (run_from first (take k rows))) now) next
     (pass-more bound first (at + 1) n rows old now (omega (arith, within)) (λ k low high. clear k (omega (arith, low)) (omega (arith, high)))
     (run-pass bound first at rows old now found.0 found.1
@@ -334,3 +334,82 @@ run-passes bound first at to rows mask old now is from within clear so_far =
     subst (λ (k : ℕ). GoesOnBy bound old (numbered_all (run_from first (take k rows))) now) whole
     (pass-more bound first at (to - at) rows old now (omega (arith, from, within))
     (λ k low high. ap (λ (l : List Bool). get_or l k false) (sym is) ∙ clear k low (omega (arith, high, from))) so_far)
+
+-- ---- rows that a mask chooses, each at its own row number
+
+-- a row that is not chosen
+each-pass : (bound : Bound) (rids : List ℕ) (at rid : ℕ) (rows : List Row) (old now : Parts) (row : Row) → length rids ≡ length rows
+    → slice_get rids at ≡ Some rid → slice_get rows at ≡ Some row → keeps bound.filter row ≡ false
+    → GoesOnBy bound old (numbered_all (each_at (take at rids) (take at rows))) now
+    → GoesOnBy bound old (numbered_all (each_at (take (at + 1) rids) (take (at + 1) rows))) now
+each-pass bound rids at rid rows old now row same there is not so_far =
+    subst (λ (l : List Numbered). GoesOnBy bound old l now)
+    (sym (ap numbered_all (each_at-next rids rows at rid row same there is)
+    ∙ numbered-append (each_at (take at rids) (take at rows)) ((rid, Some row) ∷ [])))
+    (goes-unkept bound old now (numbered_all (each_at (take at rids) (take at rows))) ((rid, row) ∷ []) so_far
+    (ap (λ (b : Bool). if b then (rid, row) ∷ [] else []) not))
+
+each-pass-more : (bound : Bound) (rids : List ℕ) (at n : ℕ) (rows : List Row) (old now : Parts) → length rids ≡ length rows → at + n ≤ length rows
+    → AreClear (map (keeps bound.filter) rows) at (at + n) → GoesOnBy bound old (numbered_all (each_at (take at rids) (take at rows))) now
+    → GoesOnBy bound old (numbered_all (each_at (take (at + n) rids) (take (at + n) rows))) now
+each-pass-more bound rids at zero rows old now same within clear so_far =
+    let here : at ≡ at + zero = omega arith in
+    subst (λ (k : ℕ). GoesOnBy bound old (numbered_all (each_at (take k rids) (take k rows))) now) here so_far
+each-pass-more bound rids at (suc n) rows old now same within clear so_far =
+    let next : at + 1 + n ≡ at + suc n = omega arith in
+    let found = one-at rows at (omega (arith, within)) in
+    let number = one-at rids at (omega (arith, within, same)) in
+    subst (λ (k : ℕ). GoesOnBy bound old (numbered_all (each_at (take k rids) (take k rows))) now) next
+    (each-pass-more bound rids (at + 1) n rows old now same (omega (arith, within))
+    (λ k low high. clear k (omega (arith, low)) (omega (arith, high)))
+    (each-pass bound rids at number.0 rows old now found.0 same number.1 found.1
+    (sym (chosen-at bound.filter rows at found.0 found.1) ∙ clear at (omega arith) (omega arith)) so_far))
+
+-- none of the rows up to a place is chosen
+pub each-passes : (bound : Bound) (rids : List ℕ) (at to : ℕ) (rows : List Row) (mask : List Bool) (old now : Parts) → length rids ≡ length rows
+    → mask ≡ map (keeps bound.filter) rows → at ≤ to → to ≤ length rows → AreClear mask at to
+    → GoesOnBy bound old (numbered_all (each_at (take at rids) (take at rows))) now
+    → GoesOnBy bound old (numbered_all (each_at (take to rids) (take to rows))) now
+each-passes bound rids at to rows mask old now same is from within clear so_far =
+    let whole : at + (to - at) ≡ to = omega (arith, from) in
+    subst (λ (k : ℕ). GoesOnBy bound old (numbered_all (each_at (take k rids) (take k rows))) now) whole
+    (each-pass-more bound rids at (to - at) rows old now same (omega (arith, from, within))
+    (λ k low high. ap (λ (l : List Bool). get_or l k false) (sym is) ∙ clear k low (omega (arith, high, from))) so_far)
+
+-- the values of the rows
+values-each : (rids : List ℕ) (rows : List Row) → length rids ≡ length rows → map (λ (r : Numbered). r.1) (numbered_all (each_at rids rows)) ≡ rows
+values-each [] [] same = refl
+values-each [] (row ∷ rows) same = absurd (omega (arith, same))
+values-each (rid ∷ rids) [] same = absurd (omega (arith, same))
+values-each (rid ∷ rids) (row ∷ rows) same = ap (λ (l : List Row). row ∷ l) (values-each rids rows (omega (arith, same)))
+
+pub goes-each : (bound : Bound) (rids : List ℕ) (rows : List Row) (old new : Parts) → length rids ≡ length rows → GoesOnWith bound old rows new
+    → GoesOnBy bound old (numbered_all (each_at rids rows)) new
+goes-each bound rids rows old new same goes = record {
+  goes = λ front is. goes.goes front (numbered_all (each_at rids rows)) is (values-each rids rows same);
+}
+
+-- ---- pieces behind other rows
+
+pub room-piece-behind : (bound : Bound) (pieces : List Piece) (i : ℕ) (piece : Piece) (old part : Parts) → i < length pieces → piece ≡ get_or pieces i piece
+    → HasRoomFor bound (length (in_pieces pieces)) old → GoesOnBy bound old (numbered_all (in_pieces (take i pieces))) part
+    → HasRoomFor bound (length (in_piece piece)) part
+room-piece-behind bound pieces i piece old part within is room so_far = record {
+  rows = room.rows ++ numbered_all (in_pieces (take i pieces));
+  is = so_far.goes room.rows room.is;
+  few =
+      let all = length-append room.rows (numbered_all (in_pieces (take i pieces))) in
+      omega (arith, all, few-all (in_pieces (take i pieces)), pieces-within pieces i piece within is, room.few);
+}
+
+pub pieces-taken-behind : (bound : Bound) (pieces : List Piece) (i : ℕ) (piece : Piece) (old part new : Parts) → i < length pieces
+    → piece ≡ get_or pieces i piece → GoesOnBy bound old (numbered_all (in_pieces (take i pieces))) part
+    → GoesOnBy bound part (numbered_all (in_piece piece)) new → GoesOnBy bound old (numbered_all (in_pieces (take (i + 1) pieces))) new
+pieces-taken-behind bound pieces i piece old part new within is so_far goes = record {
+  goes = λ front begins.
+      goes.goes (front ++ numbered_all (in_pieces (take i pieces))) (so_far.goes front begins)
+      ∙ ap (partial bound)
+      (append_assoc front (numbered_all (in_pieces (take i pieces))) (numbered_all (in_piece piece))
+      ∙ ap (λ (l : List Numbered). front ++ l)
+      (sym (ap numbered_all (pieces-more pieces i piece within is) ∙ numbered-append (in_pieces (take i pieces)) (in_piece piece))));
+}

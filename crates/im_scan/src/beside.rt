@@ -5,9 +5,18 @@ ghost use Rattle.im_scan.specs.inner.Beside.{AreBeside, IsPassed, IsRising, Skip
 ghost use Rattle.im_scan.specs.inner.Walk.{lent_beside};
 
 use crate::slots::has_own;
-use im_history::{LentRow, View, lent_values};
+use im_history::{LentRow, Piece, View, lent_values};
 use im_values::{NoMemory, Row};
 use std::alloc::Global;
+
+/// What stands beside a unit.
+#[derive(Clone, Copy)]
+pub struct RowsBeside<'a, 'b> {
+    /// Each row number with its row, or none.
+    pub rows: &'a [LentRow<'b>],
+    /// The same as it lies in pieces, where no change of the view's own is among it.
+    pub pieces: Option<&'b [Piece]>,
+}
 
 /// Lends rows, each with its row number, or none.
 fn lend<'a>(alloc: Global, rows: &'a [(u64, Option<Row>)]) -> Result<Vec<LentRow<'a>>, NoMemory>

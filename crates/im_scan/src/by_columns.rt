@@ -6,12 +6,15 @@ ghost use Rattle.im_history.specs.Rows.{present};
 ghost use Rattle.im_group.specs.Partials as group;
 ghost use Rattle.im_unit.specs.Holding.{count_present};
 ghost use Rattle.im_scan.specs.Parts.{MayAsk};
+ghost use Rattle.im_scan.specs.inner.Lying.{LieIn};
 ghost use Rattle.im_scan.specs.inner.Left.{IsPartOfChosen};
 ghost use Rattle.im_scan.specs.inner.Pieces.{HasRoomFor, numbered_all};
 ghost use Rattle.im_scan.specs.inner.Steps.{GoesOnBy};
 ghost use Rattle.im_scan.specs.inner.Walk.{lent_beside, standing};
 
+use crate::beside::RowsBeside;
 use crate::by_code::{coded, coded_key};
+use crate::in_place::take_pieces;
 use crate::left::{are_between, left_spots};
 use crate::parts::take_row;
 use crate::summed::{takes_together, together};
@@ -50,8 +53,8 @@ fn chosen_part(
     }
 }
 
-/// The part takes the rows that stand beside a unit, one by one. They stay where they are.
-fn take_beside(
+/// The part takes lent rows, one by one. They stay where they are.
+fn take_lent(
     alloc: Global,
     asking: &Asking<'_>,
     rows: &[LentRow<'_>],
@@ -67,27 +70,46 @@ fn take_beside(
     Ok(())
 }
 
+/// The part takes the rows that stand beside a unit: those of a piece together, where they lie in pieces.
+fn take_beside(
+    alloc: Global,
+    asking: &Asking<'_>,
+    beside: RowsBeside<'_, '_>,
+    part: &mut Partial,
+) -> Result<(), NoMemory>
+    requires lie { LieIn beside }
+    requires fits { AllByRecursion (λ row. MayAsk asking.now row.1) (lent_beside beside.rows.now) }
+    requires few { HasRoomFor asking.now (length beside.rows.now) part.old }
+    ensures { OnOk result (GoesOnBy asking.now part.old (numbered_all (lent_beside beside.entry.rows.now)) part.new) }
+{
+    match beside.pieces {
+        Some(pieces) => take_pieces(alloc, asking, pieces, part),
+        None => take_lent(alloc, asking, beside.rows, part),
+    }
+}
+
 /// What so many row numbers from the first of a unit on give to a query that is grouped: what is left of the unit, by its columns, and
 /// then the rows beside it.
 fn left_part(
     alloc: Global,
     asking: &Asking<'_>,
     unit: &ColumnUnit,
-    beside: &[LentRow<'_>],
+    beside: RowsBeside<'_, '_>,
     count: u64,
 ) -> Result<Option<Partial>, NoMemory>
     requires grouped { asking.now.grouped ≡ true }
     requires within { unit.now.first + count < 2 ^ 64 }
     requires fits { AllByRecursion (MayAsk asking.now) unit.now.rows }
-    requires beside_fits { AllByRecursion (λ row. MayAsk asking.now row.1) (lent_beside beside.now) }
+    requires lie { LieIn beside }
+    requires beside_fits { AllByRecursion (λ row. MayAsk asking.now row.1) (lent_beside beside.rows.now) }
     ensures { IfOk result (λ part. ForSome part (λ part.
-        part ≡ group.partial asking.now (present (standing (Some unit.now) (lent_beside beside.now)) unit.now.first count))) }
+        part ≡ group.partial asking.now (present (standing (Some unit.now) (lent_beside beside.entry.rows.now)) unit.now.first count))) }
 {
     let first = unit.first();
-    if !are_between(beside, first, first + count) {
+    if !are_between(beside.rows, first, first + count) {
         return Ok(None);
     }
-    let spots = left_spots(alloc, unit, &asking.bound().filter, beside, count)?;
+    let spots = left_spots(alloc, unit, &asking.bound().filter, beside.rows, count)?;
     let Some(mut part) = chosen_part(alloc, asking, unit, &spots)? else {
         return Ok(None);
     };
@@ -104,15 +126,16 @@ pub fn column_part(
     alloc: Global,
     asking: &Asking<'_>,
     unit: &ColumnUnit,
-    beside: &[LentRow<'_>],
+    beside: RowsBeside<'_, '_>,
     first: u64,
     count: u64,
 ) -> Result<Option<Partial>, NoMemory>
     requires within { first + count < 2 ^ 64 }
     requires fits { AllByRecursion (MayAsk asking.now) unit.now.rows }
-    requires beside_fits { AllByRecursion (λ row. MayAsk asking.now row.1) (lent_beside beside.now) }
+    requires lie { LieIn beside }
+    requires beside_fits { AllByRecursion (λ row. MayAsk asking.now row.1) (lent_beside beside.rows.now) }
     ensures { IfOk result (λ part. ForSome part (λ part.
-        part ≡ group.partial asking.now (present (standing (Some unit.now) (lent_beside beside.now)) first count))) }
+        part ≡ group.partial asking.now (present (standing (Some unit.now) (lent_beside beside.entry.rows.now)) first count))) }
 {
     if unit.first() != first || !is_by_columns(asking.bound(), unit) {
         return Ok(None);

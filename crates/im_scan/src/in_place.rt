@@ -94,7 +94,7 @@ fn take_each(
 }
 
 /// The part takes rows, each at its own row number, in order. The condition is asked of each.
-fn take_scattered(
+fn take_apart(
     alloc: Global,
     asking: &Asking<'_>,
     rids: &[u64],
@@ -273,6 +273,83 @@ fn take_run(
     }
 }
 
+/// The part takes those rows that a mask chooses, each at its own row number, one by one.
+fn hand_scattered(
+    alloc: Global,
+    asking: &Asking<'_>,
+    rids: &[u64],
+    rows: &Rows,
+    mask: &Mask,
+    part: &mut Partial,
+) -> Result<(), NoMemory>
+    requires long { length rids.now ≡ length rows.now }
+    requires mask { mask.now ≡ map (group.keeps asking.now.filter) rows.now }
+    requires fits { AllByRecursion (λ row. BoundFits row asking.now) rows.now }
+    requires few { HasRoomFor asking.now (length rows.now) part.old }
+    ensures { OnOk result (GoesOnBy asking.now part.old (numbered_all (kept.each_at rids.now rows.now)) part.new) }
+{
+    let mut at = 0;
+    while let Some(place) = next_chosen(mask, at, rows.len() as u64) {
+        let place = place as usize;
+        take_chosen(alloc, asking, rids[place], rows, place, part)?;
+        at = place as u64 + 1;
+    }
+    Ok(())
+}
+
+/// The part takes those rows that a mask chooses, each at its own row number: into its groups where it stands, and else each is
+/// handed over. A group has no row numbers.
+fn take_picked(
+    alloc: Global,
+    asking: &Asking<'_>,
+    rids: &[u64],
+    rows: &Rows,
+    mask: &Mask,
+    part: &mut Partial,
+) -> Result<(), NoMemory>
+    requires long { length rids.now ≡ length rows.now }
+    requires mask { mask.now ≡ map (group.keeps asking.now.filter) rows.now }
+    requires fits { AllByRecursion (λ row. BoundFits row asking.now) rows.now }
+    requires few { HasRoomFor asking.now (length rows.now) part.old }
+    ensures { OnOk result (GoesOnBy asking.now part.old (numbered_all (kept.each_at rids.now rows.now)) part.new) }
+{
+    if asking.bound().grouped {
+        part.take_chosen(alloc, asking, rows, mask)
+    } else {
+        hand_scattered(alloc, asking, rids, rows, mask, part)
+    }
+}
+
+/// The part takes rows, each at its own row number, in order. Where there are not few, they are taken under a mask, as far as a mask
+/// reaches.
+fn take_scattered(
+    alloc: Global,
+    asking: &Asking<'_>,
+    rids: &[u64],
+    rows: &Rows,
+    every: &mut EveryRow,
+    part: &mut Partial,
+) -> Result<(), NoMemory>
+    requires long { length rids.now ≡ length rows.now }
+    requires fits { AllByRecursion (λ row. BoundFits row asking.now) rows.now }
+    requires few { HasRoomFor asking.now (length rows.now) part.old }
+    ensures { OnOk result (GoesOnBy asking.now part.old (numbered_all (kept.each_at rids.now rows.now)) part.new) }
+{
+    if rows.len() <= FEW || rows.len() >= 0x8000_0000 {
+        return take_apart(alloc, asking, rids, rows, part);
+    }
+    match &asking.bound().filter {
+        Some(filter) => {
+            let mask = chosen(alloc, filter, rows)?;
+            take_picked(alloc, asking, rids, rows, &mask, part)
+        }
+        None => {
+            every.fit(alloc, rows.len() as u64)?;
+            take_picked(alloc, asking, rids, rows, every.mask(), part)
+        }
+    }
+}
+
 /// The part takes the rows of a piece.
 fn take_piece(
     alloc: Global,
@@ -288,23 +365,45 @@ fn take_piece(
 {
     match piece {
         Piece::Run(first, rows) => take_run(alloc, asking, *first, rows, every, part),
-        Piece::Each(rids, rows) => take_scattered(alloc, asking, rids.as_slice(), rows, part),
+        Piece::Each(rids, rows) => {
+            take_scattered(alloc, asking, rids.as_slice(), rows, every, part)
+        }
         Piece::One(rid, row) => take_row(alloc, asking, *rid, lent_values(row), part),
     }
 }
 
+/// The part takes the rows of pieces.
+pub fn take_pieces(
+    alloc: Global,
+    asking: &Asking<'_>,
+    pieces: &[Piece],
+    part: &mut Partial,
+) -> Result<(), NoMemory>
+    requires numbers { All kept.HasNumbers pieces.now }
+    requires fits { AllByRecursion (λ row. MayAsk asking.now row.1) (kept.in_pieces pieces.now) }
+    requires few { HasRoomFor asking.now (length (kept.in_pieces pieces.now)) part.old }
+    ensures { OnOk result (GoesOnBy asking.now part.old (numbered_all (kept.in_pieces pieces.now)) part.new) }
+{
+    let mut every = EveryRow::new(alloc)?;
+    for piece in pieces {
+        take_piece(alloc, asking, piece, &mut every, part)?;
+    }
+    Ok(())
+}
+
 /// What the rows of pieces give.
-fn part_of_pieces(alloc: Global, asking: &Asking<'_>, pieces: &[Piece]) -> Result<Partial, NoMemory>
+pub fn part_of_pieces(
+    alloc: Global,
+    asking: &Asking<'_>,
+    pieces: &[Piece],
+) -> Result<Partial, NoMemory>
     requires numbers { All kept.HasNumbers pieces.now }
     requires few { length (kept.in_pieces pieces.now) < 2 ^ 64 }
     requires fits { AllByRecursion (λ row. MayAsk asking.now row.1) (kept.in_pieces pieces.now) }
     ensures { IfOk result (λ part. part ≡ group.partial asking.now (numbered_all (kept.in_pieces pieces.now))) }
 {
     let mut part = Partial::new(alloc, asking)?;
-    let mut every = EveryRow::new(alloc)?;
-    for piece in pieces {
-        take_piece(alloc, asking, piece, &mut every, &mut part)?;
-    }
+    take_pieces(alloc, asking, pieces, &mut part)?;
     Ok(part)
 }
 

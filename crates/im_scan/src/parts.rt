@@ -9,14 +9,16 @@ ghost use Rattle.im_group.specs.Partials as group;
 ghost use Rattle.im_scan.specs.Faces.{Shows, unit_of};
 ghost use Rattle.im_scan.specs.Parts.{MayAsk, MayAskShown, part_of, taken_row};
 ghost use Rattle.im_scan.specs.Pinned.{IsPinned, seen_in};
+ghost use Rattle.im_scan.specs.inner.Lying.{LieIn};
 ghost use Rattle.im_scan.specs.inner.Steps.{GoesOnBy, MayScan, lent, numbered, numbered_from};
 ghost use Rattle.im_scan.specs.inner.Walk.{lent_beside, standing};
 
-use crate::beside::beside;
+use crate::beside::{RowsBeside, beside};
 use crate::by_columns::column_part;
 use crate::faces::Face;
-use crate::in_place::{handles, part_in_place};
+use crate::in_place::{handles, part_in_place, part_of_pieces};
 use crate::kept::{begins_by, kept_in};
+use crate::left::are_between;
 use crate::slots::{gather, has_own, rows_of};
 use crate::walking::walked;
 use im_group::{Asking, Partial};
@@ -126,27 +128,75 @@ fn walked_part(
     walked(alloc, asking, &kept, beside, first, count)
 }
 
+/// What the rows beside a unit give that is not gone over. None where they do not lie in pieces, or are not of rising row numbers
+/// among these.
+fn pieces_part(
+    alloc: Global,
+    asking: &Asking<'_>,
+    beside: RowsBeside<'_, '_>,
+    first: u64,
+    count: u64,
+) -> Result<Option<Partial>, NoMemory>
+    requires within { first + count < 2 ^ 64 }
+    requires lie { LieIn beside }
+    requires beside_fits { AllByRecursion (λ row. MayAsk asking.now row.1) (lent_beside beside.rows.now) }
+    ensures { IfOk result (λ part. ForSome part (λ part.
+        part ≡ group.partial asking.now (present (standing None (lent_beside beside.entry.rows.now)) first count))) }
+{
+    let Some(pieces) = beside.pieces else {
+        return Ok(None);
+    };
+    if !are_between(beside.rows, first, first + count) {
+        return Ok(None);
+    }
+    let part = part_of_pieces(alloc, asking, pieces)?;
+    Ok(Some(part))
+}
+
+/// What stands in an extent whose unit is not gone over.
+fn pruned_part(
+    alloc: Global,
+    face: Face<'_>,
+    asking: &Asking<'_>,
+    beside: RowsBeside<'_, '_>,
+    first: u64,
+    count: u64,
+) -> Result<Option<Partial>, NoMemory>
+    requires within { first + count < 2 ^ 64 }
+    requires pruned { unit_of face ≡ None }
+    requires lie { LieIn beside }
+    requires beside_fits { AllByRecursion (λ row. MayAsk asking.now row.1) (lent_beside beside.rows.now) }
+    ensures { IfOk result (λ part. ForSome part (λ part.
+        part ≡ group.partial asking.now (present (standing (unit_of face.entry) (lent_beside beside.entry.rows.now)) first count))) }
+{
+    match pieces_part(alloc, asking, beside, first, count)? {
+        Some(part) => Ok(Some(part)),
+        None => walked_part(alloc, face, asking, beside.rows, first, count),
+    }
+}
+
 /// The same, by the columns of the unit where these answer the query, and else by a walk. None too where there is no unit.
 fn standing_part(
     alloc: Global,
     face: Face<'_>,
     asking: &Asking<'_>,
-    beside: &[LentRow<'_>],
+    beside: RowsBeside<'_, '_>,
     first: u64,
     count: u64,
 ) -> Result<Option<Partial>, NoMemory>
     requires within { first + count < 2 ^ 64 }
     requires fits { ForSome (unit_of face) (λ content. AllByRecursion (MayAsk asking.now) content.rows) }
-    requires beside_fits { AllByRecursion (λ row. MayAsk asking.now row.1) (lent_beside beside.now) }
+    requires lie { LieIn beside }
+    requires beside_fits { AllByRecursion (λ row. MayAsk asking.now row.1) (lent_beside beside.rows.now) }
     ensures { IfOk result (λ part. ForSome part (λ part.
-        part ≡ group.partial asking.now (present (standing (unit_of face.entry) (lent_beside beside.now)) first count))) }
+        part ≡ group.partial asking.now (present (standing (unit_of face.entry) (lent_beside beside.entry.rows.now)) first count))) }
 {
     match face {
         Face::Bare => Ok(None),
-        Face::Edges(_) => walked_part(alloc, face, asking, beside, first, count),
+        Face::Edges(_) => pruned_part(alloc, face, asking, beside, first, count),
         Face::Whole(unit) => match column_part(alloc, asking, unit, beside, first, count)? {
             Some(part) => Ok(Some(part)),
-            None => walked_part(alloc, face, asking, beside, first, count),
+            None => walked_part(alloc, face, asking, beside.rows, first, count),
         },
     }
 }
@@ -187,7 +237,13 @@ fn beside_part(
         part ≡ group.partial asking.now (present (taken_row (unit_of face.entry) fetched.now view.now) first count))) }
 {
     match beside(alloc, fetched, view, first, count)? {
-        Some(rows) => standing_part(alloc, face, asking, rows.as_slice(), first, count),
+        Some(rows) => {
+            let beside = RowsBeside {
+                rows: rows.as_slice(),
+                pieces: None,
+            };
+            standing_part(alloc, face, asking, beside, first, count)
+        }
         None => Ok(None),
     }
 }
@@ -233,7 +289,11 @@ fn lent_part(
         return Ok(None);
     }
     let rows = fetched.lent(alloc)?;
-    standing_part(alloc, face, asking, rows.as_slice(), first, count)
+    let beside = RowsBeside {
+        rows: rows.as_slice(),
+        pieces: Some(fetched.pieces()),
+    };
+    standing_part(alloc, face, asking, beside, first, count)
 }
 
 /// What an extent gives of which not every row was fetched, or that the view has changed.

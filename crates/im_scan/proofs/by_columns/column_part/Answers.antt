@@ -14,5 +14,5 @@ returns c =
     let begins : unit.first ≡ c.args.first = omega (arith, c.if-first.false, c.first.ensures) in
     IfOk-weaker c.left_part.result _ _
     (λ found some part is. some part is
-    ∙ ap (λ n. partial c.args.asking.now (present (standing (Some unit) (lent_beside c.args.beside.now)) n c.args.count)) begins)
+    ∙ ap (λ n. partial c.args.asking.now (present (standing (Some unit) (lent_beside c.args.beside.rows.now)) n c.args.count)) begins)
     c.left_part.ensures

@@ -23,13 +23,13 @@ pub chosen_part-requires : goal.chosen_part-requires
 chosen_part-requires c =
     let unit = c.args.unit.now in
     ap length c.in_ok-spots.ensures
-    ∙ length-where (is_left (unit.first + c.args.count) c.args.beside.now) (keeps c.bound.result.now.filter) unit.first unit.rows
+    ∙ length-where (is_left (unit.first + c.args.count) c.args.beside.rows.now) (keeps c.bound.result.now.filter) unit.first unit.rows
 
 pub take_beside-requires-clause-few : goal.take_beside-requires-clause-few
 take_beside-requires-clause-few c =
     let bound = c.args.asking.now in
     let unit = c.args.unit.now in
-    let beside = c.args.beside.now in
+    let beside = c.args.beside.rows.now in
     let end = unit.first + c.args.count in
     subst (λ n. HasRoomFor bound n c.in-Some.part) (length-lent beside)
     (left-room bound unit (lent_beside beside) c.args.count c.in_ok-spots.spots c.in-Some.part
@@ -43,7 +43,7 @@ pub returns : goal.returns
 returns c found is =
     let bound = c.args.asking.now in
     let unit = c.args.unit.now in
-    let beside = c.args.beside.now in
+    let beside = c.args.beside.rows.now in
     let end = unit.first + c.args.count in
     sym (some-inj is)
     ∙ left-whole bound unit (lent_beside beside) c.args.count c.requires.grouped c.in_ok-spots.spots c.in-Some.part c.take_beside.new.part

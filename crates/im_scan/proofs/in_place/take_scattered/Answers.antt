@@ -1,17 +1,13 @@
-use Rattle.std.proofs.Common.{◌<◌, length, slice_index_or, subst, arith}
-use Rattle.std.proofs.lemmas.Option.{slice_get-get_or}
-use Rattle.im_scan.proofs.PieceLemmas.{each-more, few-each}
+use Rattle.std.proofs.Common.{◌≡◌, map, true, None, ap, sym, ◌∙◌}
+use Rattle.std.specs.Prelude.{replicate}
+use Rattle.im_group.specs.Partials.{keeps}
+use Rattle.im_scan.proofs.KeptPlaces.{all-true}
 use Rattle.im_scan.proofs.in_place.take_scattered.Goals as goal
 
-pub take_at-requires-clause-few : goal.take_at-requires-clause-few
-take_at-requires-clause-few c =
-    few-each c.args.asking.now c.args.rids.now c.loop-at.at c.args.rows.now c.args.part.now c.loop-at.part c.requires.long c.requires.few
-    (subst (λ n. c.loop-at.at < n) c.len-at-end.ensures c.loop-at-test.true) c.loop-at.invariant
-
-pub loop-at-preserved : goal.loop-at-preserved
-loop-at-preserved c =
-    let rids = c.args.rids.now in
-    let at = c.loop-at.at in
-    let inside : at < length rids = omega (arith, c.loop-at-test.true, c.len-at-end.ensures, c.requires.long) in
-    each-more c.args.asking.now rids at (slice_index_or rids at 0) c.args.rows.now c.args.part.now c.loop-at.part c.take_at.new.part c.requires.long
-    (slice_get-get_or rids at 0 inside) c.loop-at.invariant c.in_ok-take_at.ensures
+pub take_picked-requires-in-None-clause-mask : goal.take_picked-requires-in-None-clause-mask
+take_picked-requires-in-None-clause-mask c =
+    let none : c.args.asking.now.filter ≡ None = sym (ap (λ b. b.filter) c.bound.ensures) ∙ c.in-None.is in
+    c.mask-in-None.ensures
+    ∙ (c.in_ok-fit-in-None.ensures
+    ∙ (ap (λ n. replicate n true) c.len-in-None.ensures
+    ∙ (all-true c.args.rows.now ∙ ap (λ filter. map (keeps filter) c.args.rows.now) (sym none))))

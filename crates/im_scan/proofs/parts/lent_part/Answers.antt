@@ -1,6 +1,9 @@
-use Rattle.std.proofs.Common.{◌≡◌, ◌∙◌, ap, sym, subst}
+use Rattle.std.proofs.Common.{◌≡◌, ◌∙◌, All, List, ap, sym, subst}
+use denote.Ref.{Bor}
 use Rattle.std.specs.List.{AllByRecursion}
 use Rattle.std.proofs.lemmas.Result.{IfOk-weaker}
+use Rattle.im_history.specs.declared.fetched.Piece.{Piece}
+use Rattle.im_history.specs.Fetched.{HasNumbers, in_pieces}
 use Rattle.im_history.specs.Rows.{present}
 use Rattle.im_group.specs.Partials.{partial}
 use Rattle.im_scan.specs.Faces.{unit_of}
@@ -9,6 +12,7 @@ use Rattle.im_scan.specs.inner.Beside.{Beside}
 use Rattle.im_scan.specs.inner.Walk.{lent_beside, standing}
 use Rattle.im_scan.proofs.BesideLemmas.{fetched-beside}
 use Rattle.im_scan.proofs.PartLemmas.{beside-part}
+use Rattle.im_scan.proofs.PieceLemmas.{some-inj}
 use Rattle.im_scan.proofs.parts.lent_part.Goals as goal
 
 pub standing_part-requires-clause-beside_fits : goal.standing_part-requires-clause-beside_fits
@@ -32,3 +36,9 @@ returns c =
     ∙ beside-part unit fetched view first count (lent_beside rows.items)
     (fetched-beside fetched view first count (lent_beside rows.items) (c.has_own.ensures c.if-has_own.false) c.in_ok-rows.ensures)))
     c.standing_part.ensures
+
+pub standing_part-requires-clause-lie : goal.standing_part-requires-clause-lie
+standing_part-requires-clause-lie c pieces is =
+    let same : lent_beside c.as_slice.result.now ≡ c.args.fetched.now = ap lent_beside c.as_slice.ensures.value ∙ c.in_ok-rows.ensures in
+    subst (λ (lying : Bor (List Piece)). All HasNumbers lying.now × (in_pieces lying.now ≡ lent_beside c.as_slice.result.now)) (some-inj is)
+    (c.pieces.ensures.numbers, c.pieces.ensures.pieces ∙ sym same)

@@ -5,7 +5,7 @@ use Rattle.im_scan.specs.inner.Steps.{GoesOnBy}
 use Rattle.im_scan.specs.inner.Walk.{lent_beside}
 use Rattle.im_scan.proofs.FitLemmas.{beside-fits}
 use Rattle.im_scan.proofs.LeftPart.{beside-more, few-beside}
-use Rattle.im_scan.proofs.by_columns.take_beside.Goals as goal
+use Rattle.im_scan.proofs.by_columns.take_lent.Goals as goal
 
 pub take_row-requires : goal.take_row-requires
 take_row-requires c = record {
