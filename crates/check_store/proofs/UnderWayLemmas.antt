@@ -1,22 +1,25 @@
--- A build that is under way while a session goes on is still the number's own, and its unit is still what it was to be.
-use Rattle.std.proofs.Common.{◌≡◌, ℕ, ◌==◌, ◌-◌, ◌*◌, true, false, List, [], ◌∷◌, ◌++◌, length, map, Option, Some, None, refl, sym, ap, ap₂, ◌∙◌, subst, append-nil, arith}
-use Rattle.std.specs.Prelude.{⊤}
+-- A build that is under way while others go on is still the number's own, and its unit is still what it was to be.
+use Rattle.std.proofs.Common.{◌≡◌, ℕ, ◌==◌, ◌-◌, ◌*◌, true, false, List, [], ◌∷◌, ◌++◌, length, map, Option, Some, None, refl, sym, ap, ap₂, ◌∙◌, subst, append-nil, append_assoc, arith}
+use Rattle.std.specs.Prelude.{⊤, is_some}
+use Rattle.std.specs.Option.{ForSome, option_map}
 use Rattle.std.proofs.lemmas.Bool.{true≢false}
 use Rattle.std.proofs.lemmas.List.{length-map}
-use Rattle.std.proofs.lemmas.List.Elements.{All-nil, All-weaker}
-use Rattle.check_store.specs.Going.{IsUnderWay, WentOn}
-use Rattle.im_core.specs.Answers.{task_fetched}
+use Rattle.std.proofs.lemmas.List.Elements.{All-append, All-nil, All-weaker}
+use Rattle.check_store.specs.Going.{IsUnderWay, WentBeside, WentOn}
+use Rattle.im_core.specs.Tasks.{task_fetched, task_lent}
 use Rattle.im_history.specs.declared.entry.Entry.{Entry}
 use Rattle.im_history.specs.declared.task.Choice.{Choice}
 use Rattle.im_history.specs.declared.task.Task.{Task}
-use Rattle.im_history.specs.Legal.{IsLawful}
+use Rattle.im_history.specs.History.{History}
+use Rattle.im_history.specs.Legal.{Exists, IsLawful}
 use Rattle.im_history.specs.Queue.{build_of, next, task_of}
 use Rattle.im_history.specs.Rows.{Row}
 use Rattle.im_history.specs.Units.{Content, IsOwn, task_content}
+use Rattle.im_history.proofs.HeldLaws.{held-within}
 use Rattle.im_history.proofs.UnitLaws.{held-nil}
 use Rattle.im_plan.specs.Goes.{After}
 use Rattle.im_reach.specs.Sides.{Added, AreOthers, Found, Known, StoreSide, speaks}
-use Rattle.im_worker.specs.inner.Good.{content_from, nones}
+use Rattle.im_worker.specs.inner.Good.{content_built, content_from, nones}
 use Rattle.im_worker.specs.inner.Rests.{Went}
 use Rattle.im_worker.specs.inner.Standing.{Stands}
 use Rattle.im_worker.proofs.BeginLemmas.{just-of, stands-read}
@@ -34,30 +37,69 @@ seen_by who now = record now { side = side_of who }
 nobody : (side : StoreSide) → AreOthers side []
 nobody side = record { alone = λ alone. refl; apart = All-nil (λ (entry : Entry). speaks side entry.who ≡ false) }
 
--- entries of session 1 are those of others
-others-of : (who : ℕ) → (who == 1) ≡ false → (old new : Known) → WentOn 1 old new → After (AreOthers (side_of who)) old.log new.log
-others-of who apart old new went = record {
+-- what holds for each thing that there is holds where there is one
+pub where_some : {X : Type 0} (P : Type 0) (o : Option X) → is_some o ≡ true → ForSome o (λ x. P) → P
+where_some P None is each = absurd (true≢false (sym is))
+where_some P (Some x) is each = each x refl
+
+-- where there is none, nothing is made of it
+pub none_mapped : {X Y : Type 0} (f : X → Y) (o : Option X) → is_some o ≡ false → option_map f o ≡ None
+none_mapped f None is = refl
+none_mapped f (Some x) is = absurd (true≢false is)
+
+-- entries of another number are those of others
+pub went-beside : (who other : ℕ) → (who == other) ≡ false → (old new : Known) → WentOn other old new → WentBeside who old new
+went-beside who other apart old new went = record {
+  kept = went.kept;
+  more = went.more;
+  apart =
+      All-weaker (λ (entry : Entry). entry.who ≡ other) (λ (entry : Entry). (who == entry.who) ≡ false)
+      (λ entry is. ap (λ (n : ℕ). who == n) is ∙ apart) went.more went.own;
+  log = went.log;
+}
+
+pub beside-none : (who : ℕ) (now : Known) → WentBeside who now now
+beside-none who now = record {
+  kept = refl;
+  more = [];
+  apart = All-nil (λ (entry : Entry). (who == entry.who) ≡ false);
+  log = sym (append-nil now.log);
+}
+
+pub beside-both : (who : ℕ) (old mid new : Known) → WentBeside who old mid → WentBeside who mid new → WentBeside who old new
+beside-both who old mid new first second = record {
+  kept = second.kept ∙ ap (λ (k : Known). record k { log = new.log }) first.kept;
+  more = first.more ++ second.more;
+  apart = All-append (λ (entry : Entry). (who == entry.who) ≡ false) first.more second.more first.apart second.apart;
+  log = second.log ∙ (ap (λ (h : History). h ++ second.more) first.log ∙ append_assoc old.log first.more second.more);
+}
+
+others-of : (who : ℕ) → (old new : Known) → WentBeside who old new → After (AreOthers (side_of who)) old.log new.log
+others-of who old new went = record {
   between = went.more;
   lawful = record {
     alone = λ never. absurd (true≢false (sym never));
-    apart =
-        All-weaker (λ (entry : Entry). entry.who ≡ 1) (λ (entry : Entry). speaks (side_of who) entry.who ≡ false)
-        (λ entry is. ap (λ (n : ℕ). who == n) is ∙ apart) went.more went.own;
+    apart = went.apart;
   };
   log = went.log;
 }
 
--- nobody has a build where nothing has happened, nor where session 1 alone went on since then
-pub stands-none : (who : ℕ) → (who == 1) ≡ false → (who == who) ≡ true → (old new : Known) → old.log ≡ [] → WentOn 1 old new
+-- a number that has no build has none where others alone went on
+pub stands-on : (who : ℕ) → (who == who) ≡ true → (old new : Known) → Stands who [] [] old.log → WentBeside who old new
     → IsLawful new.limits new.log → Stands who [] [] new.log
-stands-none who apart mine old new empty went lawful =
-    stands-after new.limits (side_of who) who [] [] old.log new.log mine lawful.legal (others-of who apart old new went)
-    (subst (Stands who [] []) (sym empty) (record { tasks = ap (mine_of who) held-nil; own = tt; ready = tt }))
+stands-on who mine old new stands went lawful =
+    stands-after new.limits (side_of who) who [] [] old.log new.log mine lawful.legal (others-of who old new went) stands
 
--- a build began: it is under way once session 1 went on
+-- nobody has a build where nothing has happened, nor where others alone went on since then
+pub stands-none : (who : ℕ) → (who == who) ≡ true → (old new : Known) → old.log ≡ [] → WentBeside who old new
+    → IsLawful new.limits new.log → Stands who [] [] new.log
+stands-none who mine old new empty went lawful =
+    stands-on who mine old new (subst (Stands who [] []) (sym empty) (record { tasks = ap (mine_of who) held-nil; own = tt; ready = tt })) went lawful
+
+-- a build began: it is under way once others went on
 pub begun-under_way : (who : ℕ) → (old mid now : Known) (task : Task) (choice : Choice) → speaks old.side who ≡ true → IsLawful mid.limits mid.log
     → Stands who [] [] old.log → Added old mid who (λ at. build_of at choice) (λ at. (next at ≡ Some choice) × (task ≡ task_of at choice))
-    → WentOn 1 mid now → IsUnderWay who task now
+    → WentBeside who mid now → IsUnderWay who task now
 begun-under_way who old mid now task choice mine lawful stands added went = record {
   begun = mid;
   just = just-of who old mid task choice lawful added;
@@ -68,36 +110,52 @@ begun-under_way who old mid now task choice mine lawful stands added went = reco
     still : Went mid mid
     still = record { after = record { between = []; lawful = nobody mid.side; log = sym (append-nil mid.log) }; now = refl }
 
+-- and it is so still once others went on
+pub under_way-on : (who : ℕ) (task : Task) (now new : Known) → IsUnderWay who task now → WentBeside who now new → IsUnderWay who task new
+under_way-on who task now new under went = record {
+  begun = under.begun;
+  just = under.just;
+  stands = under.stands;
+  went = beside-both who under.begun now new under.went went;
+}
+
 -- it is its own
-pub under_way-own : (who : ℕ) → (who == 1) ≡ false → (who == who) ≡ true → (task : Task) (now : Known) → IsLawful now.limits now.log
+pub under_way-own : (who : ℕ) → (who == who) ≡ true → (task : Task) (now : Known) → IsLawful now.limits now.log
     → IsUnderWay who task now → IsOwn now.log who task
-under_way-own who apart mine task now lawful under =
+under_way-own who mine task now lawful under =
     own-last now.limits now.log who [] task lawful.legal
-    (stands-after now.limits (side_of who) who [] (task ∷ []) under.begun.log now.log mine lawful.legal (others-of who apart under.begun now under.went)
+    (stands-after now.limits (side_of who) who [] (task ∷ []) under.begun.log now.log mine lawful.legal (others-of who under.begun now under.went)
     under.stands)
 
--- what is read of it now is what its unit is to hold
-pub under_way-content : (who : ℕ) → (who == 1) ≡ false → (who == who) ≡ true → (task : Task) (now : Known) (fetched : List (ℕ × Option Row))
-    (content : Content) → IsLawful now.limits now.log → IsUnderWay who task now → fetched ≡ task_fetched now.log task
-    → content ≡ content_from task fetched → content ≡ task_content now.log task
-under_way-content who apart mine task now fetched content lawful under read is =
-    content-found who task (seen_by who under.begun) (seen_by who now) (λ at. ⊤) fetched content mine
+-- it is of a table that there is
+pub under_way-exists : (who : ℕ) → (who == who) ≡ true → (task : Task) (now : Known) → IsLawful now.limits now.log
+    → IsUnderWay who task now → Exists now.log task.table
+under_way-exists who mine task now lawful under =
+    let own = under_way-own who mine task now lawful under in
+    subst (λ (t : Task). Exists now.log t.table) own.same (held-within now.limits now.log task.id own.held lawful.legal own.is).exists
+
+-- where no unit is lent to it, what is read of it now is what its unit is to hold
+pub under_way-content : (who : ℕ) → (who == who) ≡ true → (task : Task) (now : Known) (lent : Option Content)
+    (fetched : List (ℕ × Option Row)) (content : Content) → IsLawful now.limits now.log → IsUnderWay who task now → lent ≡ task_lent now.log task
+    → fetched ≡ task_fetched now.log task → lent ≡ None → content ≡ content_from task fetched → content ≡ task_content now.log task
+under_way-content who mine task now lent fetched content lawful under lent_is read none is =
+    content-found who task (seen_by who under.begun) (seen_by who now) (λ at. ⊤) lent fetched content mine
     (record { at = under.just.at; choice = under.just.choice; log = under.just.log; is = under.just.is; lawful = under.just.lawful }) lawful
-    found read is
+    found lent_is read (is ∙ ap (λ (unit : Option Content). content_built task unit fetched) (sym none))
   where
     found : Found (seen_by who under.begun) (seen_by who now) (λ at. ⊤)
     found = record {
       at = now.log;
-      after = others-of who apart under.begun now under.went;
+      after = others-of who under.begun now under.went;
       now = ap (seen_by who) under.went.kept;
       fact = tt;
     }
 
 -- where as many rows were read as the extent has, they are all that its unit is to hold
 pub unit-whole : (task : Task) (fetched : List (ℕ × Option Row)) (list : List (Option Row)) → list ≡ map (λ found. found.1) fetched → task.extent ≡ 0
-    → task.per ≡ 2 → task.columns ≡ 1 → length list ≡ 2
+    → task.columns ≡ 1 → length list ≡ task.per
     → ◌≡◌ {A = Content} (record { scn = task.scn; first = 0; columns = 1; rows = list }) (content_from task fetched)
-unit-whole task fetched list is extent per columns count =
+unit-whole task fetched list is extent columns count =
     ap (λ (rows : List (Option Row)). content 0 1 rows) (sym (ap (λ (n : ℕ). rows_so n) left ∙ (whole ∙ sym is)))
     ∙ ap₂ (λ (first columns : ℕ). content first columns (rows_so (task.per - length fetched))) first_is (sym columns)
   where
@@ -113,11 +171,11 @@ unit-whole task fetched list is extent per columns count =
     whole : rows_so 0 ≡ found
     whole = ap (λ (list : List (Option Row)). found ++ list) nones_none ∙ append-nil found
 
-    read : length fetched ≡ 2
+    read : length fetched ≡ task.per
     read = sym (length-map fetched (λ (pair : ℕ × Option Row). pair.1)) ∙ (ap (λ (l : List (Option Row)). length l) (sym is) ∙ count)
 
     left : task.per - length fetched ≡ 0
-    left = omega (arith, per, read)
+    left = omega (arith, read)
 
     none : 0 * task.per ≡ 0
     none = omega arith

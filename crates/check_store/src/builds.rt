@@ -1,7 +1,7 @@
 ghost use Rattle.std.specs.Bool.{OnTrue};
-ghost use Rattle.std.specs.Prelude.{◌≡◌, ◌<◌, [], length, map, All, IfOk};
+ghost use Rattle.std.specs.Prelude.{◌≡◌, ◌<◌, [], is_some, length, map, true, All, IfOk};
 ghost use Rattle.std.specs.Option.{ForSome};
-ghost use Rattle.check_store.specs.Going.{IsUnderWay, WentOn};
+ghost use Rattle.check_store.specs.Going.{IsStage, IsUnderWay, WentOn};
 ghost use Rattle.im_column.specs.Forms.{IsShort};
 ghost use Rattle.im_history.specs.Legal.{IsLawful};
 ghost use Rattle.im_reach.specs.Sides.{sole};
@@ -19,7 +19,7 @@ use im_reach::{Reach, Sole};
 use im_replies::{Body, How, Records, Reply};
 use im_session::Session;
 use im_unit::ColumnUnit;
-use im_values::limits::{MOST_CHANGES, MOST_WEIGHT};
+use im_values::limits::{MOST_CHANGES, MOST_WEIGHT, NUMBERS};
 use im_values::{NoMemory, Row, Steps, Value};
 use std::alloc::Global;
 use std::marker::Brand;
@@ -30,6 +30,13 @@ use std::thread::Threads;
 
 /// The number that begins builds.
 const BUILDER: u32 = 17;
+
+/// Another one, and the ones that go on while it holds a build.
+const SLOW_BUILDER: u32 = 18;
+
+const FAST_BUILDER: u32 = 19;
+
+const EVICTOR: u32 = 20;
 
 /// Whether a row, where there is one, has one number.
 fn has_one_number(row: &Option<Row>) -> bool
@@ -58,39 +65,72 @@ fn rows_of(alloc: Global, fetched: Fetched) -> Result<Vec<Option<Row>>, NoMemory
     Ok(rows)
 }
 
-/// The unit of a build of extent 0, of two row numbers and one column, from what was read for it. Where it is of another shape, or
-/// out of memory, there is none.
+/// The unit of a build of extent 0, of four row numbers at most and one column, from what was read for it where no unit was lent.
+/// Where it is of another shape, or out of memory, there is none.
 fn unit_of(alloc: Global, task: &Task, fetched: Fetched) -> Result<Arc<ColumnUnit>, NoMemory>
     ensures { IfOk result (λ unit. unit.value ≡ content_from task.now fetched) }
 {
     let rows = rows_of(alloc, fetched)?;
-    if task.extent != 0 || task.per != 2 || task.columns != 1 || rows.len() != 2 {
+    if task.extent != 0 || task.columns != 1 || rows.len() > 4 || rows.len() as u64 != task.per {
         return Err(NoMemory);
     }
     let unit = ColumnUnit::build(alloc, task.scn, 0, 1, rows.as_slice())?;
     Ok(Arc::new(alloc, unit)?)
 }
 
-/// Reads the rows of a build, makes its unit and brings it into use. It answers how many bytes of the area are used then.
+/// Begins the build that comes next, under a number that holds none.
+fn begin<R: Wait, H: Reach<ColumnUnit>>(
+    outside: &Outside<R, OpenGate>,
+    store: &mut H,
+    who: u32,
+) -> Option<Task>
+    requires session { who < NUMBERS }
+    requires sole { (H.known store.old).side ≡ sole }
+    requires stands { Stands who [] [] (H.known store.old).log }
+    ensures under_way { ForSome result (λ task. IsUnderWay who task (H.known store.new)) }
+    ensures went { ForSome result (λ task. WentOn who (H.known store.old) (H.known store.new)) }
+{
+    let Ok(offer) = store.build(outside.rt, who) else {
+        return None;
+    };
+    match offer {
+        Offer::Task(task) => Some(task),
+        Offer::Idle { .. } => None,
+    }
+}
+
+/// Reads the rows of a build that no unit is lent to, makes its unit and brings it into use, where it is not dead.
 fn finish<R: Wait, H: Reach<ColumnUnit>, L: Ledger>(
     outside: &Outside<R, OpenGate>,
     store: &mut H,
+    who: u32,
     task: Task,
     steps: &mut Steps<L>,
-) -> Option<u64>
+) -> Option<Switched<ColumnUnit>>
+    requires session { who < NUMBERS }
     requires sole { (H.known store.old).side ≡ sole }
     requires lawful { IsLawful (H.known store.old).limits (H.known store.old).log }
-    requires under_way { IsUnderWay BUILDER task (H.known store.old) }
-    ensures { ForSome result (λ used. WentOn BUILDER (H.known store.old) (H.known store.new)) }
+    requires under_way { IsUnderWay who task (H.known store.old) }
+    ensures { ForSome result (λ switched. WentOn who (H.known store.old) (H.known store.new)) }
 {
-    let Ok(pin) = store.read_task(outside.rt, BUILDER, &task, steps) else {
+    let Ok(pin) = store.read_task(outside.rt, who, &task, steps) else {
         return None;
     };
+    if pin.unit.is_some() {
+        return None;
+    }
     let Ok(unit) = unit_of(outside.alloc, &task, pin.fetched) else {
         return None;
     };
-    match store.switch(outside.rt, BUILDER, task, unit) {
-        Switched::Done { used, .. } => Some(used),
+    Some(store.switch(outside.rt, who, task, unit))
+}
+
+/// How many bytes of the area are used behind a switch that brought its unit into use.
+fn used_by(switched: Option<Switched<ColumnUnit>>) -> Option<u64>
+    ensures { ForSome result (λ used. is_some switched ≡ true) }
+{
+    match switched {
+        Some(Switched::Done { used, .. }) => Some(used),
         _ => None,
     }
 }
@@ -120,16 +160,12 @@ fn build_behind<R: Wait, H: Reach<ColumnUnit>, L: Ledger>(
     ensures sole { ForSome result (λ used. (H.known store.new).side ≡ sole) }
     ensures agrees { ForSome result (λ used. Agrees session.new (H.known store.new)) }
 {
-    let Ok(offer) = store.build(outside.rt, BUILDER) else {
+    let Some(task) = begin(outside, store, BUILDER) else {
         return None;
-    };
-    let task = match offer {
-        Offer::Task(task) => task,
-        Offer::Idle { .. } => return None,
     };
     drop(play_each(outside, store, session, lines, steps));
     look_on(outside, store);
-    finish(outside, store, task, steps)
+    used_by(finish(outside, store, BUILDER, task, steps))
 }
 
 /// Whether an extent was served by the unit of SCN 2, and so many rows by the blocks.
@@ -201,8 +237,220 @@ fn serves_both<R: Wait, H: Reach<ColumnUnit>, L: Ledger>(
     used > 0 && says(&present, 3, 1, 50) && says(&past, 2, 0, 30)
 }
 
-/// The same over a store that nothing has happened in.
-fn serves_anew<R: Threads + Wait, L: Ledger>(rt: &R, alloc: Global, blank: Blank) -> bool
+/// Builds the unit that comes next, under a number that holds no build.
+fn build_now<R: Wait, H: Reach<ColumnUnit>, L: Ledger>(
+    outside: &Outside<R, OpenGate>,
+    store: &mut H,
+    who: u32,
+    steps: &mut Steps<L>,
+) -> Option<u64>
+    requires session { who < NUMBERS }
+    requires sole { (H.known store.old).side ≡ sole }
+    requires stands { Stands who [] [] (H.known store.old).log }
+    ensures { ForSome result (λ used. WentOn who (H.known store.old) (H.known store.new)) }
+{
+    let Some(task) = begin(outside, store, who) else {
+        return None;
+    };
+    look_on(outside, store);
+    used_by(finish(outside, store, who, task, steps))
+}
+
+/// Whether a row is of this one number.
+fn is_of(row: &Option<Row>, number: i64) -> bool {
+    match row {
+        Some(row) => matches!(row.values(), [Value::Int(value)] if *value == number),
+        None => false,
+    }
+}
+
+/// Whether the rows that were fetched are of these numbers.
+fn are_of(alloc: Global, fetched: Fetched, numbers: &[i64]) -> bool {
+    let Ok(rows) = fetched.into_rows(alloc) else {
+        return false;
+    };
+    if rows.len() != numbers.len() {
+        return false;
+    }
+    let mut same = true;
+    for i in 0..numbers.len() {
+        same = same && is_of(&rows[i], numbers[i]);
+    }
+    same
+}
+
+/// Whether a unit is lent to a build, or none, and rows of these numbers are fetched for it.
+fn reads<R: Wait, H: Reach<ColumnUnit>, L: Ledger>(
+    outside: &Outside<R, OpenGate>,
+    store: &mut H,
+    task: &Task,
+    is_lent: bool,
+    numbers: &[i64],
+    steps: &mut Steps<L>,
+) -> bool
+    requires sole { (H.known store.old).side ≡ sole }
+    requires lawful { IsLawful (H.known store.old).limits (H.known store.old).log }
+    requires under_way { IsUnderWay SLOW_BUILDER task.now (H.known store.old) }
+    ensures { H.known store.new ≡ H.known store.old }
+{
+    let Ok(pin) = store.read_task(outside.rt, SLOW_BUILDER, task, steps) else {
+        return false;
+    };
+    let lends = pin.unit.is_some() == is_lent;
+    are_of(outside.alloc, pin.fetched, numbers) && lends
+}
+
+/// Evicts the unit of a build's extent. It answers the place of the entry.
+fn evict_of<R: Wait, H: Reach<ColumnUnit>>(
+    outside: &Outside<R, OpenGate>,
+    store: &mut H,
+    task: &Task,
+) -> Option<u64>
+    requires sole { (H.known store.old).side ≡ sole }
+    requires lawful { IsLawful (H.known store.old).limits (H.known store.old).log }
+    requires under_way { IsUnderWay SLOW_BUILDER task.now (H.known store.old) }
+    ensures { ForSome result (λ place. WentOn EVICTOR (H.known store.old) (H.known store.new)) }
+{
+    match store.evict(outside.rt, EVICTOR, task.table, task.extent) {
+        Ok(evicted) => Some(evicted.place),
+        Err(_) => None,
+    }
+}
+
+/// A table whose one extent has four rows, at SCN 2.
+const FOUR_ROWS: [&str; 3] = [
+    "1> CREATE TABLE T (K NUMBER) BLOCK 2 EXTENT 2 INMEMORY PRIORITY HIGH",
+    "1> INSERT INTO T VALUES (10), (20), (30), (40)",
+    "1> COMMIT",
+];
+
+/// What comes behind its first unit, at SCN 3.
+const THIRD: [&str; 2] = ["1> UPDATE T SET K = 11 WHERE K = 10", "1> COMMIT"];
+
+/// What comes behind the evict of that unit, at SCN 4.
+const FOURTH: [&str; 2] = ["1> UPDATE T SET K = 22 WHERE K = 20", "1> COMMIT"];
+
+/// The four rows get a unit of SCN 2, and one of them is changed then.
+fn set_stage<R: Wait, H: Reach<ColumnUnit>, L: Ledger>(
+    outside: &Outside<R, OpenGate>,
+    store: &mut H,
+    session: &mut Session,
+    steps: &mut Steps<L>,
+) -> bool
+    requires session { session.old.who ≡ 1 }
+    requires sole { (H.known store.old).side ≡ sole }
+    requires agrees { Agrees session.old (H.known store.old) }
+    requires fresh { (H.known store.old).log ≡ [] }
+    ensures stage { OnTrue result (IsStage session.new (H.known store.new)) }
+    ensures slow { OnTrue result (Stands SLOW_BUILDER [] [] (H.known store.new).log) }
+    ensures fast { OnTrue result (Stands FAST_BUILDER [] [] (H.known store.new).log) }
+{
+    drop(play_each(outside, store, session, &FOUR_ROWS, steps));
+    look_on(outside, store);
+    let Some(_used) = build_now(outside, store, BUILDER, steps) else {
+        return false;
+    };
+    drop(play_each(outside, store, session, &THIRD, steps));
+    look_on(outside, store);
+    true
+}
+
+/// The slow builder begins a build at SCN 3: the unit of SCN 2 is lent to it, and the one row that was changed is fetched.
+fn begin_slow<R: Wait, H: Reach<ColumnUnit>, L: Ledger>(
+    outside: &Outside<R, OpenGate>,
+    store: &mut H,
+    steps: &mut Steps<L>,
+) -> Option<Task>
+    requires sole { (H.known store.old).side ≡ sole }
+    requires stands { Stands SLOW_BUILDER [] [] (H.known store.old).log }
+    ensures under_way { ForSome result (λ task. IsUnderWay SLOW_BUILDER task (H.known store.new)) }
+    ensures went { ForSome result (λ task. WentOn SLOW_BUILDER (H.known store.old) (H.known store.new)) }
+{
+    let Some(task) = begin(outside, store, SLOW_BUILDER) else {
+        return None;
+    };
+    look_on(outside, store);
+    if reads(outside, store, &task, true, &[11], steps) {
+        Some(task)
+    } else {
+        None
+    }
+}
+
+/// The extent loses its unit, a row is changed, and the fast builder brings a unit of SCN 4 into use. It answers the place of the evict.
+fn overtake<R: Wait, H: Reach<ColumnUnit>, L: Ledger>(
+    outside: &Outside<R, OpenGate>,
+    store: &mut H,
+    session: &mut Session,
+    task: &Task,
+    steps: &mut Steps<L>,
+) -> Option<u64>
+    requires stage { IsStage session.old (H.known store.old) }
+    requires under_way { IsUnderWay SLOW_BUILDER task.now (H.known store.old) }
+    requires stands { Stands FAST_BUILDER [] [] (H.known store.old).log }
+    ensures sole { ForSome result (λ place. (H.known store.new).side ≡ sole) }
+    ensures under_way { ForSome result (λ place. IsUnderWay SLOW_BUILDER task.now (H.known store.new)) }
+{
+    let Some(place) = evict_of(outside, store, task) else {
+        return None;
+    };
+    drop(play_each(outside, store, session, &FOURTH, steps));
+    look_on(outside, store);
+    let Some(_used) = build_now(outside, store, FAST_BUILDER, steps) else {
+        return None;
+    };
+    Some(place)
+}
+
+/// Whether the slow build is lent no unit, as the one that is there is newer, and reads all rows of SCN 3; and whether it is found dead
+/// then, killed at this place.
+fn ends_late<R: Wait, H: Reach<ColumnUnit>, L: Ledger>(
+    outside: &Outside<R, OpenGate>,
+    store: &mut H,
+    task: Task,
+    killed: u64,
+    steps: &mut Steps<L>,
+) -> bool
+    requires sole { (H.known store.old).side ≡ sole }
+    requires under_way { IsUnderWay SLOW_BUILDER task (H.known store.old) }
+{
+    look_on(outside, store);
+    let anew = reads(outside, store, &task, false, &[11, 20, 30, 40], steps);
+    let switched = finish(outside, store, SLOW_BUILDER, task, steps);
+    let dead = matches!(switched, Some(Switched::Cancelled { at, .. }) if at == killed);
+    anew && dead
+}
+
+/// Whether a build that was overtaken is made of the rows of its own SCN, and ends dead.
+fn overtakes<R: Wait, H: Reach<ColumnUnit>, L: Ledger>(
+    outside: &Outside<R, OpenGate>,
+    store: &mut H,
+    steps: &mut Steps<L>,
+) -> bool
+    requires sole { (H.known store.old).side ≡ sole }
+    requires fresh { (H.known store.old).log ≡ [] }
+{
+    let mut session = Session::new(outside.alloc, 1);
+    if !set_stage(outside, store, &mut session, steps) {
+        return false;
+    }
+    let Some(task) = begin_slow(outside, store, steps) else {
+        return false;
+    };
+    look_on(outside, store);
+    let Some(killed) = overtake(outside, store, &mut session, &task, steps) else {
+        return false;
+    };
+    ends_late(outside, store, task, killed, steps)
+}
+
+/// One of the two over a store that nothing has happened in.
+fn holds_anew<R: Threads + Wait, L: Ledger>(
+    rt: &R,
+    alloc: Global,
+    blank: Blank,
+    overtaken: bool,
+) -> bool
     requires name { blank.name ≡ L.name }
     requires parts { blank.parts ≡ L.parts }
     requires some { 0 < blank.parts }
@@ -222,19 +470,29 @@ fn serves_anew<R: Threads + Wait, L: Ledger>(rt: &R, alloc: Global, blank: Blank
         rt,
         gate: &OpenGate,
     };
-    let both = serves_both(&outside, &mut store, &mut steps);
+    let holds = if overtaken {
+        overtakes(&outside, &mut store, &mut steps)
+    } else {
+        serves_both(&outside, &mut store, &mut steps)
+    };
     drop(store);
-    both
+    holds
 }
 
-fn holds<R: Threads + Wait>(rt: &R, alloc: Global) -> bool {
-    serves_anew::<R, Brand>(rt, alloc, Blank::new(1))
+fn holds<R: Threads + Wait>(rt: &R, alloc: Global, overtaken: bool) -> bool {
+    holds_anew::<R, Brand>(rt, alloc, Blank::new(1), overtaken)
 }
 
 #[test]
 fn a_row_committed_before_a_build_is_read_is_stale_in_its_unit(
     rt: HostRuntime,
 ) -> Result<(), Fail> {
-    assert!(rt; holds(&rt, rt.alloc()));
+    assert!(rt; holds(&rt, rt.alloc(), false));
+    Ok(())
+}
+
+#[test]
+fn a_build_that_was_overtaken_is_made_of_the_rows_of_its_scn(rt: HostRuntime) -> Result<(), Fail> {
+    assert!(rt; holds(&rt, rt.alloc(), true));
     Ok(())
 }

@@ -53,7 +53,7 @@ lent-by content h kept table extent most of agrees is =
 -- ---- what a view is lent
 
 -- an SCN is lent
-record IsLent (o : Option ℕ) (most : ℕ) : Type 0 where
+pub record IsLent (o : Option ℕ) (most : ℕ) : Type 0 where
   pub at : ℕ
   pub is : o ≡ Some at
   pub lent : not_newer most o ≡ Some at
@@ -63,11 +63,11 @@ lent_if : (n most : ℕ) (b : Bool) (x : Content) (f : ℕ → Content) → nat_
 lent_if n most true x f e is = record { at = n; is = refl; lent = ap (λ (b : Bool). if b then Some n else None) e }
 lent_if n most false x f e is = cc
 
-lent-some : (o : Option ℕ) (most : ℕ) (x : Content) (f : ℕ → Content) → Some x ≡ option_map f (not_newer most o) → IsLent o most
+pub lent-some : (o : Option ℕ) (most : ℕ) (x : Content) (f : ℕ → Content) → Some x ≡ option_map f (not_newer most o) → IsLent o most
 lent-some None most x f is = cc
 lent-some (Some n) most x f is = lent_if n most (nat_le n most) x f refl is
 
-lent-none : (o : Option ℕ) (f : ℕ → Content) → None ≡ option_map f o → o ≡ None
+pub lent-none : (o : Option ℕ) (f : ℕ → Content) → None ≡ option_map f o → o ≡ None
 lent-none None f is = refl
 lent-none (Some n) f is = cc
 

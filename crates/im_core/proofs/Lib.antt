@@ -1,6 +1,7 @@
 mod BeginLemmas
 mod CountLemmas
 mod FetchLemmas
+pub mod ForCallers
 mod HoldsLemmas
 mod LendLemmas
 mod OpenLemmas

@@ -9,6 +9,7 @@ use Rattle.std.proofs.lemmas.List.{get_or_past, length-map}
 use Rattle.std.proofs.lemmas.List.FromFn.{get_or-map-range_with_len, length-range_with_len}
 use Rattle.std.proofs.lemmas.Map.Views.{any-filter_same}
 use Rattle.im_history.specs.declared.limits.Limits.{Limits}
+use Rattle.im_history.specs.declared.task.Task.{Task}
 use Rattle.im_history.specs.declared.view.View.{View}
 use Rattle.im_history.specs.Cursors.{Opened, cursor_at}
 use Rattle.im_history.specs.History.{History}
@@ -21,7 +22,9 @@ use Rattle.im_history.proofs.RowLaws.{rows-append}
 use Rattle.im_history.proofs.StaleLaws.{rows-mended}
 use Rattle.im_history.proofs.ViewLaws.{shown_all-same}
 use Rattle.im_core.specs.Answers.{cursor_view, view_of}
+use Rattle.im_core.specs.inner.Lending.{stale_in}
 use Rattle.im_core.specs.Pins.{ArePins, IsPinAt, Pinning, row_given, row_lent, row_or_fetched, row_taken, rows_taken}
+use Rattle.im_core.specs.Tasks.{task_fetched, task_fetched_by, task_lent, task_serving}
 use Rattle.im_core.proofs.OpenLemmas.{IsFixed, cursor-fixed, cursor-stays, fixed-longer, same_number}
 
 -- ---- a row number among others
@@ -102,28 +105,34 @@ lent-row h table extent n rid =
     first : ℕ
     first = extent * per
 
--- a unit and the rows that are stale beside it, as of this SCN or an earlier one
-with-unit : (h : History) (view : View) (extent n rid : ℕ) → IsFixed h view → n ≤ view.scn
-    → fold (row_or_fetched rid) (row_lent (Some (content_at h view.table extent n)) rid) (fetched_by h view extent (Some n))
-    ≡ committed_row h view extent rid
-with-unit h view extent n rid is old =
-    looked-up (rows h view.table view.scn) (stale h view.table extent n view.scn) rid (row_lent (Some (content_at h view.table extent n)) rid)
-    ∙ (ap (λ (b : Bool). if b then rows h view.table view.scn rid else row_lent (Some (content_at h view.table extent n)) rid)
-    (among-filter (touched_between h n view.scn view.table) (rows_of_extent (per_at h view.table) extent) rid)
-    ∙ (ap (λ (row : Option Row). if touched_between h n view.scn view.table rid && among rid (rows_of_extent (per_at h view.table) extent) then
-    rows h view.table view.scn rid else row) (lent-row h view.table extent n rid)
-    ∙ (by (among rid (rows_of_extent (per_at h view.table) extent)) (touched_between h n view.scn view.table rid)
-    (rows-mended h view.table n view.scn rid old)
-    ∙ ap (λ (per : ℕ). if among rid (rows_of_extent per extent) then rows h view.table view.scn rid else None) (sym is.per))))
+-- a unit and the rows that are stale beside it at this SCN or a later one
+with-stale : (h : History) (table extent n scn rid : ℕ) → n ≤ scn
+    → fold (row_or_fetched rid) (row_lent (Some (content_at h table extent n)) rid) (stale_in h table extent scn n)
+    ≡ (if among rid (rows_of_extent (per_at h table) extent) then rows h table scn rid else None)
+with-stale h table extent n scn rid old =
+    looked-up (rows h table scn) (stale h table extent n scn) rid (row_lent (Some (content_at h table extent n)) rid)
+    ∙ (ap (λ (b : Bool). if b then rows h table scn rid else row_lent (Some (content_at h table extent n)) rid)
+    (among-filter (touched_between h n scn table) (rows_of_extent (per_at h table) extent) rid)
+    ∙ (ap (λ (row : Option Row). if touched_between h n scn table rid && among rid (rows_of_extent (per_at h table) extent) then
+    rows h table scn rid else row) (lent-row h table extent n rid)
+    ∙ by (among rid (rows_of_extent (per_at h table) extent)) (touched_between h n scn table rid) (rows-mended h table n scn rid old)))
   where
     by : (inside touched : Bool)
-        → (if touched then rows h view.table view.scn rid else rows h view.table n rid) ≡ rows h view.table view.scn rid
-        → (if touched && inside then rows h view.table view.scn rid else (if inside then rows h view.table n rid else None))
-        ≡ (if inside then rows h view.table view.scn rid else None)
+        → (if touched then rows h table scn rid else rows h table n rid) ≡ rows h table scn rid
+        → (if touched && inside then rows h table scn rid else (if inside then rows h table n rid else None))
+        ≡ (if inside then rows h table scn rid else None)
     by true true mended = refl
     by true false mended = mended
     by false true mended = refl
     by false false mended = refl
+
+-- beside a unit, the same of a view
+with-unit : (h : History) (view : View) (extent n rid : ℕ) → IsFixed h view → n ≤ view.scn
+    → fold (row_or_fetched rid) (row_lent (Some (content_at h view.table extent n)) rid) (fetched_by h view extent (Some n))
+    ≡ committed_row h view extent rid
+with-unit h view extent n rid is old =
+    with-stale h view.table extent n view.scn rid old
+    ∙ ap (λ (per : ℕ). if among rid (rows_of_extent per extent) then rows h view.table view.scn rid else None) (sym is.per)
 
 -- all row numbers of the extent that the view has: behind them none was committed
 without-unit : (h : History) (view : View) (extent rid : ℕ) → IsFixed h view
@@ -155,13 +164,23 @@ without-unit h view extent rid is =
     nothing true none = none
     nothing false none = refl
 
-not_newer-old : (most : ℕ) (current : Option ℕ) (n : ℕ) → not_newer most current ≡ Some n → n ≤ most
+pub not_newer-old : (most : ℕ) (current : Option ℕ) (n : ℕ) → not_newer most current ≡ Some n → n ≤ most
 not_newer-old most None n is = absurd cc
 not_newer-old most (Some unit_scn) n is = by (nat_le unit_scn most) refl is
   where
     by : (b : Bool) → nat_le unit_scn most ≡ b → ◌≡◌ {A = Option ℕ} (if b then Some unit_scn else None) (Some n) → n ≤ most
     by true within some = let same : unit_scn ≡ n = cc in grind (arith, nat_tests, same, within)
     by false newer some = absurd cc
+
+-- a unit that a build is lent, with the rows that are fetched in their places
+pub mended-rows : (history : History) (task : Task) (at : ℕ) → task_serving history task ≡ Some at
+    → (rid : ℕ) → task.extent * per_at history task.table ≤ rid → rid < (task.extent + 1) * per_at history task.table
+    → row_given (record { unit = task_lent history task; fetched = task_fetched history task }) rid ≡ rows history task.table task.scn rid
+mended-rows history task at is rid from below =
+    ap (λ (lent : Option ℕ). row_given (record { unit = option_map (content_at history task.table task.extent) lent; fetched = task_fetched_by history task lent }) rid) is
+    ∙ (with-stale history task.table task.extent at task.scn rid (not_newer-old task.scn (unit history task.table task.extent) at is)
+    ∙ ap (λ (b : Bool). if b then rows history task.table task.scn rid else None)
+    (among-in (task.extent * per_at history task.table) (per_at history task.table) rid from (omega (arith, below))))
 
 -- whatever serves an open cursor's view
 served : (h : History) (view : View) (extent rid : ℕ) → IsFixed h view

@@ -1,7 +1,6 @@
 -- What calls of the store answer, read from its history.
-use Rattle.std.specs.Prelude.{◌≡◌, ℕ, ◌⊎◌, ◌+◌, ◌-◌, ◌*◌, ◌<◌, ◌≤◌, true, false, min, List, [], length, map, Option, Some, None}
+use Rattle.std.specs.Prelude.{◌≡◌, ℕ, ◌⊎◌, ◌+◌, ◌-◌, ◌<◌, ◌≤◌, true, false, [], length, Option, Some, None}
 use Rattle.std.specs.Option.{option_map}
-use Rattle.std.specs.List.{range_with_len}
 use Rattle.std.specs.declared.sync.Arc.{Arc}
 use Rattle.std.specs.declared.alloc.Global.{Global}
 use Rattle.im_core.specs.declared.answers.Offer.{Offer}
@@ -22,9 +21,8 @@ use Rattle.im_history.specs.History.{History}
 use Rattle.im_history.specs.Leaves.{leaves}
 use Rattle.im_history.specs.Queue.{build_of, next, task_of}
 pub use Rattle.im_history.specs.Refusals.{evict_refusal}
-use Rattle.im_history.specs.Rows.{Row}
 pub use Rattle.im_history.specs.Units.{killed_of}
-use Rattle.im_history.specs.Units.{Content, held_at, unit_content, unit_row}
+use Rattle.im_history.specs.Units.{Content, held_at, unit_content}
 use Rattle.im_core.specs.Seen.{Seen, Adds}
 
 -- a call was refused at this history: for the cause that applies, or for being out of memory
@@ -52,20 +50,6 @@ pub record IsHeld (history : History) (task : TaskInfo) : Type 0 where
   pub held : Held
   pub is : held_at history task.id ≡ Some held
   pub same : held.task ≡ task
-
--- how many row numbers were given of a table when a held build of it began
-abbrev pub given_of : Option Held → ℕ
-given_of None = 0
-given_of (Some held) = held.given
-
--- how many row numbers of a build's extent were given when it began
-abbrev pub task_rows : History → TaskInfo → ℕ
-task_rows history task = min task.per (given_of (held_at history task.id) - task.extent * task.per)
-
--- these row numbers, each with the row that the build's unit holds of it, in order
-abbrev pub task_fetched : History → TaskInfo → List (ℕ × Option Row)
-task_fetched history task =
-    map (λ rid. (rid, unit_row history task.table task.scn rid)) (range_with_len (task.extent * task.per) (task_rows history task))
 
 -- the build that comes next began, or there was none
 abbrev pub IsOffer : Seen → ℕ → Offer → Seen → Type 0

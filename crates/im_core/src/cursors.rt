@@ -175,7 +175,7 @@ impl<U: UnitLike> Core<U> {
             Some(unit) => Ok(Pin {
                 place,
                 unit: Some(unit),
-                fetched: self.fetch_stale(&view, extent, steps)?,
+                fetched: self.fetch_stale(view.table, extent, view.scn, steps)?,
             }),
             None => Ok(Pin {
                 place,
@@ -186,7 +186,7 @@ impl<U: UnitLike> Core<U> {
     }
 
     /// An extent's current unit, unless it is newer than this SCN.
-    fn lend(&self, table: u32, extent: u64, scn: u64) -> Result<Option<Arc<U>>, NoMemory>
+    pub(crate) fn lend(&self, table: u32, extent: u64, scn: u64) -> Result<Option<Arc<U>>, NoMemory>
         ensures { IfOk result (λ lent. content_in U.content lent
             ≡ option_map (content_at self.now.log table extent) (not_newer scn (unit self.now.log table extent))) }
     {
@@ -196,22 +196,23 @@ impl<U: UnitLike> Core<U> {
         }
     }
 
-    /// Reads the rows of an extent that commits touched since its unit's SCN, and up to that of a cursor.
-    fn fetch_stale<L: Ledger>(
+    /// Reads the rows of an extent that commits touched since its unit's SCN, and up to this one.
+    pub(crate) fn fetch_stale<L: Ledger>(
         &self,
-        view: &Cursor,
+        table: u32,
         extent: u64,
+        scn: u64,
         steps: &mut Steps<L>,
     ) -> Result<Fetched, NoMemory>
-        ensures fetched { IfOk result (λ fetched. ForSome (unit self.now.log view.now.table extent) (λ at.
-            fetched ≡ stale_in self.now.log view.now.table extent view.now.scn at)) }
-        ensures steps { ForSome (unit self.now.log view.now.table extent) (λ at.
-            steps.new ≤ steps.old + length (stale_in self.now.log view.now.table extent view.now.scn at)) }
+        ensures fetched { IfOk result (λ fetched. ForSome (unit self.now.log table extent) (λ at.
+            fetched ≡ stale_in self.now.log table extent scn at)) }
+        ensures steps { ForSome (unit self.now.log table extent) (λ at.
+            steps.new ≤ steps.old + length (stale_in self.now.log table extent scn at)) }
     {
-        let stale = self.directory.stale_at(view.table, extent, view.scn)?;
+        let stale = self.directory.stale_at(table, extent, scn)?;
         let fetched = self
             .blocks
-            .rows_of(self.alloc, view.table, stale.as_slice(), view.scn, steps)?;
+            .rows_of(self.alloc, table, stale.as_slice(), scn, steps)?;
         Ok(fetched)
     }
 

@@ -1,4 +1,5 @@
 ghost use Rattle.im_core.specs.Pins.{GiveOneScan, GiveTheSameRows, GivesTheCommittedRows};
+ghost use Rattle.im_core.specs.Tasks.{MendsTheLentUnit};
 
 /// Pins of one extent for one open cursor give the same rows at any two moments, whichever units they lend.
 ///
@@ -10,4 +11,12 @@ pub fn pins_of_a_cursor_are_one()
     ensures committed { GivesTheCommittedRows }
     ensures rows { GiveTheSameRows }
     ensures scan { GiveOneScan }
+{}
+
+/// The unit that a build is lent, with the rows that are fetched beside it in their places, has at each row number of its extent
+/// the row that was committed at the build's SCN.
+///
+/// So the unit that is made of it anew is what the build's unit is to hold, and no other row of the extent need be read.
+pub fn a_lent_unit_is_mended()
+    ensures { MendsTheLentUnit }
 {}

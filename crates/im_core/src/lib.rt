@@ -8,7 +8,8 @@
 //!
 //! The main promise is that the history is legal: no write is lost, since a row that another session has changed, or that
 //! was committed after the writer's snapshot, is refused at once. [`pins_of_a_cursor_are_one`] is the law that a cursor sees the
-//! same rows of an extent at any two moments, whichever units it was lent.
+//! same rows of an extent at any two moments, whichever units it was lent. [`a_lent_unit_is_mended`] is the law that a build needs of
+//! its extent no more than the unit that it is lent and the rows that are stale beside that (`specs/Tasks.antt`).
 //!
 //! Start with `specs/Seen.antt` and `store.rt`; `specs/inner/Holds.antt` says how what is kept agrees with the history.
 #![tactic(auto)]
@@ -27,5 +28,5 @@ mod writes;
 
 pub use answers::{Begun, Committed, Evicted, Made, Offer, Pin, Switched, Wrote};
 pub use im_history::Fetched;
-pub use laws::pins_of_a_cursor_are_one;
+pub use laws::{a_lent_unit_is_mended, pins_of_a_cursor_are_one};
 pub use store::Core;

@@ -1,13 +1,15 @@
 ghost use Rattle.std.specs.Bool.{OnTrue};
+ghost use Rattle.std.specs.Option.{ForSome};
 ghost use Rattle.std.specs.Prelude.{◌≡◌, ◌+◌, ◌^◌, ◌≤◌, ◌<◌, length, nat_le, false, Some, None, IfOk, IfErr, OnOk, OnErr};
 ghost use Rattle.im_history.specs.declared.entry.What.TheVariants as what;
 ghost use Rattle.im_history.specs.Area.{task_bytes, used};
 ghost use Rattle.im_history.specs.Leaves.{leaves};
 ghost use Rattle.im_history.specs.Legal.{Exists, MayCancel, MaySetMemory};
 ghost use Rattle.im_history.specs.Queue.{build_of, credits, next, task_of};
-ghost use Rattle.im_history.specs.Units.{IsOwn, held_at, task_content, unit_content};
-ghost use Rattle.im_core.specs.Answers.{IsOffer, IsRefusal, IsHeld, IsSwitch, content_in, evict_refusal, killed_of, task_fetched, task_rows};
+ghost use Rattle.im_history.specs.Units.{IsOwn, held_at, task_content, unit, unit_content};
+ghost use Rattle.im_core.specs.Answers.{IsOffer, IsRefusal, IsHeld, IsSwitch, content_in, evict_refusal, killed_of};
 ghost use Rattle.im_core.specs.Seen.{Adds};
+ghost use Rattle.im_core.specs.Tasks.{task_fetched, task_fetched_by, task_lent, task_rows};
 
 use crate::answers::{Evicted, Offer, Pin, Switched};
 use crate::store::{Core, owed};
@@ -259,9 +261,11 @@ impl<U: UnitLike> Core<U> {
         })
     }
 
-    /// Reads what a build's unit will hold: the rows of its extent that were committed at its SCN. It adds no entry.
+    /// Reads what a build makes its unit of: its extent's current column unit, unless that is newer than the build, and the rows
+    /// that commits touched since the unit's SCN; without such a unit all rows that were given when the build began. Each is
+    /// the row committed at the build's SCN. It adds no entry.
     ///
-    /// Each row number of the extent that was given when the build began is one step at most.
+    /// Each row that is read is one step at most.
     pub fn read_task<L: Ledger>(
         &mut self,
         who: u32,
@@ -271,25 +275,60 @@ impl<U: UnitLike> Core<U> {
         requires own { IsOwn self.old.log who task.now }
         ensures same { self.new ≡ self.old }
         ensures place { IfOk result (λ pin. pin.place ≡ length self.old.log) }
-        ensures unit { IfOk result (λ pin. pin.unit ≡ None) }
+        ensures unit { IfOk result (λ pin. content_in U.content pin.unit ≡ task_lent self.old.log task.now) }
         ensures fetched { IfOk result (λ pin. pin.fetched ≡ task_fetched self.old.log task.now) }
-        ensures steps { steps.new ≤ steps.old + task_rows self.old.log task.now }
+        ensures steps { steps.new ≤ steps.old + length (task_fetched self.old.log task.now) }
         ensures err { IfErr result (λ why. IsRefusal self.old.log None why) }
     {
         let _ = who;
-        match self.fetch_task(task, steps) {
-            Ok(fetched) => Ok(Pin {
-                place: self.len(),
-                unit: None,
-                fetched,
-            }),
+        match self.read_for(task, steps) {
+            Ok(pin) => Ok(pin),
             Err(NoMemory) => Err(self.refused(Why::NoMemory)),
         }
     }
 
+    /// Reads what a held build needs of its extent.
+    fn read_for<L: Ledger>(&self, task: &Task, steps: &mut Steps<L>) -> Result<Pin<U>, NoMemory>
+        requires held { IsHeld self.now.log task.now }
+        ensures place { IfOk result (λ pin. pin.place ≡ length self.now.log) }
+        ensures unit { IfOk result (λ pin. content_in U.content pin.unit ≡ task_lent self.now.log task.now) }
+        ensures fetched { IfOk result (λ pin. pin.fetched ≡ task_fetched self.now.log task.now) }
+        ensures steps { steps.new ≤ steps.old + length (task_fetched self.now.log task.now) }
+    {
+        let place = self.len();
+        match self.lend(task.table, task.extent, task.scn)? {
+            Some(unit) => Ok(Pin {
+                place,
+                unit: Some(unit),
+                fetched: self.fetch_beside(task, steps)?,
+            }),
+            None => Ok(Pin {
+                place,
+                unit: None,
+                fetched: self.fetch_task(task, steps)?,
+            }),
+        }
+    }
+
+    /// Reads the rows of a held build's extent that are stale beside its unit.
+    fn fetch_beside<L: Ledger>(
+        &self,
+        task: &Task,
+        steps: &mut Steps<L>,
+    ) -> Result<Fetched, NoMemory>
+        requires held { IsHeld self.now.log task.now }
+        ensures fetched { IfOk result (λ fetched. ForSome (unit self.now.log task.now.table task.now.extent) (λ at.
+            fetched ≡ task_fetched_by self.now.log task.now (Some at))) }
+        ensures steps { ForSome (unit self.now.log task.now.table task.now.extent) (λ at.
+            steps.new ≤ steps.old + length (task_fetched_by self.now.log task.now (Some at))) }
+    {
+        self.fetch_stale(task.table, task.extent, task.scn, steps)
+    }
+
+    /// Reads all rows of a held build's extent that were given when it began.
     fn fetch_task<L: Ledger>(&self, task: &Task, steps: &mut Steps<L>) -> Result<Fetched, NoMemory>
         requires held { IsHeld self.now.log task.now }
-        ensures fetched { IfOk result (λ fetched. fetched ≡ task_fetched self.now.log task.now) }
+        ensures fetched { IfOk result (λ fetched. fetched ≡ task_fetched_by self.now.log task.now None) }
         ensures steps { steps.new ≤ steps.old + task_rows self.now.log task.now }
     {
         let given = self.directory.build(task.id).unwrap().given;

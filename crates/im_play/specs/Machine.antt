@@ -49,8 +49,8 @@ pub record IsAnswer (before after : ℕ) (request : Request) (old : Machine) (re
   pub builds_are : new.builds ≡ old.builds
   pub counted : IsCounted (reading_of request.statement) (state_in old request.who) request.who reply before after old.history new.history
 
--- a statement of the background is played so, in so many rounds where it goes by them. The steps grow with each build by the rows of its
--- extent at most
+-- a statement of the background is played so, in so many rounds where it goes by them. The steps grow with each build by the rows at most
+-- that were read for it, which are those that were stale beside a unit or all of its extent
 pub record IsCommandAnswer (before after : ℕ) (command : Command) (old : Machine) (reply : Reply) (new : Machine) : Type 0 where
   pub rounds : ℕ
   pub line :

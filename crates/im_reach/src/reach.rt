@@ -10,7 +10,8 @@ ghost use Rattle.im_history.specs.Refusals.{begin_refusal, create_refusal, inser
 ghost use Rattle.im_history.specs.Tables.{tables, given};
 ghost use Rattle.im_history.specs.Transactions.{is_open};
 ghost use Rattle.im_history.specs.Views.{look_at, view_at};
-ghost use Rattle.im_core.specs.Answers.{IsRefusal, content_in, cursor_view, evict_refusal, task_fetched, task_rows};
+ghost use Rattle.im_core.specs.Answers.{IsRefusal, content_in, cursor_view, evict_refusal};
+ghost use Rattle.im_core.specs.Tasks.{task_fetched, task_lent};
 ghost use Rattle.im_history.specs.Serving.{fetched_in, read_in, serving_content};
 ghost use Rattle.im_history.specs.Units.{IsOwn, opening_at, task_content, unit_content};
 ghost use Rattle.im_reach.specs.Sides.{Added, Found, IsSwitched, Known, Missed, Offered, sole, speaks};
@@ -213,9 +214,11 @@ pub trait Reach<U: UnitLike> {
         ensures err { IfErr result (λ why. Missed (known self.old) (known self.new) (λ at. IsRefusal at None why)) }
         ensures lawful { IsLawful (known self.new).limits (known self.new).log };
 
-    /// Reads what a build's unit will hold: the rows of its extent that were committed at its SCN.
+    /// Reads what a build makes its unit of: its extent's current column unit, unless that is newer than the build, and the rows
+    /// that commits touched since the unit's SCN; without such a unit all rows that were given when the build began. Each is
+    /// the row committed at the build's SCN.
     ///
-    /// Each row number of the extent that was given when the build began is one step at most.
+    /// Each row that is read is one step at most, also where memory is out.
     fn read_task<R: Wait, L: Ledger>(
         &mut self,
         rt: &R,
@@ -227,9 +230,12 @@ pub trait Reach<U: UnitLike> {
         requires speaks { speaks (known self.old).side who ≡ true }
         requires own { IsOwn (known self.old).log who task.now }
         ensures ok { IfOk result (λ pin. Found (known self.old) (known self.new) (λ at.
-            (pin.place ≡ length at) × (pin.unit ≡ None) × (pin.fetched ≡ task_fetched at task.now))) }
-        ensures steps { steps.new ≤ steps.old + task_rows (known self.old).log task.now }
-        ensures err { IfErr result (λ why. Found (known self.old) (known self.new) (λ at. IsRefusal at None why)) }
+            (pin.place ≡ length at)
+            × (content_in U.content pin.unit ≡ task_lent at task.now)
+            × (pin.fetched ≡ task_fetched at task.now)
+            × (steps.new ≤ steps.old + length (task_fetched at task.now)))) }
+        ensures err { IfErr result (λ why. Found (known self.old) (known self.new) (λ at.
+            IsRefusal at None why × (steps.new ≤ steps.old + length (task_fetched at task.now)))) }
         ensures lawful { IsLawful (known self.new).limits (known self.new).log };
 
     /// Makes the unit of a finished build current, with the journal of what was touched since the build began, and hands

@@ -1,9 +1,9 @@
 -- What entries of other numbers leave as it is of the builds that a number holds, and of what it sees by its cursors.
-use Rattle.std.proofs.Common.{◌≡◌, ℕ, ◌-◌, ◌*◌, ◌≤◌, ◌==◌, Bool, true, false, min, IsTrue, List, [], ◌∷◌, ◌++◌, take, drop, find, fold, length, map, is_some, All, Option, Some, None, if◌then◌else◌, refl, sym, ap, ap₂, ◌∙◌, subst, arith, take-append-drop}
+use Rattle.std.proofs.Common.{◌≡◌, ℕ, ◌*◌, ◌≤◌, ◌==◌, Bool, true, false, IsTrue, List, [], ◌∷◌, ◌++◌, take, drop, find, fold, length, map, is_some, All, Option, Some, None, if◌then◌else◌, refl, sym, ap, ap₂, ◌∙◌, subst, arith, take-append-drop}
 use Rattle.std.specs.Option.{option_map, option_or}
 use Rattle.std.proofs.lemmas.Bool.Decides.{nat_tests}
 use Rattle.std.proofs.lemmas.List.Elements.{All-append, All-cons, All-filter, All-head, All-nil, All-tail, All-weaker}
-use Rattle.im_core.specs.Answers.{cursor_view, given_of, task_rows, view_of}
+use Rattle.im_core.specs.Answers.{cursor_view, view_of}
 use Rattle.im_history.specs.declared.change.Change.{Change}
 use Rattle.im_history.specs.declared.entry.Entry.{Entry}
 use Rattle.im_history.specs.declared.entry.Mode.{Mode}
@@ -31,35 +31,25 @@ use Rattle.im_store.proofs.OtherLaws.{WentOn, legal-old, on-others, opened-on, p
 
 -- ---- builds
 
--- a number's held build, of which so many row numbers were given when it began
-record Holds (who : ℕ) (task : Task) (given : ℕ) (h : History) : Type 0 where
-  held : Held
-  is : held_at h task.id ≡ Some held
-  mine : held.who ≡ who
-  same : held.task ≡ task
-  given_is : held.given ≡ given
-
-holds-plain : (h : History) (entry : Entry) (who : ℕ) (task : Task) (given : ℕ) → is_plain entry.what ≡ true → Holds who task given h
-    → Holds who task given (h ++ entry ∷ [])
-holds-plain h entry who task given plain own =
+holds-plain : (h : History) (entry : Entry) (who : ℕ) (task : Task) → is_plain entry.what ≡ true → IsOwn h who task
+    → IsOwn (h ++ entry ∷ []) who task
+holds-plain h entry who task plain own =
     by (drops own.held.task.table own.held.task.extent entry.what) refl
     (held_at-plain h entry task.id plain ∙ ap (option_map (killed_by (length h) entry.what)) own.is)
   where
     by : (b : Bool) → drops own.held.task.table own.held.task.extent entry.what ≡ b
-        → held_at (h ++ entry ∷ []) task.id ≡ Some (killed_by (length h) entry.what own.held) → Holds who task given (h ++ entry ∷ [])
+        → held_at (h ++ entry ∷ []) task.id ≡ Some (killed_by (length h) entry.what own.held) → IsOwn (h ++ entry ∷ []) who task
     by true is found = record {
       held = killed_by (length h) entry.what own.held;
       is = found;
       mine = rw is own.mine;
       same = rw is own.same;
-      given_is = rw is own.given_is;
     }
     by false is found = record {
       held = killed_by (length h) entry.what own.held;
       is = found;
       mine = rw is own.mine;
       same = rw is own.same;
-      given_is = rw is own.given_is;
     }
 
 the_same : {a b : Held} → Some a ≡ Some b → a ≡ b
@@ -72,9 +62,9 @@ equal_tests : (a b : ℕ) → a ≡ b → (a == b) ≡ true
 equal_tests a b same = grind (arith, nat_tests, same)
 
 -- a build that another number ends is not this one's
-apart-id : (h : History) (maker who id : ℕ) (task : Task) (given : ℕ) → (maker == who) ≡ false → MayEnd h maker id → Holds who task given h
+apart-id : (h : History) (maker who id : ℕ) (task : Task) → (maker == who) ≡ false → MayEnd h maker id → IsOwn h who task
     → (task.id == id) ≡ false
-apart-id h maker who id task given other may own = by (task.id == id) refl
+apart-id h maker who id task other may own = by (task.id == id) refl
   where
     by : (b : Bool) → (task.id == id) ≡ b → (task.id == id) ≡ false
     by false is = is
@@ -83,23 +73,22 @@ apart-id h maker who id task given other may own = by (task.id == id) refl
         let one : own.held ≡ may.held = the_same (sym own.is ∙ (ap (held_at h) same ∙ may.is)) in
         absurd (true_not_false (equal_tests maker who (sym may.mine ∙ (sym (ap (λ (held : Held). held.who) one) ∙ own.mine))) other)
 
-holds-push : (limits : Limits) (who : ℕ) (task : Task) (given : ℕ) (h : History) (entry : Entry) → (entry.who == who) ≡ false → IsLegal limits h
-    → IsAllowed limits h entry.who entry.what → Holds who task given h → Holds who task given (h ++ entry ∷ [])
-holds-push limits who task given h entry other legal allowed own = by entry.what refl allowed
+holds-push : (limits : Limits) (who : ℕ) (task : Task) (h : History) (entry : Entry) → (entry.who == who) ≡ false → IsLegal limits h
+    → IsAllowed limits h entry.who entry.what → IsOwn h who task → IsOwn (h ++ entry ∷ []) who task
+holds-push limits who task h entry other legal allowed own = by entry.what refl allowed
   where
     after : What → History
     after w = h ++ record { who = entry.who; what = w } ∷ []
 
-    found : (w : What) → entry.what ≡ w → held_at (after w) task.id ≡ Some own.held → Holds who task given (h ++ entry ∷ [])
+    found : (w : What) → entry.what ≡ w → held_at (after w) task.id ≡ Some own.held → IsOwn (h ++ entry ∷ []) who task
     found w same is = record {
       held = own.held;
       is = ap (λ (w : What). held_at (after w) task.id) same ∙ is;
       mine = own.mine;
       same = own.same;
-      given_is = own.given_is;
     }
 
-    by : (w : What) → entry.what ≡ w → IsAllowed limits h entry.who w → Holds who task given (h ++ entry ∷ [])
+    by : (w : What) → entry.what ≡ w → IsAllowed limits h entry.who w → IsOwn (h ++ entry ∷ []) who task
     by (what.Build id table extent trickle) same may =
         found (what.Build id table extent trickle) same
         (held_at-build h entry.who id table extent trickle task.id
@@ -107,31 +96,20 @@ holds-push limits who task given h entry other legal allowed own = by entry.what
     by (what.Switch id) same may =
         found (what.Switch id) same
         (held_at-switch h entry.who id task.id
-        ∙ (ap (λ (b : Bool). if b then None else held_at h task.id) (apart-id h entry.who who id task given other may.may own) ∙ own.is))
+        ∙ (ap (λ (b : Bool). if b then None else held_at h task.id) (apart-id h entry.who who id task other may.may own) ∙ own.is))
     by (what.Cancel id full) same may =
         found (what.Cancel id full) same
         (held_at-cancel h entry.who id full task.id
-        ∙ (ap (λ (b : Bool). if b then None else held_at h task.id) (apart-id h entry.who who id task given other may.may own) ∙ own.is))
-    by w same may = holds-plain h entry who task given (ap is_plain same) own
+        ∙ (ap (λ (b : Bool). if b then None else held_at h task.id) (apart-id h entry.who who id task other may.may own) ∙ own.is))
+    by w same may = holds-plain h entry who task (ap is_plain same) own
 
 map_same : {X : Type 0} (f g : ℕ → X) → ((k : ℕ) → f k ≡ g k) → (ks : List ℕ) → map f ks ≡ map g ks
 map_same f g same [] = refl
 map_same f g same (k ∷ ks) = ap₂ (λ x xs. x ∷ xs) (same k) (map_same f g same ks)
 
 module _ {limits : Limits} {who : ℕ} {old at : History} (went : WentOn limits who old at) (task : Task) (own : IsOwn old who task) where
-  holds-on : Holds who task own.held.given at
-  holds-on =
-      on-others limits who (Holds who task own.held.given) (holds-push limits who task own.held.given) old at went
-      (record { held = own.held; is = own.is; mine = own.mine; same = own.same; given_is = refl })
-
   pub IsOwn-on : IsOwn at who task
-  IsOwn-on = let now = holds-on in record { held = now.held; is = now.is; mine = now.mine; same = now.same }
-
-  pub task_rows-on : task_rows at task ≡ task_rows old task
-  task_rows-on =
-      let now = holds-on in
-      ap (λ (n : ℕ). min task.per (n - task.extent * task.per))
-      (ap given_of now.is ∙ (now.given_is ∙ sym (ap given_of own.is)))
+  IsOwn-on = on-others limits who (λ (h : History). IsOwn h who task) (holds-push limits who task) old at went own
 
   scn-own : task.scn ≤ scn old
   scn-own =

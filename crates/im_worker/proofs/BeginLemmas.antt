@@ -19,11 +19,11 @@ use Rattle.im_statements.specs.Background.{Answered, CommandOutcome, begin_next,
 use Rattle.im_statements.specs.Turns.{memory_reply}
 use Rattle.im_worker.specs.Background.{Ready, tasks_of}
 use Rattle.im_worker.specs.Reads.{IsCounted, WentOn}
-use Rattle.im_core.specs.Answers.{task_rows}
+use Rattle.im_core.specs.Tasks.{task_fetched}
 use Rattle.im_worker.specs.inner.Beginning.{Began, IsIdle, IsJust, IsReady, Lacked, WasDropped}
 use Rattle.im_worker.specs.inner.Rests.{IsRest, Went}
 use Rattle.im_worker.specs.inner.Standing.{Stands}
-use Rattle.im_worker.proofs.CountLemmas.{on-after, one-counted}
+use Rattle.im_worker.proofs.CountLemmas.{on-after, on-went, one-counted}
 use Rattle.im_worker.proofs.RestLemmas.{rest-adds, rest-drops, rest-lacks, rest-nothing, rest-went, stands-went}
 use Rattle.im_worker.proofs.StandingLaws.{stands-after, stands-begun, stands-finished}
 
@@ -220,10 +220,11 @@ next-dropped who k builds old new on idle legal is =
 
 -- ---- the steps
 
--- the extent of the build that began was read
-pub begun-counted : (who before after : ℕ) (old mid new : Known) (task : Task) (choice : Choice) → IsLawful mid.limits mid.log
-    → Offers old mid who task choice → WentOn mid.log new.log → after ≤ before + task_rows mid.log task → IsCounted who before after old.log new.log
+-- what the build that began is made of was read
+pub begun-counted : (who before after : ℕ) (old mid read new : Known) (task : Task) (choice : Choice) → IsLawful mid.limits mid.log
+    → Offers old mid who task choice → Went mid read → WentOn read.log new.log → after ≤ before + length (task_fetched read.log task)
+    → IsCounted who before after old.log new.log
 unfolding just-of
-begun-counted who before after old mid new task choice lawful added on few =
-    one-counted who before after task old mid new (just-of who old mid task choice lawful added)
-    (on-after (AreOthers old.side) old.log added.at added.after) added.fact.0 on few
+begun-counted who before after old mid read new task choice lawful added went last few =
+    one-counted who before after task old mid read new (just-of who old mid task choice lawful added)
+    (on-after (AreOthers old.side) old.log added.at added.after) added.fact.0 (on-went mid read went) last few

@@ -1,10 +1,10 @@
 -- The rows that builds read from the blocks, counted.
-use Rattle.std.proofs.Common.{◌≡◌, ℕ, ◌+◌, ◌≤◌, List, [], ◌∷◌, ◌++◌, Some, refl, sym, ap, ◌∙◌, subst, arith, append-nil, append_assoc}
-use Rattle.im_core.specs.Answers.{task_rows}
+use Rattle.std.proofs.Common.{◌≡◌, ℕ, ◌+◌, ◌≤◌, List, [], ◌∷◌, ◌++◌, length, Some, refl, sym, ap, ◌∙◌, subst, arith, append-nil, append_assoc}
+use Rattle.im_core.specs.Tasks.{task_fetched}
 use Rattle.im_history.specs.declared.entry.What.{What}
 use Rattle.im_history.specs.declared.task.Task.{Task}
 use Rattle.im_history.specs.History.{History, behind}
-use Rattle.im_history.specs.Queue.{build_of, next}
+use Rattle.im_history.specs.Queue.{next, task_of}
 use Rattle.im_plan.specs.Goes.{After}
 use Rattle.im_plan.specs.Plan.{Plan}
 use Rattle.im_reach.specs.Sides.{AreOthers, Known}
@@ -13,7 +13,6 @@ use Rattle.im_statements.specs.Background.{CommandOutcome}
 use Rattle.im_worker.specs.Reads.{AreBegun, IsCounted, Start, WentOn, rows_of_all}
 use Rattle.im_worker.specs.inner.Beginning.{IsJust}
 use Rattle.im_worker.specs.inner.Rests.{IsEnded, IsRest, Went}
-use Rattle.im_worker.proofs.UnitLemmas.{rows-just}
 
 -- ---- longer histories
 
@@ -53,13 +52,13 @@ on-rest old new plan outcome rest = let longer = rest-longer old new plan outcom
 begun-earlier : (who : ℕ) (first old : History) (starts : List Start) (new : History)
     → WentOn first old → AreBegun who old starts new → AreBegun who first starts new
 begun-earlier who first old [] new on begun = on-on first old new on begun
-begun-earlier who first old (start ∷ starts) new on begun = (on-on first old start.at on begun.0, begun.1, begun.2)
+begun-earlier who first old (start ∷ starts) new on begun = (on-on first old start.at on begun.0, begun.1, begun.2, begun.3)
 
 begun-append : (who : ℕ) (old : History) (first second : List Start) (mid new : History) → AreBegun who old first mid → AreBegun who mid second new
     → AreBegun who old (first ++ second) new
 begun-append who old [] second mid new begun more = begun-earlier who old mid second new begun more
 begun-append who old (start ∷ first) second mid new begun more =
-    (begun.0, begun.1, begun-append who (behind start.at who (build_of start.at start.choice)) first second mid new begun.2 more)
+    (begun.0, begun.1, begun.2, begun-append who start.read first second mid new begun.3 more)
 
 rows-append_all : (first second : List Start) → rows_of_all (first ++ second) ≡ rows_of_all first + rows_of_all second
 rows-append_all [] second = omega arith
@@ -82,14 +81,15 @@ counted-counted who a b c old mid new first second = record {
       omega (arith, some, more, all);
 }
 
--- the extent of a build that just began was read
-pub one-counted : (who before after : ℕ) (task : Task) (old mid new : Known)
+-- what a build that just began is made of was read
+pub one-counted : (who before after : ℕ) (task : Task) (old mid read new : Known)
     → (just : IsJust who task mid) → WentOn old.log just.at → next just.at ≡ Some just.choice
-    → WentOn mid.log new.log → after ≤ before + task_rows mid.log task → IsCounted who before after old.log new.log
-one-counted who before after task old mid new just on comes later few = record {
-  starts = record { at = just.at; choice = just.choice } ∷ [];
-  begun = (on, comes, subst (λ (h : History). WentOn h new.log) just.log later);
+    → WentOn mid.log read.log → WentOn read.log new.log → after ≤ before + length (task_fetched read.log task) → IsCounted who before after old.log new.log
+one-counted who before after task old mid read new just on comes later last few = record {
+  starts = record { at = just.at; choice = just.choice; read = read.log } ∷ [];
+  begun = (on, comes, subst (λ (h : History). WentOn h read.log) just.log later, last);
   few =
-      let rows = rows-just who task mid just in
+      let rows : length (task_fetched read.log task) ≡ length (task_fetched read.log (task_of just.at just.choice)) =
+      ap (λ (t : Task). length (task_fetched read.log t)) just.is in
       omega (arith, few, rows);
 }

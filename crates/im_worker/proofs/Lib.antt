@@ -1,4 +1,5 @@
 pub mod BeginLemmas
+pub mod BuiltLemmas
 pub mod CountLemmas
 pub mod EndLemmas
 pub mod EvictLemmas

@@ -6,7 +6,7 @@ use Rattle.std.proofs.lemmas.Bool.Decides.{nat_tests}
 use Rattle.std.proofs.lemmas.List.Elements.{All-nil, All-cons, All-head, All-tail, All-append, All-weaker, All-take}
 use Rattle.std.proofs.lemmas.List.FromFn.{length-map-range_with_len, map-range_with_len_more}
 use Rattle.std.proofs.lemmas.Simd.{map-map}
-use Rattle.im_core.specs.Answers.{given_of, task_fetched, task_rows}
+use Rattle.im_core.specs.Tasks.{given_of, task_fetched, task_fetched_by, task_lent, task_rows, task_serving}
 use Rattle.im_history.specs.declared.change.Change.{Change}
 use Rattle.im_history.specs.declared.entry.Entry.{Entry}
 use Rattle.im_history.specs.declared.entry.What.{What}
@@ -21,8 +21,7 @@ use Rattle.im_history.specs.Queue.{build_of}
 use Rattle.im_history.specs.Rows.{Row, changes_until, row_after, rows}
 use Rattle.im_history.specs.Tables.{given, given_after, given_by}
 use Rattle.im_history.specs.Transactions.{or_here, pending, pending_after}
-use Rattle.im_history.specs.Units.{Content, IsOwn, builds, drops, held, held_at, is_id, killed_by, task_content}
-use Rattle.im_history.specs.Views.{per_at}
+use Rattle.im_history.specs.Units.{Content, IsOwn, builds, content_at, drops, held, held_at, is_id, killed_by, task_content}
 use Rattle.im_history.proofs.BuildLaws.{begun_at, held_at-build, held_at-cancel, held_at-plain, held_at-switch}
 use Rattle.im_history.proofs.GivenLaws.{given-grows, given_by-grows}
 use Rattle.im_history.proofs.Laws.{IsLegal-pop, commits-push, given-push, pending-push}
@@ -31,8 +30,9 @@ use Rattle.im_history.proofs.UnitLaws.{is_plain}
 use Rattle.im_reach.specs.Sides.{Found, Known, speaks}
 use Rattle.im_worker.proofs.RestLemmas.{went-found}
 use Rattle.im_worker.specs.inner.Beginning.{IsGiven, IsJust}
-use Rattle.im_worker.specs.inner.Good.{content_from, nones}
+use Rattle.im_worker.specs.inner.Good.{IsBeside, content_built, content_from, nones}
 use Rattle.im_worker.specs.inner.Rests.{Went}
+use Rattle.im_worker.proofs.BuiltLemmas.{built-mended, is-beside, task_content-own}
 use Rattle.im_worker.proofs.HoldingLaws.{are_numbered, killed-task, killed-who, other_number, same_number}
 use Rattle.im_worker.proofs.StandingLaws.{after-legal, apart-id, content_of}
 
@@ -237,12 +237,6 @@ rows-given who count task h g =
     ap (λ (o : Option Held). min task.per (given_of o - task.extent * task.per)) g.is
     ∙ ap (λ (n : ℕ). min task.per (n - task.extent * task.per)) g.given
 
-pub rows-just : (who : ℕ) (task : Task) (now : Known) → (just : IsJust who task now)
-    → task_rows now.log task ≡ min (per_at just.at just.choice.table) (given just.at just.choice.table - just.choice.extent * per_at just.at just.choice.table)
-rows-just who task now just =
-    rows-given who (given just.at just.choice.table) task now.log (given-just who task now just)
-    ∙ ap (λ (t : Task). min t.per (given just.at just.choice.table - t.extent * t.per)) just.is
-
 -- ---- rows, padded
 
 pub nones_none : nones 0 ≡ []
@@ -266,9 +260,21 @@ pad-rows f a n (suc m) none =
     (sym (none (a + (n + m)) (omega arith) (omega arith)))
     ∙ (sym (map-range_with_len_more f a (n + m) (a + (n + m)) refl) ∙ ap (λ (k : ℕ). map f (range_with_len a k)) (omega arith))))
 
--- what was read for the build that just began, and padded, is what its unit is to hold
-pub content-read : (who : ℕ) (task : Task) (old new : Known) → speaks old.side who ≡ true → IsJust who task old → Went old new → IsLegal new.limits new.log
-    → content_from task (task_fetched new.log task) ≡ task_content new.log task
+-- a build that just began is held still, once others went on
+given-went : (who : ℕ) (task : Task) (old new : Known) → speaks old.side who ≡ true → (just : IsJust who task old) → Went old new
+    → IsLegal new.limits new.log → IsGiven who (given just.at just.choice.table) task new.log
+given-went who task old new mine just went legal =
+    after-legal new.limits old.side who (IsGiven who (given just.at just.choice.table) task)
+    (λ h entry whole other. given-other new.limits h entry who (given just.at just.choice.table) task (IsLegal-pop new.limits h entry whole).1 other)
+    old.log new.log mine legal went.after
+    (given-just who task old just)
+
+own-given : {who count : ℕ} {task : Task} {h : History} → IsGiven who count task h → IsOwn h who task
+own-given g = record { held = g.held; is = g.is; mine = g.mine; same = g.same }
+
+-- where no unit is lent to the build, what was read for it, and padded, is what its unit is to hold
+content-read : (who : ℕ) (task : Task) (old new : Known) → speaks old.side who ≡ true → IsJust who task old → Went old new → IsLegal new.limits new.log
+    → content_from task (task_fetched_by new.log task None) ≡ task_content new.log task
 content-read who task old new mine just went legal =
     ap (content_of task)
     (ap₂ (λ (list : List (Option Row)) (m : ℕ). list ++ nones (task.per - m)) mapped (length-map-range_with_len (λ rid. (rid, row_at rid)) first n)
@@ -289,16 +295,10 @@ content-read who task old new mine just went legal =
     row_at : ℕ → Option Row
     row_at = rows new.log task.table task.scn
 
-    g : IsGiven who count task new.log
-    g = after-legal new.limits old.side who (IsGiven who count task)
-        (λ h entry whole other. given-other new.limits h entry who count task (IsLegal-pop new.limits h entry whole).1 other)
-        old.log new.log mine legal went.after
-        (given-just who task old just)
-
     n_is : n ≡ min task.per (count - first)
-    n_is = rows-given who count task new.log g
+    n_is = rows-given who count task new.log (given-went who task old new mine just went legal)
 
-    mapped : map (λ (found : ℕ × Option Row). found.1) (task_fetched new.log task) ≡ map row_at (range_with_len first n)
+    mapped : map (λ (found : ℕ × Option Row). found.1) (task_fetched_by new.log task None) ≡ map row_at (range_with_len first n)
     mapped = map-map (λ (found : ℕ × Option Row). found.1) (λ rid. (rid, row_at rid)) (range_with_len first n)
 
     longer : new.log ≡ at ++ (record { who = who; what = build_of at just.choice } ∷ went.after.between)
@@ -319,11 +319,36 @@ content-read who task old new mine just went legal =
         ∙ (rows-append at (record { who = who; what = build_of at just.choice } ∷ went.after.between) task.table task.scn k (omega (arith, scn_is))
         ∙ rows-ungiven at task.table task.scn k (omega (arith, n_is, table_is, low, high)))
 
+-- whether a unit is lent to the build or not, what is made of what was read is what its unit is to hold
+content-built : (who : ℕ) (task : Task) (old new : Known) → speaks old.side who ≡ true → IsJust who task old → Went old new → IsLegal new.limits new.log
+    → content_built task (task_lent new.log task) (task_fetched new.log task) ≡ task_content new.log task
+content-built who task old new mine just went legal = by (task_serving new.log task) refl
+  where
+    by : (lent : Option ℕ) → task_serving new.log task ≡ lent
+        → content_built task (option_map (content_at new.log task.table task.extent) lent) (task_fetched_by new.log task lent) ≡ task_content new.log task
+    by None is = content-read who task old new mine just went legal
+    by (Some n) is =
+        built-mended new.log task n is
+        ∙ sym (task_content-own new.limits new.log who task legal (own-given (given-went who task old new mine just went legal)))
+
 -- so a unit of it has that
-pub content-found : (who : ℕ) (task : Task) (old new : Known) (P : History → Type 0) (fetched : List (ℕ × Option Row)) (content : Content)
-    → speaks old.side who ≡ true → IsJust who task old → IsLawful new.limits new.log → (found : Found old new P) → fetched ≡ task_fetched found.at task
-    → content ≡ content_from task fetched → content ≡ task_content new.log task
-content-found who task old new P fetched content mine just lawful found read is =
+pub content-found : (who : ℕ) (task : Task) (old new : Known) (P : History → Type 0) (lent : Option Content) (fetched : List (ℕ × Option Row))
+    (content : Content) → speaks old.side who ≡ true → IsJust who task old → IsLawful new.limits new.log → (found : Found old new P)
+    → lent ≡ task_lent found.at task → fetched ≡ task_fetched found.at task → content ≡ content_built task lent fetched
+    → content ≡ task_content new.log task
+content-found who task old new P lent fetched content mine just lawful found lent_is read is =
     is
-    ∙ (ap (content_from task) (read ∙ ap (λ (s : Known). task_fetched s.log task) (sym found.now))
-    ∙ content-read who task old new mine just (went-found old new P found) lawful.legal)
+    ∙ (ap₂ (content_built task) lent_is read
+    ∙ (ap (λ (s : Known). content_built task (task_lent s.log task) (task_fetched s.log task)) (sym found.now)
+    ∙ content-built who task old new mine just (went-found old new P found) lawful.legal))
+
+-- and a unit that was lent is such that it can be made anew
+pub beside-found : (who : ℕ) (task : Task) (old new : Known) (P : History → Type 0) (lent : Option Content) (fetched : List (ℕ × Option Row))
+    → speaks old.side who ≡ true → IsJust who task old → IsLawful new.limits new.log → (found : Found old new P)
+    → lent ≡ task_lent found.at task → fetched ≡ task_fetched found.at task → IsBeside task lent fetched
+beside-found who task old new P lent fetched mine just lawful found lent_is read =
+    subst (IsBeside task lent) (sym read)
+    (subst (λ (unit : Option Content). IsBeside task unit (task_fetched found.at task)) (sym lent_is)
+    (subst (λ (s : Known). IsBeside task (task_lent s.log task) (task_fetched s.log task)) found.now
+    (is-beside new.limits new.log who task lawful.legal
+    (own-given (given-went who task old new mine just (went-found old new P found) lawful.legal)))))

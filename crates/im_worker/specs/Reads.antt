@@ -1,20 +1,20 @@
 -- How many rows the builds of a line may read from the blocks.
-use Rattle.std.specs.Prelude.{◌≡◌, ℕ, ◌+◌, ◌-◌, ◌*◌, ◌≤◌, min, List, [], ◌∷◌, ◌++◌, Some}
+use Rattle.std.specs.Prelude.{◌≡◌, ℕ, ◌+◌, ◌≤◌, List, [], ◌∷◌, ◌++◌, length, Some}
+use Rattle.im_core.specs.Tasks.{task_fetched}
 use Rattle.im_history.specs.declared.task.Choice.{Choice}
 use Rattle.im_history.specs.History.{History, behind}
-use Rattle.im_history.specs.Queue.{build_of, next}
-use Rattle.im_history.specs.Tables.{given}
-use Rattle.im_history.specs.Views.{per_at}
+use Rattle.im_history.specs.Queue.{build_of, next, task_of}
 
--- the beginning of a build: the history that it came behind, and which build it was
+-- a build: the history that its beginning came behind, which build it was, and the history at which it was read what its unit is made of
 pub record Start : Type 0 where
   pub at : History
   pub choice : Choice
+  pub read : History
 
--- the row numbers of its extent that were given then
+-- how many rows were read then: those that were stale beside the unit that it was lent, or without one all of its extent that were given
+-- when it began
 abbrev pub rows_of : Start → ℕ
-rows_of start =
-    min (per_at start.at start.choice.table) (given start.at start.choice.table - start.choice.extent * per_at start.at start.choice.table)
+rows_of start = length (task_fetched start.read (task_of start.at start.choice))
 
 -- and of several builds together
 abbrev pub rows_of_all : List Start → ℕ
@@ -26,13 +26,16 @@ pub record WentOn (old new : History) : Type 0 where
   pub more : History
   pub is : new ≡ old ++ more
 
--- builds that this number began one after the other while a history went on, each being the one that came next
+-- builds that this number began one after the other while a history went on, each being the one that came next, and each being read
+-- behind its beginning and before the next began
 abbrev pub AreBegun : ℕ → History → List Start → History → Type 0
 AreBegun who old [] new = WentOn old new
 AreBegun who old (start ∷ starts) new =
-    WentOn old start.at × (next start.at ≡ Some start.choice) × AreBegun who (behind start.at who (build_of start.at start.choice)) starts new
+    WentOn old start.at × (next start.at ≡ Some start.choice)
+    × WentOn (behind start.at who (build_of start.at start.choice)) start.read
+    × AreBegun who start.read starts new
 
--- the steps of a line: the extent of each build that it began was read, each row number once at most, and nothing else
+-- the steps of a line: of each build that it began each row that was read is one at most, and there are no others
 pub record IsCounted (who before after : ℕ) (old new : History) : Type 0 where
   pub starts : List Start
   pub begun : AreBegun who old starts new

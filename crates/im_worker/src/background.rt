@@ -54,8 +54,8 @@ impl Background {
     /// Plays one statement, and answers it.
     ///
     /// A statement of a session is not the background's: it is answered that there is nothing, and nothing is done. The gate is
-    /// called before and after each switch, outside the store's turn. Each row number of the extent of a build that began is
-    /// one step at most, also where memory is out.
+    /// called before and after each switch, outside the store's turn. Each row that is read for a build that began is one step
+    /// at most, also where memory is out.
     pub fn command<R: Wait, H: Reach<ColumnUnit>, G: Gate, L: Ledger>(
         &mut self,
         outside: &Outside<R, G>,

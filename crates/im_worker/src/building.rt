@@ -1,18 +1,19 @@
-ghost use Rattle.std.specs.Prelude.{◌≡◌, ◌+◌, ◌<◌, ◌≤◌, [], true, IfOk};
-ghost use Rattle.std.specs.Option.{ForSome};
-ghost use Rattle.im_core.specs.Answers.{task_rows};
+ghost use Rattle.std.specs.Prelude.{◌≡◌, ◌+◌, ◌<◌, ◌≤◌, [], length, true, IfOk};
+ghost use Rattle.std.specs.Arc.{arc_value};
+ghost use Rattle.std.specs.Option.{ForSome, option_map};
+ghost use Rattle.im_core.specs.Tasks.{task_fetched};
 ghost use Rattle.im_history.specs.Legal.{IsLawful};
 ghost use Rattle.im_history.specs.Units.{task_content};
 ghost use Rattle.im_reach.specs.Sides.{speaks};
 ghost use Rattle.im_worker.specs.Reads.{IsCounted};
 ghost use Rattle.im_worker.specs.inner.Beginning.{IsBegun, IsJust};
-ghost use Rattle.im_worker.specs.inner.Good.{content_from};
+ghost use Rattle.im_worker.specs.inner.Good.{IsBeside, content_built, content_from};
 ghost use Rattle.im_worker.specs.inner.Rests.{Went};
 ghost use Rattle.im_worker.specs.inner.Standing.{Stands};
 
 use crate::held::Build;
-use crate::rows::{padded, unit_of_rows};
-use im_core::{Fetched, Offer};
+use crate::rows::{padded, unit_again, unit_of_rows};
+use im_core::{Fetched, Offer, Pin};
 use im_edge::Outside;
 use im_history::Task;
 use im_reach::Reach;
@@ -42,18 +43,35 @@ pub enum Beginning {
     Dropped,
 }
 
-/// The unit of a build, from what was read for it.
-fn unit_from(alloc: Global, task: &Task, fetched: Fetched) -> Result<Arc<ColumnUnit>, NoMemory>
-    ensures { IfOk result (λ unit. unit.value ≡ content_from task.now fetched) }
+/// The unit of a build that no unit was lent to, of the rows that were fetched for it.
+fn unit_anew(alloc: Global, task: &Task, fetched: Fetched) -> Result<ColumnUnit, NoMemory>
+    ensures { IfOk result (λ unit. unit ≡ content_from task.now fetched) }
 {
     let rows = padded(alloc, fetched, task.per)?;
-    let unit = unit_of_rows(alloc, task, rows.as_slice())?;
+    unit_of_rows(alloc, task, rows.as_slice())
+}
+
+/// The unit of a build, of what was read for it: the unit that was lent with the fetched rows in their places, or without one the
+/// fetched rows alone.
+fn unit_from(alloc: Global, task: &Task, pin: Pin<ColumnUnit>) -> Result<Arc<ColumnUnit>, NoMemory>
+    requires beside { IsBeside task.now (option_map arc_value pin.unit) pin.fetched }
+    ensures { IfOk result (λ unit. unit.value ≡ content_built task.now (option_map arc_value pin.unit) pin.fetched) }
+{
+    let Pin {
+        place: _,
+        unit,
+        fetched,
+    } = pin;
+    let unit = match unit {
+        Some(old) => unit_again(alloc, task, &old, &fetched)?,
+        None => unit_anew(alloc, task, fetched)?,
+    };
     Ok(Arc::new(alloc, unit)?)
 }
 
-/// Reads what a build that just began is of, and makes its unit.
+/// Reads what the unit of a build that just began is made of, and makes it.
 ///
-/// Each row number of the extent that was given is one step at most.
+/// Each row that is read is one step at most, also where memory is out.
 fn unit_of<R: Wait, H: Reach<ColumnUnit>, G, L: Ledger>(
     outside: &Outside<R, G>,
     reach: &mut H,
@@ -67,13 +85,13 @@ fn unit_of<R: Wait, H: Reach<ColumnUnit>, G, L: Ledger>(
     ensures went { Went (H.known reach.old) (H.known reach.new) }
     ensures kept { H.known reach.new ≡ record (H.known reach.old) { log = (H.known reach.new).log } }
     ensures unit { ForSome result (λ unit. unit.value ≡ task_content (H.known reach.new).log task.now) }
-    ensures steps { steps.new ≤ steps.old + task_rows (H.known reach.old).log task.now }
+    ensures steps { steps.new ≤ steps.old + length (task_fetched (H.known reach.new).log task.now) }
     ensures lawful { IsLawful (H.known reach.new).limits (H.known reach.new).log }
 {
     let Ok(pin) = reach.read_task(outside.rt, who, task, steps) else {
         return None;
     };
-    match unit_from(outside.alloc, task, pin.fetched) {
+    match unit_from(outside.alloc, task, pin) {
         Ok(unit) => Some(unit),
         Err(NoMemory) => None,
     }
@@ -81,7 +99,7 @@ fn unit_of<R: Wait, H: Reach<ColumnUnit>, G, L: Ledger>(
 
 /// Begins the build that comes next, beside those that are held, and makes its unit ready.
 ///
-/// Each row number of its extent that was given is one step at most.
+/// Each row that is read for it is one step at most, also where memory is out.
 pub fn begin_next<R: Wait, H: Reach<ColumnUnit>, G, L: Ledger>(
     outside: &Outside<R, G>,
     reach: &mut H,

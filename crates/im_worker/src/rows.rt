@@ -1,10 +1,13 @@
 ghost use Rattle.std.specs.Prelude.{◌≡◌, ◌+◌, ◌-◌, ◌*◌, ◌<◌, ◌≤◌, ◌^◌, ◌++◌, map, length, nat_le, IfOk, OnOk, IfSome};
+ghost use Rattle.std.specs.Option.{option_copied};
+ghost use Rattle.im_history.specs.Fetched.{lent_rows};
+ghost use Rattle.im_unit.specs.Rebuilt.{RiseWithin, fetched_rows, rebuilt};
 ghost use Rattle.im_values.specs.declared.limits.TheConstants.{MOST_COLUMNS};
 ghost use Rattle.im_values.specs.Sizes.{value_bytes};
 ghost use Rattle.im_worker.specs.inner.Good as spec;
 
 use im_core::Fetched;
-use im_history::Task;
+use im_history::{LentRow, Task, lent_values};
 use im_unit::ColumnUnit;
 use im_values::limits::MOST_COLUMNS;
 use im_values::{NoMemory, Row, Value};
@@ -32,11 +35,11 @@ fn all_short(values: &[Value]) -> bool
 }
 
 /// Whether a row, where there is one, is one that a unit of so many columns takes.
-fn is_good(row: &Option<Row>, columns: u32) -> bool
-    ensures { result ≡ spec.is_good columns row.now }
+fn is_good(row: Option<&[Value]>, columns: u32) -> bool
+    ensures { result ≡ spec.is_good columns (option_copied row.entry) }
 {
     match row {
-        Some(row) => row.values().len() == columns as usize && all_short(row.values()),
+        Some(values) => values.len() == columns as usize && all_short(values),
         None => true,
     }
 }
@@ -47,7 +50,18 @@ fn all_good(rows: &[Option<Row>], columns: u32) -> bool
 {
     let mut good = true;
     for row in rows {
-        good = good && is_good(row, columns);
+        good = good && is_good(lent_values(row), columns);
+    }
+    good
+}
+
+/// Whether all rows that are lent are such.
+fn all_lent_good(rows: &[LentRow<'_>], columns: u32) -> bool
+    ensures { result ≡ spec.all_good columns (fetched_rows (lent_rows rows.now)) }
+{
+    let mut good = true;
+    for row in rows {
+        good = good && is_good(row.1, columns);
     }
     good
 }
@@ -89,6 +103,26 @@ pub fn unit_of_rows(
         return Err(NoMemory);
     }
     ColumnUnit::build(alloc, task.scn, first, task.columns, rows)
+}
+
+/// The unit of a build, made anew of the one that was lent to it and of the rows that were fetched beside that. Where one of these is
+/// none that a unit of so many columns takes, which does not come, it counts as out of memory.
+pub fn unit_again(
+    alloc: Global,
+    task: &Task,
+    old: &ColumnUnit,
+    fetched: &Fetched,
+) -> Result<ColumnUnit, NoMemory>
+    requires columns { old.now.columns ≡ task.now.columns }
+    requires rise { RiseWithin old.now.first (old.now.first + length old.now.rows) fetched.now }
+    ensures { IfOk result (λ unit. unit ≡ rebuilt old.now task.now.scn fetched.now) }
+{
+    let lent = fetched.lent(alloc)?;
+    let rows = lent.as_slice();
+    if !all_lent_good(rows, task.columns) {
+        return Err(NoMemory);
+    }
+    ColumnUnit::rebuild(alloc, old, task.scn, rows)
 }
 
 /// Puts so many row numbers without a row behind others.

@@ -1,7 +1,7 @@
 use Rattle.std.proofs.Common.{◌∙◌, refl, sym, ap, subst}
 use Rattle.check_store.proofs.GoingLemmas.{side-went}
 use Rattle.check_store.proofs.SessionLemmas.{agrees-new}
-use Rattle.check_store.proofs.UnderWayLemmas.{stands-none}
+use Rattle.check_store.proofs.UnderWayLemmas.{stands-none, went-beside}
 use Rattle.check_store.proofs.builds.serves_both.Goals as goal
 use Rattle.im_reach.specs.Sides.{Known}
 use Rattle.im_session.specs.Sessions.{Agrees}
@@ -25,8 +25,10 @@ build_behind-requires-clause-agrees g c = subst (Agrees c.play_each.new.session)
 
 pub build_behind-requires-clause-stands : goal.build_behind-requires-clause-stands
 build_behind-requires-clause-stands g c =
-    stands-none 17 refl refl (g.H.Reach.known c.args.store.now) (g.H.Reach.known c.look_on.new.store) c.requires.fresh
-    (subst (WentOn 1 (g.H.Reach.known c.args.store.now)) (sym c.look_on.ensures.same) c.play_each.ensures.went) c.look_on.ensures.lawful
+    let old = g.H.Reach.known c.args.store.now in
+    let now = g.H.Reach.known c.look_on.new.store in
+    stands-none 17 refl old now c.requires.fresh (went-beside 17 1 refl old now (subst (WentOn 1 old) (sym c.look_on.ensures.same) c.play_each.ensures.went))
+    c.look_on.ensures.lawful
 
 pub play-present-requires-clause-sole : goal.play-present-requires-clause-sole
 play-present-requires-clause-sole g c = c.build_behind.ensures.sole c.in-Some.used c.in-Some.is

@@ -2,7 +2,7 @@ use Rattle.std.proofs.Common.{false, refl, ap, subst}
 use Rattle.im_history.specs.declared.entry.What.TheVariants.{Cancel}
 use Rattle.im_reach.specs.Sides.{AreOthers, Known, Offered}
 use Rattle.im_worker.proofs.BeginLemmas.{begun-counted, dropped-of, idle-of, lacked-of, ready-of, stands-read}
-use Rattle.im_worker.proofs.CountLemmas.{on-added, on-on, on-went}
+use Rattle.im_worker.proofs.CountLemmas.{on-added, on-same}
 use Rattle.im_worker.proofs.StandingLaws.{own-last}
 use Rattle.im_worker.proofs.building.begin_next.Goals as goal
 
@@ -21,8 +21,8 @@ returns-in-Some-clause-ticks g c =
     let mid = g.H.Reach.known c.build.new.self in
     let new = g.H.Reach.known c.unit_of.new.reach in
     let offered = subst (Offered old mid c.args.who) c.in-Task.is c.in-Ok.ensures.ok in
-    begun-counted c.args.who c.args.steps.now c.unit_of.new.steps old mid new c.in-Task.task offered.0 c.in-Ok.ensures.lawful offered.1
-    (on-went mid new c.in-Some.ensures.went) c.in-Some.ensures.steps
+    begun-counted c.args.who c.args.steps.now c.unit_of.new.steps old mid new new c.in-Task.task offered.0 c.in-Ok.ensures.lawful offered.1
+    c.in-Some.ensures.went (on-same new.log) c.in-Some.ensures.steps
 
 pub returns-in-None-clause-begun : goal.returns-in-None-clause-begun
 returns-in-None-clause-begun g c =
@@ -63,7 +63,7 @@ returns-in-None-clause-ticks g c =
     let new = g.H.Reach.known c.cancel.new.self in
     let offered = subst (Offered old mid c.args.who) c.in-Task.is c.in-Ok.ensures.ok in
     let cancelled = c.cancel.ensures.added in
-    begun-counted c.args.who c.args.steps.now c.unit_of.new.steps old mid new c.in-Task.task offered.0 c.in-Ok.ensures.lawful offered.1
-    (on-on mid.log read.log new.log (on-went mid read c.in-None.ensures.went)
+    begun-counted c.args.who c.args.steps.now c.unit_of.new.steps old mid read new c.in-Task.task offered.0 c.in-Ok.ensures.lawful offered.1
+    c.in-None.ensures.went
     (on-added (AreOthers read.side) read.log cancelled.at new.log c.args.who (Cancel c.in-Task.task.id false) cancelled.after
-    (ap (λ (s : Known). s.log) cancelled.now))) c.in-None.ensures.steps
+    (ap (λ (s : Known). s.log) cancelled.now)) c.in-None.ensures.steps

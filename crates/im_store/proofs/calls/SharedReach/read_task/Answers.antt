@@ -1,6 +1,5 @@
 use Rattle.im_store.proofs.CallLemmas.{grew_not, went_since}
-use Rattle.im_store.proofs.OwnLaws.{IsOwn-on, task_rows-on}
-use Rattle.std.proofs.Common.{ℕ, ◌≤◌, ◌+◌, subst}
+use Rattle.im_store.proofs.OwnLaws.{IsOwn-on}
 use Rattle.im_store.proofs.calls.SharedReach.read_task.Goals as goal
 
 pub read_task-answer-requires : goal.read_task-answer-requires
@@ -12,9 +11,3 @@ read_task-answer-requires g c =
 pub give-requires-clause-grew : goal.give-requires-clause-grew
 give-requires-clause-grew g c =
     grew_not c.take-core.ensures.took c.read_task-answer.ensures.same
-
-pub returns-clause-steps : goal.returns-clause-steps
-returns-clause-steps g c =
-    subst (λ (rows : ℕ). c.read_task-answer.new.steps ≤ c.args.steps.now + rows)
-    (task_rows-on (went_since c.args.who c.self.view_is c.take-core.ensures.took c.requires.speaks) c.args.task.now c.requires.own)
-    c.read_task-answer.ensures.steps
