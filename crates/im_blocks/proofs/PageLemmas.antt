@@ -300,17 +300,17 @@ AreShown-applied old new scn before pages ready shown places noted applied = rec
 
 -- ---- changes that are noted
 
-hides_now : (old new : List (List Page)) (one : Ready) → IsNotedAt old new (place_in one).0 (place_in one).1 → HidesOne new one
+pub hides_now : (old new : List (List Page)) (one : Ready) → IsNotedAt old new (place_in one).0 (place_in one).1 → HidesOne new one
 hides_now old new (Run table first rows) noted = tt
 hides_now old new (One change) noted = noted.gone
 
--- one change more is noted
+-- one change more is noted, or need not be
 pub hidden-next : (old new : List (List Page)) (ready : List Ready) (at : ℕ) (one : Ready) → at < length ready → one ≡ get_or ready at one
-    → All (HidesOne old) (take at ready) → IsNotedAt old new (place_in one).0 (place_in one).1 → All (HidesOne new) (take (at + 1) ready)
-hidden-next old new ready at one within is hidden noted =
+    → All (HidesOne old) (take at ready) → ShowWithin old new → HidesOne new one → All (HidesOne new) (take (at + 1) ready)
+hidden-next old new ready at one within is hidden less hides =
     let next : take (at + 1) ready ≡ take at ready ++ one ∷ [] = take-next ready at one within ∙ ap (λ (r : Ready). take at ready ++ r ∷ []) (sym is) in
     subst (All (HidesOne new)) (sym next)
-    (All-push (HidesOne new) (take at ready) one (hide_still old new (take at ready) noted.within hidden) (hides_now old new one noted))
+    (All-push (HidesOne new) (take at ready) one (hide_still old new (take at ready) less hidden) hides)
 
 -- ---- rows that are read from an image
 

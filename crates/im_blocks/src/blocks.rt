@@ -65,9 +65,9 @@ impl Blocks {
     /// Makes the changes of these pieces ready to be put in, in order, and makes room for them.
     ///
     /// Rows that are put together at row numbers that have no version stay together, and are shared. It costs one look-up for
-    /// each row number below those that were ever used, and for each other change; and the chains that are new. After 64
-    /// changes of a page of 2,048 row numbers its newest rows are copied, if there is memory. After an error
-    /// some room may be there.
+    /// each row number below those that were ever used, and for each other change; and the chains that are new. After 16
+    /// changes of a page of 2,048 row numbers its newest rows are copied, if there is memory, and after 64 more, or those of 16
+    /// commits, again. After an error some room may be there.
     pub fn reserve(&mut self, pieces: &[Changes]) -> Result<Vec<Ready>, NoMemory>
         ensures same { SameVersions self.old self.new }
         ensures ready { IfOk result (λ ready. IsReadyFor self.new ready.items (all_changes pieces.now)) }
@@ -89,7 +89,7 @@ impl Blocks {
         requires later { IsBefore self.old scn }
         ensures { Applied self.old self.new scn (ready_changes ready.items) }
     {
-        note_each(&mut self.pages, ready.as_slice());
+        note_each(&mut self.pages, ready.as_slice(), scn);
         self.versions.apply(scn, ready);
     }
 

@@ -1,6 +1,8 @@
-ghost use Rattle.std.specs.Prelude.{◌≡◌, ◌^◌, ◌<◌};
+ghost use Rattle.std.specs.Prelude.{◌≡◌, ◌^◌, ◌<◌, List};
+ghost use Rattle.std.specs.Bool.{OnTrue};
+ghost use Rattle.im_blocks.specs.declared.pages.Page.{Page as AnyPage};
 ghost use Rattle.im_blocks.specs.inner.Pages as spec;
-ghost use Rattle.im_blocks.specs.inner.Pages.{AreNoted, AreShown, IsNoted, IsNotedAt};
+ghost use Rattle.im_blocks.specs.inner.Pages.{AreNoted, AreShown, HidesOne, IsNoted, IsNotedAt};
 
 use crate::drawing::image_of;
 use crate::image::Image;
@@ -13,18 +15,28 @@ use std::alloc::Global;
 /// How many row numbers a page has.
 pub const PAGE: u64 = 2048;
 
-/// From so many changes on a page gets an image: a change then costs the copies of 32 rows.
+/// From so many changes on a page gets its first image, and from so many commits on that changed rows of an image a new one.
+const SOME: u64 = 16;
+
+/// From so many changes on an image is made anew: a change then costs the copies of 32 rows.
 const MANY: u64 = 64;
 
-/// From so many changes on it gets a new one.
-const SOME: u64 = 16;
+/// What is put behind an image counts from this part of its rows on: so each row is copied a few times in all.
+const PART: u64 = 8;
+
+/// A run of so many rows is read together without an image, and counts for none.
+const LONG: usize = 64;
 
 /// What is kept of row numbers in a row beside their versions.
 #[derive(Drop)]
 pub struct Page {
     /// How many times a row of the image was changed since it was made.
     pub changed: u64,
-    /// How many times rows were put behind those of the image since.
+    /// How many commits did so.
+    pub commits: u64,
+    /// The SCN of the last of them, or 0.
+    pub noted: u64,
+    /// How many times rows were put behind those of the image since, or changed or put where there is no image.
     pub added: u64,
     /// The image, if one was made.
     pub image: Option<Image>,
@@ -36,6 +48,8 @@ impl Cell for Page {
     fn empty(_alloc: Global) -> Page {
         Page {
             changed: 0,
+            commits: 0,
+            noted: 0,
             added: 0,
             image: None,
         }
@@ -43,24 +57,26 @@ impl Cell for Page {
 }
 
 impl Page {
-    /// Whether so much was changed, or put behind, that an image pays. One that is there takes its memory already, so it is
-    /// made anew earlier: then what is read beside it stays little.
+    /// Whether so much was changed, or put behind, that an image pays. One that is there is made anew after a few commits too: then
+    /// what is read beside it stays little.
     fn is_due(&self) -> bool {
         match &self.image {
             Some(image) => {
                 let rows = image.fresh.len() as u64;
-                self.changed >= SOME || self.added >= MANY.max(rows / 2)
+                self.changed >= MANY || self.commits >= SOME || self.added >= MANY.max(rows / PART)
             }
-            None => self.changed >= MANY || self.added >= MANY,
+            None => self.added >= SOME,
         }
     }
 
-    /// Takes note of a change of the row at a place, which is not shown any more.
-    fn note(&mut self, place: u64)
+    /// Takes note of a change of the row at a place by the commit with this SCN. It is not shown any more.
+    fn note(&mut self, place: u64, scn: u64)
         ensures { IsNoted self.old self.new place }
     {
         if self.forget(place) {
             self.changed = self.changed.saturating_add(1);
+            self.commits = self.commits.saturating_add((self.noted != scn) as u64);
+            self.noted = scn;
         } else {
             self.added = self.added.saturating_add(1);
         }
@@ -91,23 +107,40 @@ fn place_of(one: &Ready) -> (u32, u64)
     }
 }
 
-/// Takes note of a change of the row of a row number.
-fn note(pages: &mut Cells<Page>, table: u32, rid: u64)
+/// Whether rows are put that are read together without an image.
+fn is_long(one: &Ready) -> bool
+    ensures { OnTrue result ((pages : List (List AnyPage)) → HidesOne pages one.now) }
+{
+    match one {
+        Ready::Run {
+            table: _,
+            first: _,
+            rows,
+        } => rows.len() >= LONG,
+        Ready::One(_) => false,
+    }
+}
+
+/// Takes note of a change of the row of a row number by the commit with this SCN.
+fn note(pages: &mut Cells<Page>, table: u32, rid: u64, scn: u64)
     ensures { IsNotedAt pages.old pages.new table rid }
 {
     let number = rid / PAGE;
     if number < pages.count(table) {
-        pages.cell_mut(table, number).note(rid % PAGE);
+        pages.cell_mut(table, number).note(rid % PAGE, scn);
     }
 }
 
-/// Takes note of changes: no row that one of them changes is shown any more. It takes no memory.
-pub fn note_each(pages: &mut Cells<Page>, ready: &[Ready])
+/// Takes note of the changes of the commit with this SCN: no row that one of them changes is shown any more. It takes no memory.
+pub fn note_each(pages: &mut Cells<Page>, ready: &[Ready], scn: u64)
     ensures { AreNoted pages.old pages.new ready.now }
 {
     for one in ready {
+        if is_long(one) {
+            continue;
+        }
         let (table, rid) = place_of(one);
-        note(pages, table, rid);
+        note(pages, table, rid, scn);
     }
 }
 
@@ -140,6 +173,8 @@ fn renew(
     let image = image_of(alloc, versions, table, first, count)?;
     *pages.cell_mut(table, number) = Page {
         changed: 0,
+        commits: 0,
+        noted: 0,
         added: 0,
         image: Some(image),
     };
