@@ -1,4 +1,4 @@
-ghost use Rattle.std.specs.Prelude.{◌≡◌, ◌≤◌, ◌*◌, length, true, IfSome, IfOk, OnOk};
+ghost use Rattle.std.specs.Prelude.{◌≡◌, ◌≤◌, ◌*◌, [], length, true, IfSome, IfOk, OnOk};
 ghost use Rattle.std.specs.List.{list_all};
 ghost use Rattle.im_values.specs.Stretches.{cut};
 ghost use Rattle.im_syntax.specs.Tuples.{written, is_proper};
@@ -17,6 +17,7 @@ use crate::fronts::word;
 use crate::places::{behind_blanks, behind_letters, ends};
 use crate::straight::tuple;
 use im_syntax::{EvenTuples, Stmt, Token, Tuples, is_name};
+use im_values::limits::MOST_COLUMNS;
 use im_values::{List, Name, NoMemory, Value};
 use std::alloc::Global;
 
@@ -123,12 +124,34 @@ fn make_room(values: &mut Vec<Value>, taken: usize, left: usize) -> Result<(), N
     Ok(())
 }
 
+/// How many values the tuple at the front of the bytes has, at most as many as a table has columns. It is a guess: a comma or a
+/// parenthesis in a text counts too.
+fn guess_width(bytes: &[u8]) -> usize {
+    let mut values: usize = 1;
+    for byte in bytes {
+        match *byte {
+            b',' => values = values.saturating_add(1),
+            b')' => return values.min(MOST_COLUMNS),
+            _ => {}
+        }
+    }
+    values.min(MOST_COLUMNS)
+}
+
+/// No values yet, and room for those of the tuple at a place.
+fn no_values(alloc: Global, line: &[u8], at: usize) -> Result<Vec<Value>, NoMemory>
+    requires { at ≤ length line.now }
+    ensures { IfOk result (λ values. values.items ≡ []) }
+{
+    Ok(Vec::with_capacity(alloc, guess_width(behind(line, at)))?)
+}
+
 /// The tuples from a place on, where they are of one length and the line ends behind them.
 fn tuples(alloc: Global, line: &[u8], at: usize) -> Result<Option<Tuples>, NoMemory>
     requires { at ≤ length line.now }
     ensures { IfOk result (λ found. IfSome found (λ tuples. straight.HasTuples line.now at tuples)) }
 {
-    let mut values = Vec::new(alloc);
+    let mut values = no_values(alloc, line, at)?;
     let Some(mut next) = tuple(alloc, line, at, &mut values)? else {
         return Ok(None);
     };
