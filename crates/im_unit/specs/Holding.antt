@@ -1,7 +1,8 @@
 -- What is read of a column unit.
 use Rattle.std.specs.Prelude.{◌≡◌, ℕ, ◌-◌, nat_lt, List, length, map, take, get_or, Option, Some, None, is_some, if◌then◌else◌}
 use Rattle.std.specs.List.{All, AllByRecursion}
-use Rattle.std.specs.Option.{ForSome}
+use Rattle.std.specs.Option.{ForSome, option_copied}
+use denote.Ref.{Bor}
 use Rattle.im_values.specs.declared.value.Value.{Value}
 use Rattle.im_values.specs.declared.value.Value.TheVariants.{Null}
 use Rattle.im_index.specs.declared.bounds.Bounds.{Bounds}
@@ -26,6 +27,10 @@ row_across columns spot = map (λ column. get_or column spot Null) columns
 -- the bounds of a unit's columns
 abbrev pub edges_of : Content → List Bounds
 edges_of content = map bounds_of (columns_of content)
+
+-- rows that are lent, or none
+abbrev pub lent_slots : List (Option (Bor Row)) → List (Option Row)
+lent_slots slots = map option_copied slots
 
 -- each row that is present has so many values
 abbrev pub HaveWidth : ℕ → List (Option Row) → Type 0

@@ -2,17 +2,36 @@ ghost use Rattle.std.specs.Prelude.{◌≡◌, ◌<◌, ◌++◌, ◌∷◌, [],
 ghost use Rattle.im_values.specs.declared.value.Value.TheVariants.{Null};
 ghost use Rattle.std.specs.Arc.{arc_value};
 ghost use Rattle.std.specs.List.{range_with_len};
-ghost use Rattle.im_unit.specs.Holding.{present_rows, values_in};
+ghost use Rattle.std.specs.Option.{option_copied};
+ghost use Rattle.im_unit.specs.Holding.{lent_slots, present_rows, values_in};
 ghost use Rattle.im_unit.specs.inner.Kept.{AreRows, lent};
 
 use im_column::Column;
+use im_history::lent_values;
 use im_values::{NoMemory, Row, Value};
 use std::alloc::Global;
 use std::sync::Arc;
 
+/// Rows, or none, lent.
+pub fn lend_slots<'a>(
+    alloc: Global,
+    rows: &'a [Option<Row>],
+) -> Result<Vec<Option<&'a [Value]>>, NoMemory>
+    ensures { IfOk result (λ slots. lent_slots slots.items ≡ rows.now) }
+{
+    let mut slots = Vec::with_capacity(alloc, rows.len())?;
+    for row in rows {
+        slots.push(lent_values(row))?;
+    }
+    Ok(slots)
+}
+
 /// Puts a row, where there is one, behind others.
-fn put_present<'a>(row: &'a Option<Row>, present: &mut Vec<&'a Row>) -> Result<(), NoMemory>
-    ensures { OnOk result (lent present.new.items ≡ lent present.old.items ++ present_rows (row.now ∷ [])) }
+pub fn put_present<'a>(
+    row: Option<&'a [Value]>,
+    present: &mut Vec<&'a [Value]>,
+) -> Result<(), NoMemory>
+    ensures { OnOk result (lent present.new.items ≡ lent present.old.items ++ present_rows (option_copied row.entry ∷ [])) }
 {
     if let Some(row) = row {
         present.push(row)?;
@@ -21,28 +40,32 @@ fn put_present<'a>(row: &'a Option<Row>, present: &mut Vec<&'a Row>) -> Result<(
 }
 
 /// The rows that are present. They stay where they are.
-pub fn rows_present<'a>(alloc: Global, rows: &'a [Option<Row>]) -> Result<Vec<&'a Row>, NoMemory>
-    ensures { IfOk result (λ present. lent present.items ≡ present_rows rows.now) }
+pub fn rows_present<'a>(
+    alloc: Global,
+    rows: &[Option<&'a [Value]>],
+) -> Result<Vec<&'a [Value]>, NoMemory>
+    ensures { IfOk result (λ present. lent present.items ≡ present_rows (lent_slots rows.now)) }
 {
     let mut present = Vec::with_capacity(alloc, rows.len())?;
-    for row in rows {
-        put_present(row, &mut present)?;
+    for i in 0..rows.len() {
+        put_present(rows[i], &mut present)?;
     }
     Ok(present)
 }
 
 /// The value of a row in one column.
-fn value_in(row: &Row, column: usize) -> &Value
+#[inline(always)]
+pub fn value_in(row: &[Value], column: usize) -> &Value
     requires { column < length row.now }
     ensures { result.now ≡ get_or row.now column Null }
 {
-    &row.values()[column]
+    &row[column]
 }
 
 /// The values of rows in one column, copied.
 fn values_of(
     alloc: Global,
-    rows: &[&Row],
+    rows: &[&[Value]],
     column: usize,
     width: usize,
 ) -> Result<Vec<Value>, NoMemory>
@@ -51,8 +74,8 @@ fn values_of(
     ensures { IfOk result (λ values. values.items ≡ values_in column (lent rows.now)) }
 {
     let mut values = Vec::with_capacity(alloc, rows.len())?;
-    for row in rows {
-        values.push(value_in(row, column).copy(alloc)?)?;
+    for i in 0..rows.len() {
+        values.push(value_in(rows[i], column).copy(alloc)?)?;
     }
     Ok(values)
 }
@@ -60,7 +83,7 @@ fn values_of(
 /// One column of rows.
 fn column_of(
     alloc: Global,
-    rows: &[&Row],
+    rows: &[&[Value]],
     column: usize,
     width: usize,
 ) -> Result<Arc<Column>, NoMemory>
@@ -73,7 +96,11 @@ fn column_of(
 }
 
 /// The columns of rows.
-pub fn columns_of(alloc: Global, rows: &[&Row], width: usize) -> Result<Vec<Arc<Column>>, NoMemory>
+pub fn columns_of(
+    alloc: Global,
+    rows: &[&[Value]],
+    width: usize,
+) -> Result<Vec<Arc<Column>>, NoMemory>
     requires rows { AreRows width (lent rows.now) }
     ensures { IfOk result (λ columns.
         map arc_value columns.items ≡ map (λ column. values_in column (lent rows.now)) (range_with_len 0 width)) }

@@ -1,7 +1,5 @@
-ghost use Rattle.std.specs.Prelude.{◌≡◌, ◌+◌, ◌<◌, ◌++◌, ◌∷◌, ◌^◌, [], All, IfOk, OnOk, get_or, length, map};
+ghost use Rattle.std.specs.Prelude.{◌≡◌, ◌+◌, ◌<◌, ◌^◌, All, IfOk, length, map};
 ghost use Rattle.std.specs.Arc.{arc_value};
-ghost use Rattle.std.specs.Option.{option_copied};
-ghost use Rattle.im_values.specs.declared.value.Value.TheVariants.{Null};
 ghost use Rattle.im_column.specs.Forms.{IsShort};
 ghost use Rattle.im_column.specs.Picks.{values_picked};
 ghost use Rattle.im_history.specs.Fetched.{lent_rows};
@@ -10,21 +8,12 @@ ghost use Rattle.im_unit.specs.Rebuilt.{fetched_rows};
 ghost use Rattle.im_unit.specs.inner.Kept.{AreRows, HaveLength, lent, lent_values};
 ghost use Rattle.im_unit.specs.inner.Planned.{columns_picked};
 
+use crate::building::{put_present, value_in};
 use im_column::Column;
 use im_history::LentRow;
 use im_values::{NoMemory, Value};
 use std::alloc::Global;
 use std::sync::Arc;
-
-/// Puts a row, where one was fetched, behind others.
-fn put_fresh<'a>(row: Option<&'a [Value]>, fresh: &mut Vec<&'a [Value]>) -> Result<(), NoMemory>
-    ensures { OnOk result (lent fresh.new.items ≡ lent fresh.old.items ++ present_rows (option_copied row.entry ∷ [])) }
-{
-    if let Some(row) = row {
-        fresh.push(row)?;
-    }
-    Ok(())
-}
 
 /// The rows that were fetched and are there. They stay where they are.
 pub fn fresh_rows<'a>(alloc: Global, fetched: &[LentRow<'a>]) -> Result<Vec<&'a [Value]>, NoMemory>
@@ -32,7 +21,7 @@ pub fn fresh_rows<'a>(alloc: Global, fetched: &[LentRow<'a>]) -> Result<Vec<&'a 
 {
     let mut fresh = Vec::with_capacity(alloc, fetched.len())?;
     for i in 0..fetched.len() {
-        put_fresh(fetched[i].1, &mut fresh)?;
+        put_present(fetched[i].1, &mut fresh)?;
     }
     Ok(fresh)
 }
@@ -50,17 +39,9 @@ fn fresh_values<'a>(
 {
     let mut values = Vec::with_capacity(alloc, rows.len())?;
     for i in 0..rows.len() {
-        values.push(value_of(rows[i], column))?;
+        values.push(value_in(rows[i], column))?;
     }
     Ok(values)
-}
-
-/// The value of a row in one column.
-fn value_of(row: &[Value], column: usize) -> &Value
-    requires { column < length row.now }
-    ensures { result.now ≡ get_or row.now column Null }
-{
-    &row[column]
 }
 
 /// A column of the values at places, where those of an old column come first and fresh ones behind them. Where they are those of

@@ -3,12 +3,12 @@ ghost use Rattle.std.specs.Bool.{OnTrue};
 ghost use Rattle.std.specs.Arc.{arc_value};
 ghost use Rattle.im_values.specs.Sizes.{column_bytes};
 ghost use Rattle.im_index.specs.Bounds.{bounds_of};
-ghost use Rattle.im_unit.specs.Holding.{AreShort, HaveWidth, columns_of, count_present, edges_of, present_rows, row_of, spot_of, values_in};
+ghost use Rattle.im_unit.specs.Holding.{AreShort, HaveWidth, columns_of, count_present, edges_of, lent_slots, present_rows, row_of, spot_of, values_in};
 ghost use Rattle.im_history.specs.Fetched.{lent_rows};
 ghost use Rattle.im_unit.specs.Rebuilt.{RiseWithin, fetched_rows, rebuilt};
 ghost use Rattle.im_unit.specs.inner.Kept.{AreBounded, HaveLength, content_kept, count_set, rows_kept};
 
-use crate::building::{columns_of, rows_present};
+use crate::building::{columns_of, lend_slots, rows_present};
 use crate::planning::{places_of, planned};
 use crate::presence::Presence;
 use crate::reading::{push_row, row_at, rows_of, slots_of, spread_rows};
@@ -119,6 +119,26 @@ impl ColumnUnit {
         requires within { first + length rows.now < 2 ^ 64 }
         ensures { IfOk result (λ unit.
             unit ≡ record { scn = scn; first = first; columns = columns; rows = rows.now }) }
+    {
+        let slots = lend_slots(alloc, rows)?;
+        ColumnUnit::build_lent(alloc, scn, first, columns, slots.as_slice())
+    }
+
+    /// The same of rows that are lent. It takes no handle of any.
+    pub fn build_lent(
+        alloc: Global,
+        scn: u64,
+        first: u64,
+        columns: u32,
+        rows: &[Option<&[Value]>],
+    ) -> Result<ColumnUnit, NoMemory>
+        requires width { HaveWidth columns (lent_slots rows.now) }
+        requires short { AreShort (lent_slots rows.now) }
+        requires few_columns { columns ≤ MOST_COLUMNS }
+        requires few_rows { length rows.now < 2 ^ 31 }
+        requires within { first + length rows.now < 2 ^ 64 }
+        ensures { IfOk result (λ unit.
+            unit ≡ record { scn = scn; first = first; columns = columns; rows = lent_slots rows.now }) }
     {
         let presence = Presence::of(alloc, rows)?;
         let present = rows_present(alloc, rows)?;

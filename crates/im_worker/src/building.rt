@@ -44,8 +44,8 @@ pub enum Beginning {
 }
 
 /// The unit of a build that no unit was lent to, of the rows that were fetched for it.
-fn unit_anew(alloc: Global, task: &Task, fetched: Fetched) -> Result<ColumnUnit, NoMemory>
-    ensures { IfOk result (λ unit. unit ≡ content_from task.now fetched) }
+fn unit_anew(alloc: Global, task: &Task, fetched: &Fetched) -> Result<ColumnUnit, NoMemory>
+    ensures { IfOk result (λ unit. unit ≡ content_from task.now fetched.now) }
 {
     let rows = padded(alloc, fetched, task.per)?;
     unit_of_rows(alloc, task, rows.as_slice())
@@ -64,7 +64,7 @@ fn unit_from(alloc: Global, task: &Task, pin: Pin<ColumnUnit>) -> Result<Arc<Col
     } = pin;
     let unit = match unit {
         Some(old) => unit_again(alloc, task, &old, &fetched)?,
-        None => unit_anew(alloc, task, fetched)?,
+        None => unit_anew(alloc, task, &fetched)?,
     };
     Ok(Arc::new(alloc, unit)?)
 }

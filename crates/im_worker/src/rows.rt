@@ -1,16 +1,17 @@
 ghost use Rattle.std.specs.Prelude.{◌≡◌, ◌+◌, ◌-◌, ◌*◌, ◌<◌, ◌≤◌, ◌^◌, ◌++◌, map, length, nat_le, IfOk, OnOk, IfSome};
 ghost use Rattle.std.specs.Option.{option_copied};
 ghost use Rattle.im_history.specs.Fetched.{lent_rows};
+ghost use Rattle.im_unit.specs.Holding.{lent_slots};
 ghost use Rattle.im_unit.specs.Rebuilt.{RiseWithin, fetched_rows, rebuilt};
 ghost use Rattle.im_values.specs.declared.limits.TheConstants.{MOST_COLUMNS};
 ghost use Rattle.im_values.specs.Sizes.{value_bytes};
 ghost use Rattle.im_worker.specs.inner.Good as spec;
 
 use im_core::Fetched;
-use im_history::{LentRow, Task, lent_values};
+use im_history::{LentRow, Task};
 use im_unit::ColumnUnit;
 use im_values::limits::MOST_COLUMNS;
-use im_values::{NoMemory, Row, Value};
+use im_values::{NoMemory, Value};
 use std::alloc::Global;
 
 /// Whether a value is no text of more than 65,535 bytes.
@@ -45,12 +46,12 @@ fn is_good(row: Option<&[Value]>, columns: u32) -> bool
 }
 
 /// Whether all rows are such.
-fn all_good(rows: &[Option<Row>], columns: u32) -> bool
-    ensures { result ≡ spec.all_good columns rows.now }
+fn all_good(rows: &[Option<&[Value]>], columns: u32) -> bool
+    ensures { result ≡ spec.all_good columns (lent_slots rows.now) }
 {
     let mut good = true;
     for row in rows {
-        good = good && is_good(lent_values(row), columns);
+        good = good && is_good(*row, columns);
     }
     good
 }
@@ -87,13 +88,13 @@ fn first_of(task: &Task, rows: usize) -> Option<u64>
 pub fn unit_of_rows(
     alloc: Global,
     task: &Task,
-    rows: &[Option<Row>],
+    rows: &[Option<&[Value]>],
 ) -> Result<ColumnUnit, NoMemory>
     ensures { IfOk result (λ unit. unit ≡ record {
       scn = task.now.scn;
       first = task.now.extent * task.now.per;
       columns = task.now.columns;
-      rows = rows.now;
+      rows = lent_slots rows.now;
     }) }
 {
     let Some(first) = first_of(task, rows.len()) else {
@@ -102,7 +103,7 @@ pub fn unit_of_rows(
     if !all_good(rows, task.columns) {
         return Err(NoMemory);
     }
-    ColumnUnit::build(alloc, task.scn, first, task.columns, rows)
+    ColumnUnit::build_lent(alloc, task.scn, first, task.columns, rows)
 }
 
 /// The unit of a build, made anew of the one that was lent to it and of the rows that were fetched beside that. Where one of these is
@@ -125,23 +126,41 @@ pub fn unit_again(
     ColumnUnit::rebuild(alloc, old, task.scn, rows)
 }
 
-/// Puts so many row numbers without a row behind others.
-fn pad(rows: &mut Vec<Option<Row>>, count: u64) -> Result<(), NoMemory>
-    ensures { OnOk result (rows.new.items ≡ rows.old.items ++ spec.nones count) }
+/// Puts rows that were fetched behind others, without their numbers.
+fn put_rows<'a>(
+    slots: &mut Vec<Option<&'a [Value]>>,
+    fetched: &[LentRow<'a>],
+) -> Result<(), NoMemory>
+    ensures { OnOk result (lent_slots slots.new.items ≡ lent_slots slots.old.items ++ fetched_rows (lent_rows fetched.now)) }
 {
-    for _ in 0..count {
-        rows.push(None)?;
+    for row in fetched {
+        slots.push(row.1)?;
     }
     Ok(())
 }
 
-/// The rows of an extent of so many row numbers: those that were fetched, and none at the row numbers behind them.
-pub fn padded(alloc: Global, fetched: Fetched, per: u64) -> Result<Vec<Option<Row>>, NoMemory>
-    ensures { IfOk result (λ rows.
-        rows.items ≡ map (λ found. found.1) fetched ++ spec.nones (per - length fetched)) }
+/// Puts so many row numbers without a row behind others.
+fn pad(slots: &mut Vec<Option<&[Value]>>, count: u64) -> Result<(), NoMemory>
+    ensures { OnOk result (lent_slots slots.new.items ≡ lent_slots slots.old.items ++ spec.nones count) }
 {
-    let count = fetched.len();
-    let mut rows = fetched.into_rows(alloc)?;
-    pad(&mut rows, per.saturating_sub(count))?;
-    Ok(rows)
+    for _ in 0..count {
+        slots.push(None)?;
+    }
+    Ok(())
+}
+
+/// The rows of an extent of so many row numbers, lent: those that were fetched, and none at the row numbers behind them.
+pub fn padded<'a>(
+    alloc: Global,
+    fetched: &'a Fetched,
+    per: u64,
+) -> Result<Vec<Option<&'a [Value]>>, NoMemory>
+    ensures { IfOk result (λ slots.
+        lent_slots slots.items ≡ map (λ found. found.1) fetched.now ++ spec.nones (per - length fetched.now)) }
+{
+    let lent = fetched.lent(alloc)?;
+    let mut slots = Vec::with_capacity(alloc, lent.len())?;
+    put_rows(&mut slots, lent.as_slice())?;
+    pad(&mut slots, per.saturating_sub(fetched.len()))?;
+    Ok(slots)
 }

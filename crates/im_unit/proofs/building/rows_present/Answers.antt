@@ -1,7 +1,15 @@
+use Rattle.std.proofs.Common.{get_or, sym, ap, arith, ◌∙◌}
+use Rattle.std.specs.Option.{option_copied}
+use Rattle.std.proofs.lemmas.List.{get_or-map, length-map}
+use Rattle.im_unit.specs.Holding.{lent_slots}
 use Rattle.im_unit.proofs.BuildLemmas.{present-more}
 use Rattle.im_unit.proofs.building.rows_present.Goals as goal
 
-pub loop-row-preserved : goal.loop-row-preserved
-loop-row-preserved c =
-    present-more c.args.rows.now c.loop-row.row-index c.row-item.result c.loop-row.present.items c.put_present.new.present.items c.loop-row-test.true
-    c.row-item.is c.loop-row.invariant c.in_ok-put_present.ensures
+pub loop-i-preserved : goal.loop-i-preserved
+loop-i-preserved c =
+    let rows = c.args.rows.now in
+    let row = option_copied c.index-rows-i.result in
+    present-more (lent_slots rows) c.loop-i.i row c.loop-i.present.items c.put_present.new.present.items
+    (omega (arith, length-map rows option_copied, c.loop-i-test.true))
+    (sym (get_or-map option_copied rows c.loop-i.i c.index-rows-i.result row c.loop-i-test.true ∙ ap option_copied (sym c.index-rows-i.is)))
+    c.loop-i.invariant c.in_ok-put_present.ensures

@@ -10,6 +10,6 @@ pub loop-i-preserved : goal.loop-i-preserved
 loop-i-preserved c =
     let fetched = c.args.fetched.now in
     let row = option_copied (get_or fetched c.loop-i.i c.index-fetched-i.result).1 in
-    present-more (fetched_rows (lent_rows fetched)) c.loop-i.i row c.loop-i.fresh.items c.put_fresh.new.fresh.items
+    present-more (fetched_rows (lent_rows fetched)) c.loop-i.i row c.loop-i.fresh.items c.put_present.new.present.items
     (omega (arith, length-rows fetched, c.loop-i-test.true)) (sym (row-at fetched c.loop-i.i c.index-fetched-i.result row c.loop-i-test.true))
-    c.loop-i.invariant c.in_ok-put_fresh.ensures
+    c.loop-i.invariant c.in_ok-put_present.ensures

@@ -2,7 +2,7 @@ use Rattle.std.proofs.Common.{arith}
 use Rattle.im_unit.proofs.BuildLemmas.{wide-at}
 use Rattle.im_unit.proofs.rebuilding.fresh_values.Goals as goal
 
-pub value_of-requires : goal.value_of-requires
-value_of-requires c =
+pub value_in-requires : goal.value_in-requires
+value_in-requires c =
     let wide = wide-at c.args.width c.args.rows.now c.loop-i.i c.index-rows-i.result c.requires.rows c.loop-i-test.true c.index-rows-i.is in
     omega (arith, wide, c.requires.inside)

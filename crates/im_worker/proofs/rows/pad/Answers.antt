@@ -1,18 +1,23 @@
-use Rattle.std.proofs.Common.{◌≡◌, ◌++◌, ◌∷◌, [], List, Option, None, rules, sym, ap, ◌∙◌, append-nil, append_assoc}
+use Rattle.std.proofs.Common.{◌≡◌, ◌++◌, ◌∷◌, [], List, Option, None, sym, ap, ◌∙◌, append-nil, append_assoc}
+use Rattle.std.specs.Option.{option_copied}
+use Rattle.std.proofs.lemmas.List.{map_push}
+use denote.Ref.{Bor}
 use Rattle.im_history.specs.Rows.{Row}
+use Rattle.im_unit.specs.Holding.{lent_slots}
 use Rattle.im_worker.specs.inner.Good.{nones}
 use Rattle.im_worker.proofs.UnitLemmas.{nones_more, nones_none}
 use Rattle.im_worker.proofs.rows.pad.Goals as goal
 
 pub loop-init : goal.loop-init
 loop-init g =
-    let rows = g.args.rows.now.items in
-    sym (ap (λ (list : List (Option Row)). rows ++ list) nones_none ∙ append-nil rows)
+    let slots = lent_slots g.args.slots.now.items in
+    sym (ap (λ (list : List (Option Row)). slots ++ list) nones_none ∙ append-nil slots)
 
 pub loop-preserved : goal.loop-preserved
 loop-preserved g =
-    let rows = g.args.rows.now.items in
-    let pushed : g.push.new.self.items ≡ g.loop.rows.items ++ None ∷ [] = search rules in
+    let slots = lent_slots g.args.slots.now.items in
+    let pushed : lent_slots g.push.new.self.items ≡ lent_slots g.loop.slots.items ++ None ∷ [] =
+    ap lent_slots g.in_ok-push.ensures.items ∙ map_push option_copied g.loop.slots.items None in
     pushed
     ∙ (ap (λ (list : List (Option Row)). list ++ None ∷ []) g.loop.invariant
-    ∙ (append_assoc rows (nones g.loop.counter) (None ∷ []) ∙ ap (λ (list : List (Option Row)). rows ++ list) (sym (nones_more g.loop.counter))))
+    ∙ (append_assoc slots (nones g.loop.counter) (None ∷ []) ∙ ap (λ (list : List (Option Row)). slots ++ list) (sym (nones_more g.loop.counter))))

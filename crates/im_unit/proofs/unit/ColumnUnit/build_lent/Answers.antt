@@ -1,29 +1,41 @@
-use Rattle.std.proofs.Common.{◌≡◌, ◌∙◌, ℕ, List, Option, length, map, sym, ap, subst, arith}
+use Rattle.std.proofs.Common.{◌≡◌, ◌∙◌, ◌^◌, ◌<◌, ℕ, Bool, true, false, List, [], ◌∷◌, Option, Some, None, is_some, length, map, refl, sym, ap, subst, arith}
+use Rattle.std.specs.Option.{option_copied}
+use denote.Ref.{Bor}
 use Rattle.std.specs.Arc.{arc_value}
 use Rattle.std.specs.List.{range_with_len}
 use Rattle.std.proofs.lemmas.List.{length-map}
 use Rattle.im_history.specs.Rows.{Row}
-use Rattle.im_unit.specs.Holding.{AreShort, values_in}
+use Rattle.im_unit.specs.Holding.{AreShort, lent_slots, values_in}
 use Rattle.im_unit.specs.inner.Kept.{AreRows, lent, content_kept}
 use Rattle.im_unit.proofs.KeptLemmas.{are-rows}
 use Rattle.im_unit.proofs.UnitLemmas.{IsBuilt, built}
-use Rattle.im_unit.proofs.unit.ColumnUnit.build.Goals as goal
-use Rattle.im_unit.proofs.unit.ColumnUnit.build.Goals.{In_ok-columns}
+use Rattle.im_unit.proofs.unit.ColumnUnit.build_lent.Goals as goal
+use Rattle.im_unit.proofs.unit.ColumnUnit.build_lent.Goals.{In_ok-columns}
+
+-- so many slots are lent as there are
+few : (rows : List (Option (Bor Row))) → length rows < 2 ^ 31 → length (lent_slots rows) < 2 ^ 31
+few rows less = omega (arith, length-map rows option_copied, less)
+
+-- which of them are there
+are_there : (rows : List (Option (Bor Row))) → map is_some rows ≡ map is_some (lent_slots rows)
+are_there [] = refl
+are_there (None ∷ rows) = ap (λ (l : List Bool). false ∷ l) (are_there rows)
+are_there (Some row ∷ rows) = ap (λ (l : List Bool). true ∷ l) (are_there rows)
 
 pub columns_of-requires : goal.columns_of-requires
 columns_of-requires c = record {
   rows =
-      let rows = c.args.rows.now in
+      let rows = lent_slots c.args.rows.now in
       subst (AreRows c.args.columns) (sym (ap lent c.as_slice.ensures.value ∙ c.in_ok-present.ensures))
-      (are-rows c.args.columns rows c.requires.width c.requires.short c.requires.few_rows);
+      (are-rows c.args.columns rows c.requires.width c.requires.short (few c.args.rows.now c.requires.few_rows));
 }
 
 -- what is built stands for the rows
-is_built : (c : In_ok-columns) → IsBuilt c.args.columns c.args.rows.now c.in_ok-presence.presence (map arc_value c.in_ok-columns.columns.items)
+is_built : (c : In_ok-columns) → IsBuilt c.args.columns (lent_slots c.args.rows.now) c.in_ok-presence.presence (map arc_value c.in_ok-columns.columns.items)
 is_built c =
-    let rows = c.args.rows.now in
+    let rows = lent_slots c.args.rows.now in
     built c.args.columns rows c.in_ok-presence.presence (map arc_value c.in_ok-columns.columns.items)
-    (are-rows c.args.columns rows c.requires.width c.requires.short c.requires.few_rows) c.in_ok-presence.ensures
+    (are-rows c.args.columns rows c.requires.width c.requires.short (few c.args.rows.now c.requires.few_rows)) (c.in_ok-presence.ensures ∙ are_there c.args.rows.now)
     (c.in_ok-columns.ensures
     ∙ ap (λ (l : List Row). map (λ column. values_in column l) (range_with_len 0 c.args.columns))
     (ap lent c.as_slice.ensures.value ∙ c.in_ok-present.ensures))
