@@ -1,12 +1,13 @@
 -- What was fetched and what a view's own changes left, merged by row number.
 use Rattle.std.proofs.Common.{◌≡◌, ℕ, zero, suc, ◌+◌, ◌<◌, ◌≤◌, ◌==◌, ◌&&◌, Bool, true, false, if◌then◌else◌, List, [], ◌∷◌, ◌++◌, ◌⊎◌, inl, inr, length, drop, get_or, map, All, Option, Some, None, refl, sym, ap, subst, ◌∙◌, ⊎_elim, arith, append_assoc}
 use Rattle.std.specs.List.{AllByRecursion, fold}
-use Rattle.std.specs.Option.{unwrap_or}
+use Rattle.std.specs.Option.{option_copied, unwrap_or}
 use Rattle.std.proofs.lemmas.Bool.{cases_lt}
 use Rattle.std.proofs.lemmas.Bool.Decides.{nat_tests}
-use Rattle.std.proofs.lemmas.List.{drop_all}
+use Rattle.std.proofs.lemmas.List.{drop_all, length-map}
 use Rattle.std.proofs.lemmas.List.Elements.{All-head, All-tail}
 use Rattle.std.proofs.Math.Seq.{drop-cons}
+use denote.Ref.{Bor}
 use Rattle.im_syntax.specs.declared.bound.Bound.{Bound}
 use Rattle.im_history.specs.declared.change.Change.{Change}
 use Rattle.im_history.specs.declared.view.View.{View}
@@ -15,7 +16,9 @@ use Rattle.im_history.specs.Rows.{Row}
 use Rattle.im_history.proofs.LastLaws.{last-suffices}
 use Rattle.im_scan.specs.Parts.{MayAsk, fetched_after}
 use Rattle.im_scan.specs.inner.Beside.{AreBeside, Beside, ComesOf, IsIn, IsPassed, IsRising, SkipsEqual}
+use Rattle.im_scan.specs.inner.Left.{AreBetween}
 use Rattle.im_scan.specs.inner.Steps.{IsUnchanged}
+use Rattle.im_scan.specs.inner.Walk.{lent_beside}
 
 -- ---- lists
 
@@ -59,20 +62,16 @@ rising-drop rows zero rising = rising
 rising-drop [] (suc n) rising = tt
 rising-drop (r ∷ rows) (suc n) rising = rising-drop rows n rising.1
 
-pub rising-push : (rows : Beside) (row : ℕ × Option Row) → IsRising rows → AllByRecursion (λ r. r.0 < row.0) rows → IsRising (rows ++ row ∷ [])
-rising-push [] row rising below = (tt, tt)
-rising-push (r ∷ rows) row rising below =
-    (all-join (λ o. r.0 < o.0) rows (row ∷ []) rising.0 (below.0, tt), rising-push rows row rising.1 below.1)
+-- rows between row numbers
+between-above : (rid from end : ℕ) (rows : Beside) → rid < from → AreBetween from end rows → AllByRecursion (λ other. rid < other.0) rows
+between-above rid from end [] low are = tt
+between-above rid from end (row ∷ rows) low are =
+    let begins = are.0 in
+    (omega (arith, low, begins), between-above rid (row.0 + 1) end rows (omega (arith, low, begins)) are.2)
 
-pub below-push : (rows : Beside) (row : ℕ × Option Row) (low : ℕ) → low ≤ row.0 → AllByRecursion (λ r. r.0 < low) rows →
-    AllByRecursion (λ r. r.0 < row.0 + 1) (rows ++ row ∷ [])
-below-push rows row low order all =
-    all-join (λ r. r.0 < row.0 + 1) rows (row ∷ [])
-    (all-weaker (λ r. r.0 < low) (λ r. r.0 < row.0 + 1) rows (λ r under. omega (arith, under, order)) all) (omega arith, tt)
-
-pub below-all : (rows : Beside) (row : ℕ × Option Row) (low : ℕ) → low ≤ row.0 → AllByRecursion (λ r. r.0 < low) rows →
-    AllByRecursion (λ r. r.0 < row.0) rows
-below-all rows row low order all = all-weaker (λ r. r.0 < low) (λ r. r.0 < row.0) rows (λ r under. omega (arith, under, order)) all
+pub between-rising : (from end : ℕ) (rows : Beside) → AreBetween from end rows → IsRising rows
+between-rising from end [] are = tt
+between-rising from end (row ∷ rows) are = (between-above row.0 (row.0 + 1) end rows (omega arith) are.2, between-rising (row.0 + 1) end rows are.2)
 
 -- what is left from a place on
 pub rest-cons : (rows : Beside) (n : ℕ) → n < length rows → drop n rows ≡ get_or rows n (0, None) ∷ drop (n + 1) rows
@@ -170,7 +169,7 @@ pub record IsMerged (fetched : Beside) (view : View) (first count : ℕ) (left :
   pub comes : AllByRecursion (λ r. ComesOf fetched view.own r.1) (rows ++ drop at fetched)
 
 -- the last change of a row number is what the changes left there
-last-each : (own : List Change) (table rid : ℕ) (row : Option Row) (left : List Slot) →
+pub last-each : (own : List Change) (table rid : ℕ) (row : Option Row) (left : List Slot) →
     All (λ slot. change_of own table slot.0 ≡ Some slot.1) left → change_of own table rid ≡ Some row → unwrap_or (last_at left rid) row ≡ row
 last-each own table rid row [] each is = refl
 last-each own table rid row (slot ∷ left) each is =
@@ -325,3 +324,14 @@ passed-more fetched from at row old rows more inside is pushed whole =
     ∙ (append_assoc rows (row ∷ []) (drop (at + 1) fetched)
     ∙ (ap (λ (r : ℕ × Option Row). rows ++ r ∷ drop (at + 1) fetched) is
     ∙ (ap (λ (l : Beside). rows ++ l) (sym (rest-cons fetched at inside)) ∙ whole)))
+
+-- ---- one that is lent
+
+pub at-lent : (fetched : List (ℕ × Option (Bor Row))) (at : ℕ) (row : ℕ × Option (Bor Row)) → at < length fetched → row ≡ get_or fetched at row →
+    (row.0, option_copied row.1) ≡ get_or (lent_beside fetched) at (0, None)
+at-lent [] at row inside is = absurd (omega (arith, inside))
+at-lent (f ∷ fetched) zero row inside is = ap (λ (r : ℕ × Option (Bor Row)). (r.0, option_copied r.1)) is
+at-lent (f ∷ fetched) (suc at) row inside is = at-lent fetched at row (omega (arith, inside)) is
+
+pub length-lent : (fetched : List (ℕ × Option (Bor Row))) → length (lent_beside fetched) ≡ length fetched
+length-lent fetched = length-map fetched (λ (r : ℕ × Option (Bor Row)). (r.0, option_copied r.1))

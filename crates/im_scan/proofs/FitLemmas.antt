@@ -50,7 +50,7 @@ fetched-fits bound [] rid row all fits = fits
 fetched-fits bound (f ∷ fetched) rid row all fits =
     fetched-fits bound fetched rid (fetched_after rid row f) all.1 (one-fits bound (f.0 == rid) f.1 row all.0 fits)
 
-own-fits : (bound : Bound) (own : List Change) (table rid : ℕ) (row : Option Row)
+pub own-fits : (bound : Bound) (own : List Change) (table rid : ℕ) (row : Option Row)
     → AllByRecursion (λ change. MayAsk bound change.row) own → MayAsk bound row
     → MayAsk bound (fold (row_after table rid) row own)
 own-fits bound [] table rid row all fits = fits

@@ -32,7 +32,7 @@ later (f ∷ fetched) first rid row are below =
     ∙ later fetched (first + 1) rid row (others-of f.0 first (numbers_of fetched) (range_with_len (first + 1) (length fetched)) are)
     (omega (arith, below))
 
-found : (fetched : List (ℕ × Option Row)) (first i : ℕ) (row : Option Row)
+pub found : (fetched : List (ℕ × Option Row)) (first i : ℕ) (row : Option Row)
     → numbers_of fetched ≡ range_with_len first (length fetched) → i < length fetched
     → fold (fetched_after (first + i)) row fetched ≡ get_or (rows_of fetched) i None
 found [] first i row are within = absurd (omega (arith, within))

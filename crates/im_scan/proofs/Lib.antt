@@ -18,3 +18,4 @@ mod ByCodeLemmas
 mod SummedLemmas
 mod LeftLemmas
 mod LeftPart
+mod OverlaidLemmas

@@ -1,12 +1,12 @@
 ghost use Rattle.std.specs.Prelude.{◌≡◌, ◌+◌, ◌<◌, ◌≤◌, ◌^◌, length, IfOk, Some, None};
-ghost use Rattle.std.specs.Bool.{OnTrue};
 ghost use Rattle.std.specs.Option.{ForSome};
 ghost use Rattle.im_scan.specs.inner.Beside.{AreBeside, IsPassed, IsRising, SkipsEqual};
 ghost use Rattle.im_scan.specs.inner.Walk.{lent_beside};
 
+use crate::left::are_between;
 use crate::slots::has_own;
-use im_history::{LentRow, Piece, View, lent_values};
-use im_values::{NoMemory, Row};
+use im_history::{Fetched, LentRow, Piece, View, lent_values};
+use im_values::NoMemory;
 use std::alloc::Global;
 
 /// What stands beside a unit.
@@ -18,54 +18,30 @@ pub struct RowsBeside<'a, 'b> {
     pub pieces: Option<&'b [Piece]>,
 }
 
-/// Lends rows, each with its row number, or none.
-fn lend<'a>(alloc: Global, rows: &'a [(u64, Option<Row>)]) -> Result<Vec<LentRow<'a>>, NoMemory>
-    ensures { IfOk result (λ lent. lent_beside lent.items ≡ rows.now) }
-{
-    let mut lent = Vec::with_capacity(alloc, rows.len())?;
-    for (rid, row) in rows {
-        lent.push((*rid, lent_values(row)))?;
-    }
-    Ok(lent)
-}
-
-/// Whether rows are of rising row numbers, all below one.
-fn is_rising(rows: &[(u64, Option<Row>)], end: u64) -> bool
-    ensures { OnTrue result (IsRising rows.now) }
-{
-    let mut low = 0;
-    for (rid, _) in rows {
-        if *rid < low || *rid >= end {
-            return false;
-        }
-        low = *rid + 1;
-    }
-    true
-}
-
 /// Puts what was fetched from one place on behind others, up to the first of it whose row number is not below one: the place of
 /// that.
 fn put_below<'a>(
-    fetched: &'a [(u64, Option<Row>)],
+    fetched: &[LentRow<'a>],
     from: usize,
     rid: u64,
     rows: &mut Vec<LentRow<'a>>,
 ) -> Result<usize, NoMemory>
     requires { from ≤ length fetched.now }
-    ensures { IfOk result (λ next. IsPassed fetched.now from next rid (lent_beside rows.old.items) (lent_beside rows.new.items)) }
+    ensures { IfOk result (λ next.
+        IsPassed (lent_beside fetched.now) from next rid (lent_beside rows.old.items) (lent_beside rows.new.items)) }
 {
     let mut at = from;
     while at < fetched.len() && fetched[at].0 < rid {
-        rows.push((fetched[at].0, lent_values(&fetched[at].1)))?;
+        rows.push(fetched[at])?;
         at += 1;
     }
     Ok(at)
 }
 
 /// The place behind one whose row number is this one, and else the same place.
-fn past_equal(fetched: &[(u64, Option<Row>)], at: usize, rid: u64) -> usize
+fn past_equal(fetched: &[LentRow<'_>], at: usize, rid: u64) -> usize
     requires { at ≤ length fetched.now }
-    ensures { SkipsEqual fetched.now at rid result }
+    ensures { SkipsEqual (lent_beside fetched.now) at rid result }
 {
     if at < fetched.len() && fetched[at].0 == rid {
         at + 1
@@ -77,14 +53,14 @@ fn past_equal(fetched: &[(u64, Option<Row>)], at: usize, rid: u64) -> usize
 /// What was fetched, with what the view's own changes left in its place and between.
 fn merged<'a>(
     alloc: Global,
-    fetched: &'a [(u64, Option<Row>)],
+    fetched: &[LentRow<'a>],
     view: &'a View,
     first: u64,
     count: u64,
 ) -> Result<Vec<LentRow<'a>>, NoMemory>
     requires within { first + count < 2 ^ 64 }
-    requires rising { IsRising fetched.now }
-    ensures { IfOk result (λ rows. AreBeside fetched.now view.now first count (lent_beside rows.items)) }
+    requires rising { IsRising (lent_beside fetched.now) }
+    ensures { IfOk result (λ rows. AreBeside (lent_beside fetched.now) view.now first count (lent_beside rows.items)) }
 {
     let mut rows = Vec::with_capacity(alloc, fetched.len())?;
     let mut at = 0;
@@ -97,13 +73,14 @@ fn merged<'a>(
     Ok(rows)
 }
 
-/// What stands beside an extent's unit: of each row number that was fetched or that the view changed, what the view has there. None
-/// where the view changed any and what was fetched is not in rising order of row numbers.
+/// What stands beside an extent's unit, where the view changed any of its row numbers: of each row number that was fetched or that the
+/// view changed, what the view has there. None where the view changed none, or what was fetched is not of rising row numbers among
+/// these.
 ///
-/// It costs what was fetched, a search, and those of the row numbers that the view's own changes are to.
+/// It costs what was fetched, a search, and those of the row numbers that the view's own changes are to. No row is shared or copied.
 pub fn beside<'a>(
     alloc: Global,
-    fetched: &'a [(u64, Option<Row>)],
+    fetched: &'a Fetched,
     view: &'a View,
     first: u64,
     count: u64,
@@ -112,12 +89,13 @@ pub fn beside<'a>(
     ensures { IfOk result (λ rows. ForSome rows (λ rows. AreBeside fetched.now view.now first count (lent_beside rows.items))) }
 {
     if !has_own(view, first, count) {
-        let rows = lend(alloc, fetched)?;
-        return Ok(Some(rows));
-    }
-    if !is_rising(fetched, first + count) {
         return Ok(None);
     }
-    let rows = merged(alloc, fetched, view, first, count)?;
+    let read = fetched.lent(alloc)?;
+    let lying = read.as_slice();
+    if !are_between(lying, first, first + count) {
+        return Ok(None);
+    }
+    let rows = merged(alloc, lying, view, first, count)?;
     Ok(Some(rows))
 }

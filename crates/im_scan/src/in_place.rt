@@ -35,7 +35,7 @@ fn span(piece: &Piece) -> Option<(u64, u64)>
 }
 
 /// Whether pieces are of all row numbers from the first on, in order.
-fn are_in_order(first: u64, pieces: &[Piece]) -> bool
+pub fn are_in_order(first: u64, pieces: &[Piece]) -> bool
     requires { first + length (kept.in_pieces pieces.now) < 2 ^ 64 }
     ensures { result ≡ true → AreInOrder first (kept.in_pieces pieces.now) }
 {
@@ -457,7 +457,7 @@ fn put_scattered(
 }
 
 /// The same row once more, or none.
-fn shared(alloc: Global, row: &Option<Row>) -> Result<Option<Row>, NoMemory>
+pub fn shared(alloc: Global, row: &Option<Row>) -> Result<Option<Row>, NoMemory>
     ensures { IfOk result (λ copy. copy ≡ row.now) }
 {
     match row {

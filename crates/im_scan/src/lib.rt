@@ -21,6 +21,7 @@ mod in_place;
 mod kept;
 mod laws;
 mod left;
+mod overlaid;
 mod parts;
 mod pinned;
 mod slots;

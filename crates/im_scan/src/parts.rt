@@ -19,6 +19,7 @@ use crate::faces::Face;
 use crate::in_place::{handles, part_in_place, part_of_pieces};
 use crate::kept::{begins_by, kept_in};
 use crate::left::are_between;
+use crate::overlaid::own_part;
 use crate::slots::{gather, has_own, rows_of};
 use crate::walking::walked;
 use im_group::{Asking, Partial};
@@ -73,8 +74,8 @@ fn part_of_slots(
     Ok(part)
 }
 
-/// What an extent without a unit gives, where each of its row numbers was fetched and the view has changed none of them: nothing
-/// is laid out.
+/// What an extent without a unit gives, where each of its row numbers was fetched: nothing is laid out, and of the rows that lie
+/// together only those are taken apart that the view has changed itself.
 fn fetched_part(
     alloc: Global,
     face: Face<'_>,
@@ -85,7 +86,7 @@ fn fetched_part(
     count: u64,
 ) -> Result<Option<Partial>, NoMemory>
     requires within { first + count < 2 ^ 64 }
-    requires fits { AllByRecursion (λ row. MayAsk asking.now row.1) fetched.now }
+    requires fits { MayScan asking.now (unit_of face) fetched.now view.now.own }
     ensures { IfOk result (λ part. ForSome part (λ part.
         part ≡ group.partial asking.now (present (taken_row (unit_of face.entry) fetched.now view.now) first count))) }
 {
@@ -96,7 +97,7 @@ fn fetched_part(
                 return Ok(None);
             }
             if has_own(view, first, count) {
-                Ok(None)
+                own_part(alloc, asking, fetched, view, first, count)
             } else {
                 part_in_place(alloc, asking, first, fetched)
             }
@@ -221,12 +222,12 @@ fn laid_part(
     part_of_slots(alloc, asking, first, slots.as_slice())
 }
 
-/// What an extent with a unit gives, where nothing has to be laid out for it.
+/// What an extent with a unit gives that the view has changed, where nothing has to be laid out for it: no row is shared or copied.
 fn beside_part(
     alloc: Global,
     face: Face<'_>,
     asking: &Asking<'_>,
-    fetched: &[(u64, Option<Row>)],
+    fetched: &Fetched,
     view: &View,
     first: u64,
     count: u64,
@@ -248,7 +249,7 @@ fn beside_part(
     }
 }
 
-/// What an extent gives with a handle for each row that was fetched: what its unit gives beside these, and else what is laid out.
+/// What an extent gives with a handle for each row that was fetched, laid out by row number.
 fn handled_part(
     alloc: Global,
     face: Face<'_>,
@@ -264,9 +265,28 @@ fn handled_part(
         part ≡ group.partial asking.now (present (taken_row (unit_of face.entry) fetched.now view.now) first count)) }
 {
     let rows = handles(alloc, fetched)?;
-    match beside_part(alloc, face, asking, rows.as_slice(), view, first, count)? {
+    laid_part(alloc, face, asking, rows.as_slice(), view, first, count)
+}
+
+/// What an extent gives that the view has changed: what its unit gives beside what was fetched and what the changes left, and else
+/// what is laid out.
+fn changed_part(
+    alloc: Global,
+    face: Face<'_>,
+    asking: &Asking<'_>,
+    fetched: &Fetched,
+    view: &View,
+    first: u64,
+    count: u64,
+) -> Result<Partial, NoMemory>
+    requires within { first + count < 2 ^ 64 }
+    requires fits { MayScan asking.now (unit_of face) fetched.now view.now.own }
+    ensures { IfOk result (λ part.
+        part ≡ group.partial asking.now (present (taken_row (unit_of face.entry) fetched.now view.now) first count)) }
+{
+    match beside_part(alloc, face, asking, fetched, view, first, count)? {
         Some(part) => Ok(part),
-        None => laid_part(alloc, face, asking, rows.as_slice(), view, first, count),
+        None => handled_part(alloc, face, asking, fetched, view, first, count),
     }
 }
 
@@ -296,7 +316,7 @@ fn lent_part(
     standing_part(alloc, face, asking, beside, first, count)
 }
 
-/// What an extent gives of which not every row was fetched, or that the view has changed.
+/// What an extent gives that has a unit, or of which what was fetched is not taken as it lies.
 fn mixed_part(
     alloc: Global,
     face: Face<'_>,
@@ -313,7 +333,7 @@ fn mixed_part(
 {
     match lent_part(alloc, face, asking, fetched, view, first, count)? {
         Some(part) => Ok(part),
-        None => handled_part(alloc, face, asking, fetched, view, first, count),
+        None => changed_part(alloc, face, asking, fetched, view, first, count),
     }
 }
 
@@ -322,8 +342,8 @@ fn mixed_part(
 /// Of a unit it asks the condition of the columns, as packed codes, and reads only the rows that are kept; of a pruned unit it reads
 /// none. Beside that it costs what was fetched and those of the row numbers that the view's own changes are to. Without a unit what
 /// was fetched stays where it is: of rows that lie together the condition is asked column by column, and only those that it keeps are
-/// gone over. Where the view changed a row of such an extent itself, it costs a handle of each row and the row numbers of the extent.
-/// What the query asks is worked out once, and of rows that lie together a query without groups copies none.
+/// gone over. Where the view changed rows of such an extent itself, rows that lie together are taken apart at these, and no handle is
+/// made of another row. What the query asks is worked out once, and of rows that lie together a query without groups copies none.
 pub fn part(
     alloc: Global,
     face: Face<'_>,

@@ -1,14 +1,19 @@
-use Rattle.std.proofs.Common.{◌≡◌, Option, Some, refl, subst}
-use Rattle.im_scan.specs.inner.Beside.{AreBeside}
+use Rattle.std.proofs.Common.{◌≡◌, ◌+◌, ap, subst, ◌∙◌}
+use Rattle.im_scan.specs.inner.Beside.{AreBeside, Beside}
 use Rattle.im_scan.specs.inner.Walk.{lent_beside}
-use Rattle.im_scan.proofs.BesideLemmas.{fetched-beside}
+use Rattle.im_scan.proofs.BesideLemmas.{between-rising}
+use Rattle.im_scan.proofs.PieceLemmas.{some-inj}
 use Rattle.im_scan.proofs.beside.beside.Goals as goal
 
-some-inj : {A : Type 0} {a b : A} → ◌≡◌ {A = Option A} (Some a) (Some b) → a ≡ b
-some-inj e = cc
+pub merged-requires-clause-rising : goal.merged-requires-clause-rising
+merged-requires-clause-rising c = between-rising c.args.first (c.args.first + c.args.count) (lent_beside c.as_slice-lying.result.now) c.if-not-are_between.ensures
 
-pub returns-then-not-has_own : goal.returns-then-not-has_own
-returns-then-not-has_own c rows is =
-    subst (λ lent. AreBeside c.args.fetched.now c.args.view.now c.args.first c.args.count (lent_beside lent.items)) (some-inj is)
-    (fetched-beside c.args.fetched.now c.args.view.now c.args.first c.args.count (lent_beside c.in_ok-rows.rows.items)
-    (c.if-not-has_own.ensures refl) c.in_ok-rows.ensures)
+pub returns : goal.returns
+returns c rows is =
+    let lying = lent_beside c.as_slice-lying.result.now in
+    let view = c.args.view.now in
+    let first = c.args.first in
+    let count = c.args.count in
+    let same : lying ≡ c.args.fetched.now = ap lent_beside c.as_slice-lying.ensures.value ∙ c.in_ok-read.ensures in
+    subst (λ (l : Beside). AreBeside l view first count (lent_beside rows.items)) same
+    (subst (λ found. AreBeside lying view first count (lent_beside found.items)) (some-inj is) c.in_ok-rows.ensures)

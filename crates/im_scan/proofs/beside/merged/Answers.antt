@@ -9,7 +9,7 @@ use Rattle.im_scan.proofs.beside.merged.Goals as goal
 
 pub loop-rid-init : goal.loop-rid-init
 loop-rid-init c =
-    let fetched = c.args.fetched.now in
+    let fetched = lent_beside c.args.fetched.now in
     let view = c.args.view.now in
     subst (λ rows. IsMerged fetched view c.args.first c.args.count c.into_iter-rid-iterator.result 0 (lent_beside rows)) (sym c.in_ok-rows.ensures.items)
     (subst (λ (left : List Slot). IsMerged fetched view c.args.first c.args.count left 0 []) (sym c.into_iter-rid-iterator.ensures.into_iter_gives)
@@ -17,7 +17,7 @@ loop-rid-init c =
 
 pub loop-rid-preserved : goal.loop-rid-preserved
 loop-rid-preserved c =
-    let fetched = c.args.fetched.now in
+    let fetched = lent_beside c.args.fetched.now in
     let view = c.args.view.now in
     let first = c.args.first in
     let count = c.args.count in
@@ -39,7 +39,7 @@ loop-rid-preserved c =
 
 pub returns : goal.returns
 returns c =
-    let fetched = c.args.fetched.now in
+    let fetched = lent_beside c.args.fetched.now in
     let view = c.args.view.now in
     let rows = lent_beside c.loop-rid.rows.items in
     let all = subst (λ (slots : List Slot). IsMerged fetched view c.args.first c.args.count slots c.loop-rid.at rows) c.in-None.ensures.steps.0

@@ -6,7 +6,7 @@ use Rattle.im_scan.proofs.beside.put_below.Given as goal
 abbrev pub invariant-loop-at : goal.invariant-loop-at
 invariant-loop-at l = record {
   within : l.at ≤ length l.fetched;
-  whole : lent_beside l.rows.items ++ drop l.at l.fetched ≡ lent_beside l.fn.rows.items ++ drop l.from l.fetched;
+  whole : lent_beside l.rows.items ++ drop l.at (lent_beside l.fetched) ≡ lent_beside l.fn.rows.items ++ drop l.from (lent_beside l.fetched);
 }
 
 abbrev pub decreases-loop-at : goal.decreases-loop-at

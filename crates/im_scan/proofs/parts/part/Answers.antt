@@ -6,13 +6,12 @@ use Rattle.im_history.specs.Serving.{rows_in}
 use Rattle.im_history.specs.Units.{Content}
 use Rattle.im_scan.specs.Pinned.{IsPinned, seen_in}
 use Rattle.im_scan.specs.inner.Steps.{MayScan}
-use Rattle.std.specs.List.{AllByRecursion}
 use Rattle.std.proofs.lemmas.Result.{IfOk-weaker}
 use Rattle.im_group.specs.Partials.{Parts, partial}
 use Rattle.im_history.specs.Rows.{Row, present}
 use Rattle.im_scan.specs.Faces.{Shows, unit_of}
 use Rattle.im_scan.specs.declared.faces.Face.{Face}
-use Rattle.im_scan.specs.Parts.{MayAsk, taken_row}
+use Rattle.im_scan.specs.Parts.{taken_row}
 use Rattle.im_scan.proofs.PartLemmas.{begins}
 use Rattle.im_scan.proofs.PrunedLemmas.{part-seen}
 use Rattle.im_scan.proofs.parts.part.Goals as goal
@@ -27,7 +26,9 @@ fetched_part-requires-clause-within c =
 
 pub fetched_part-requires-clause-fits : goal.fetched_part-requires-clause-fits
 fetched_part-requires-clause-fits c =
-    subst (λ (b : Bound). AllByRecursion (λ row. MayAsk b row.1) c.args.fetched.now) (sym c.in_ok-asking.ensures) c.requires.fetched_fits
+    let may : MayScan c.args.bound.now (unit_of c.args.face) c.args.fetched.now c.args.view.now.own = record
+    { unit_fits = c.requires.unit_fits; fetched_fits = c.requires.fetched_fits; own_fits = c.requires.own_fits } in
+    subst (λ b. MayScan b (unit_of c.args.face) c.args.fetched.now c.args.view.now.own) (sym c.in_ok-asking.ensures) may
 
 pub mixed_part-requires-clause-fits : goal.mixed_part-requires-clause-fits
 mixed_part-requires-clause-fits c =
