@@ -145,7 +145,7 @@ fn look_on<R: Wait, H: Reach<ColumnUnit>>(outside: &Outside<R, OpenGate>, store:
 }
 
 /// Builds the unit that comes next. Once the build has begun, a session plays lines, and its rows are read behind that.
-fn build_behind<R: Wait, H: Reach<ColumnUnit>, L: Ledger>(
+fn build_behind<R: Threads + Wait + Sync, H: Reach<ColumnUnit>, L: Ledger>(
     outside: &Outside<R, OpenGate>,
     store: &mut H,
     session: &mut Session,
@@ -212,7 +212,7 @@ const BEFORE: [&str; 4] = [
 const BETWEEN: [&str; 2] = ["1> UPDATE T SET K = 30 WHERE K = 10", "1> COMMIT"];
 
 /// Whether the unit, which has the older row, serves a scan at SCN 3 but for that row, and the cursor at SCN 2 with it.
-fn serves_both<R: Wait, H: Reach<ColumnUnit>, L: Ledger>(
+fn serves_both<R: Threads + Wait + Sync, H: Reach<ColumnUnit>, L: Ledger>(
     outside: &Outside<R, OpenGate>,
     store: &mut H,
     steps: &mut Steps<L>,
@@ -331,7 +331,7 @@ const THIRD: [&str; 2] = ["1> UPDATE T SET K = 11 WHERE K = 10", "1> COMMIT"];
 const FOURTH: [&str; 2] = ["1> UPDATE T SET K = 22 WHERE K = 20", "1> COMMIT"];
 
 /// The four rows get a unit of SCN 2, and one of them is changed then.
-fn set_stage<R: Wait, H: Reach<ColumnUnit>, L: Ledger>(
+fn set_stage<R: Threads + Wait + Sync, H: Reach<ColumnUnit>, L: Ledger>(
     outside: &Outside<R, OpenGate>,
     store: &mut H,
     session: &mut Session,
@@ -356,7 +356,7 @@ fn set_stage<R: Wait, H: Reach<ColumnUnit>, L: Ledger>(
 }
 
 /// The slow builder begins a build at SCN 3: the unit of SCN 2 is lent to it, and the one row that was changed is fetched.
-fn begin_slow<R: Wait, H: Reach<ColumnUnit>, L: Ledger>(
+fn begin_slow<R: Threads + Wait + Sync, H: Reach<ColumnUnit>, L: Ledger>(
     outside: &Outside<R, OpenGate>,
     store: &mut H,
     steps: &mut Steps<L>,
@@ -378,7 +378,7 @@ fn begin_slow<R: Wait, H: Reach<ColumnUnit>, L: Ledger>(
 }
 
 /// The extent loses its unit, a row is changed, and the fast builder brings a unit of SCN 4 into use. It answers the place of the evict.
-fn overtake<R: Wait, H: Reach<ColumnUnit>, L: Ledger>(
+fn overtake<R: Threads + Wait + Sync, H: Reach<ColumnUnit>, L: Ledger>(
     outside: &Outside<R, OpenGate>,
     store: &mut H,
     session: &mut Session,
@@ -404,7 +404,7 @@ fn overtake<R: Wait, H: Reach<ColumnUnit>, L: Ledger>(
 
 /// Whether the slow build is lent no unit, as the one that is there is newer, and reads all rows of SCN 3; and whether it is found dead
 /// then, killed at this place.
-fn ends_late<R: Wait, H: Reach<ColumnUnit>, L: Ledger>(
+fn ends_late<R: Threads + Wait + Sync, H: Reach<ColumnUnit>, L: Ledger>(
     outside: &Outside<R, OpenGate>,
     store: &mut H,
     task: Task,
@@ -422,7 +422,7 @@ fn ends_late<R: Wait, H: Reach<ColumnUnit>, L: Ledger>(
 }
 
 /// Whether a build that was overtaken is made of the rows of its own SCN, and ends dead.
-fn overtakes<R: Wait, H: Reach<ColumnUnit>, L: Ledger>(
+fn overtakes<R: Threads + Wait + Sync, H: Reach<ColumnUnit>, L: Ledger>(
     outside: &Outside<R, OpenGate>,
     store: &mut H,
     steps: &mut Steps<L>,
@@ -445,7 +445,7 @@ fn overtakes<R: Wait, H: Reach<ColumnUnit>, L: Ledger>(
 }
 
 /// One of the two over a store that nothing has happened in.
-fn holds_anew<R: Threads + Wait, L: Ledger>(
+fn holds_anew<R: Threads + Wait + Sync, L: Ledger>(
     rt: &R,
     alloc: Global,
     blank: Blank,
@@ -479,7 +479,7 @@ fn holds_anew<R: Threads + Wait, L: Ledger>(
     holds
 }
 
-fn holds<R: Threads + Wait>(rt: &R, alloc: Global, overtaken: bool) -> bool {
+fn holds<R: Threads + Wait + Sync>(rt: &R, alloc: Global, overtaken: bool) -> bool {
     holds_anew::<R, Brand>(rt, alloc, Blank::new(1), overtaken)
 }
 

@@ -19,7 +19,7 @@ use std::test::Fail;
 use std::thread::Threads;
 
 /// The reply to the last of these lines, which a session plays over a store that nothing has happened in.
-fn last_reply<R: Wait, H: Reach<ColumnUnit>, L: Ledger>(
+fn last_reply<R: Threads + Wait + Sync, H: Reach<ColumnUnit>, L: Ledger>(
     outside: &Outside<R, OpenGate>,
     store: &mut H,
     lines: &[&str],
@@ -35,7 +35,7 @@ fn last_reply<R: Wait, H: Reach<ColumnUnit>, L: Ledger>(
 }
 
 /// The same over a store with these limits.
-fn reply_within<R: Threads + Wait, L: Ledger>(
+fn reply_within<R: Threads + Wait + Sync, L: Ledger>(
     rt: &R,
     alloc: Global,
     limits: Limits,
@@ -149,7 +149,7 @@ const CASES: [Case<'static>; 10] = [
 ];
 
 /// Whether a case comes to what is wanted.
-fn holds<R: Threads + Wait>(rt: &R, alloc: Global, case: &Case<'_>) -> bool {
+fn holds<R: Threads + Wait + Sync>(rt: &R, alloc: Global, case: &Case<'_>) -> bool {
     let (store, changes, lines, wanted) = *case;
     let limits = Limits {
         area: 0,

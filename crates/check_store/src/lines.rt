@@ -16,9 +16,10 @@ use im_values::Steps;
 use std::mem::replace;
 use std::sync::Wait;
 use std::sync::ledger::Ledger;
+use std::thread::Threads;
 
 /// Plays a line, where it is one of a session.
-pub fn play<R: Wait, H: Reach<ColumnUnit>, L: Ledger>(
+pub fn play<R: Threads + Wait + Sync, H: Reach<ColumnUnit>, L: Ledger>(
     outside: &Outside<R, OpenGate>,
     store: &mut H,
     session: &mut Session,
@@ -39,7 +40,7 @@ pub fn play<R: Wait, H: Reach<ColumnUnit>, L: Ledger>(
 }
 
 /// The same of what a line has.
-fn play_kind<R: Wait, H: Reach<ColumnUnit>, L: Ledger>(
+fn play_kind<R: Threads + Wait + Sync, H: Reach<ColumnUnit>, L: Ledger>(
     outside: &Outside<R, OpenGate>,
     store: &mut H,
     session: &mut Session,
@@ -63,7 +64,7 @@ fn play_kind<R: Wait, H: Reach<ColumnUnit>, L: Ledger>(
 }
 
 /// Plays lines, and answers the last one.
-pub fn play_each<R: Wait, H: Reach<ColumnUnit>, L: Ledger>(
+pub fn play_each<R: Threads + Wait + Sync, H: Reach<ColumnUnit>, L: Ledger>(
     outside: &Outside<R, OpenGate>,
     store: &mut H,
     session: &mut Session,

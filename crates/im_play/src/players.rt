@@ -19,6 +19,7 @@ use im_worker::Background;
 use std::alloc::Global;
 use std::sync::Wait;
 use std::sync::ledger::Ledger;
+use std::thread::Threads;
 
 /// The number of the background, which is no session's.
 pub const BACKGROUND: u32 = 0;
@@ -70,7 +71,7 @@ impl Players {
 }
 
 /// Plays a statement of a session.
-fn play_statement<R: Wait, H: Reach<ColumnUnit>, G: Gate, L: Ledger>(
+fn play_statement<R: Threads + Wait + Sync, H: Reach<ColumnUnit>, G: Gate, L: Ledger>(
     outside: &Outside<R, G>,
     reach: &mut H,
     players: &mut Players,
@@ -114,7 +115,7 @@ fn play_command<R: Wait, H: Reach<ColumnUnit>, G: Gate, L: Ledger>(
 }
 
 /// Plays one line. Blanks, comments and the end of a prelude have no reply.
-pub fn play_line<R: Wait, H: Reach<ColumnUnit>, G: Gate, L: Ledger>(
+pub fn play_line<R: Threads + Wait + Sync, H: Reach<ColumnUnit>, G: Gate, L: Ledger>(
     outside: &Outside<R, G>,
     reach: &mut H,
     players: &mut Players,
@@ -145,7 +146,7 @@ pub fn play_line<R: Wait, H: Reach<ColumnUnit>, G: Gate, L: Ledger>(
 }
 
 /// Plays lines one after the other, and answers their replies, each with its line's number.
-pub fn play_lines<R: Wait, H: Reach<ColumnUnit>, G: Gate, L: Ledger>(
+pub fn play_lines<R: Threads + Wait + Sync, H: Reach<ColumnUnit>, G: Gate, L: Ledger>(
     outside: &Outside<R, G>,
     reach: &mut H,
     players: &mut Players,

@@ -48,7 +48,7 @@ pub struct Course<'a> {
 }
 
 /// Does a job, counting its steps.
-fn play_counting<R: Threads + Wait, G: Gate, L: Ledger>(
+fn play_counting<R: Threads + Wait + Sync, G: Gate, L: Ledger>(
     outside: &Outside<R, G>,
     store: &Store<ColumnUnit>,
     course: &Course<'_>,
@@ -93,7 +93,7 @@ fn play_counting<R: Threads + Wait, G: Gate, L: Ledger>(
 }
 
 /// Does a job.
-fn play<R: Threads + Wait, G: Gate>(
+fn play<R: Threads + Wait + Sync, G: Gate>(
     outside: &Outside<R, G>,
     store: &Store<ColumnUnit>,
     course: &Course<'_>,
@@ -108,7 +108,7 @@ fn play<R: Threads + Wait, G: Gate>(
 }
 
 /// Does the job that waits at a post.
-fn play_at<R: Threads + Wait, G: Gate>(
+fn play_at<R: Threads + Wait + Sync, G: Gate>(
     outside: &Outside<R, G>,
     store: &Store<ColumnUnit>,
     course: &Course<'_>,

@@ -26,10 +26,11 @@ use im_worker::{Background, Ended};
 use std::sync::Wait;
 use std::sync::atomic::AtomicU64;
 use std::sync::ledger::Ledger;
+use std::thread::Threads;
 use std::time::Duration;
 
 /// Plays a line of a session.
-fn play_line<R: Wait, H: Reach<ColumnUnit>, G: Gate, L: Ledger>(
+fn play_line<R: Threads + Wait + Sync, H: Reach<ColumnUnit>, G: Gate, L: Ledger>(
     outside: &Outside<R, G>,
     reach: &mut H,
     session: &mut Session,
@@ -66,7 +67,7 @@ fn play_line<R: Wait, H: Reach<ColumnUnit>, G: Gate, L: Ledger>(
 }
 
 /// Plays those of these lines in which a session speaks, one after the other, and answers the replies.
-fn play_lines<R: Wait, H: Reach<ColumnUnit>, G: Gate, L: Ledger>(
+fn play_lines<R: Threads + Wait + Sync, H: Reach<ColumnUnit>, G: Gate, L: Ledger>(
     outside: &Outside<R, G>,
     reach: &mut H,
     session: &mut Session,
@@ -130,7 +131,7 @@ fn leave<R: Wait, H: Reach<ColumnUnit>>(
 
 /// Does the job of a session: it plays those of these lines in which it speaks, one after the other, and ends. Out of memory it tries
 /// so many times to leave, and may not have left.
-pub fn play_session<R: Wait, H: Reach<ColumnUnit>, G: Gate, L: Ledger>(
+pub fn play_session<R: Threads + Wait + Sync, H: Reach<ColumnUnit>, G: Gate, L: Ledger>(
     outside: &Outside<R, G>,
     reach: &mut H,
     mut session: Session,

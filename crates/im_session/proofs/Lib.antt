@@ -8,6 +8,7 @@ mod KeptLemmas
 mod NameLemmas
 mod OpeningLemmas
 mod OtherLemmas
+mod PinLemmas
 mod PurposeLemmas
 mod ReadsLemmas
 mod RefusalLemmas

@@ -1,13 +1,13 @@
 -- What is read of an extent for a scan, and what the parts of the extents so far are.
-use Rattle.std.proofs.Common.{◌≡◌, ℕ, ◌+◌, ◌-◌, ◌<◌, ◌≤◌, ◌^◌, true, List, [], length, Option, Some, None, Result, Ok, Err, refl, sym, ap, ◌∙◌, arith}
+use Rattle.std.proofs.Common.{◌≡◌, ℕ, ◌+◌, ◌-◌, ◌<◌, ◌≤◌, true, List, length, Option, Some, None, Result, Ok, Err, refl, sym, ap, ◌∙◌, arith}
 use Rattle.std.specs.List.{AllByRecursion}
 use Rattle.std.specs.Option.{ForSome, option_map}
 use Rattle.std.proofs.lemmas.List.{length-map}
 use Rattle.std.specs.Result.{IfErr}
 use Rattle.im_core.specs.Answers.{cursor_view}
 use Rattle.im_group.specs.Answers.{answer, finished}
-use Rattle.im_group.specs.Partials.{CanMerge, Numbered, Parts, merged, partial}
-use Rattle.im_group.proofs.ForCallers.{CanMerge-partial, merged-partial, answer-finished}
+use Rattle.im_group.specs.Partials.{Numbered, Parts, partial}
+use Rattle.im_group.proofs.ForCallers.{answer-finished}
 use Rattle.im_history.specs.declared.view.View.{View}
 use Rattle.im_history.specs.Commits.{scn}
 use Rattle.im_history.specs.History.{History}
@@ -19,16 +19,14 @@ use Rattle.im_history.proofs.ViewLaws.{cursor-columns}
 use Rattle.im_plan.specs.Plan.{Plan}
 use Rattle.im_reach.specs.Sides.{Known, speaks}
 use Rattle.im_replies.specs.declared.served.How.{How}
-use Rattle.im_replies.specs.declared.served.How.TheVariants.{Unit as ByUnit}
 use Rattle.im_replies.specs.declared.served.Served.{Served}
 use Rattle.im_replies.specs.Mixes.{by_unit, is_pruned, mix, mix_by, reads}
 use Rattle.im_scan.specs.Faces.{how_of}
 use Rattle.im_scan.specs.Parts.{MayAsk}
 use Rattle.im_scan.specs.Pinned.{IsPinned, seen_all, seen_in, seen_to}
-use Rattle.im_scan.proofs.ForCallers.{MayAskOf, can-merge-seen, fetched-may, merged-seen, pinned-serving, seen_in-later, seen_to-all, seen_to-none, unit-may}
+use Rattle.im_scan.proofs.ForCallers.{MayAskOf, fetched-may, pinned-serving, seen_in-later, seen_to-all, unit-may}
 use Rattle.im_session.specs.declared.cursor.Cursor.{Cursor}
 use Rattle.im_session.specs.declared.serving.Wanted.{Wanted}
-use Rattle.im_session.specs.declared.serving.Wanted.TheVariants.{Parts as AllParts, Marks}
 use Rattle.im_session.specs.inner.Scans.{Comes, IsRead, IsScan, Stops, Went}
 use Rattle.im_session.specs.inner.Serving.{HasRead, wanted_of}
 use Rattle.im_session.specs.Cursors.{MayAskIn}
@@ -129,37 +127,6 @@ pub seen_in-went : (old new : Known) (view : View) (extent : ℕ) → view.scn �
     → seen_in new.log view extent ≡ seen_in old.log view extent
 seen_in-went old new view extent known went =
     ap (λ (log : History). seen_in log view extent) went.after.log ∙ seen_in-later old.log went.after.between view extent known
-
--- the part of the next extent, where it is wanted, which was served after others went on
-module _ (wanted : Wanted) (bound : Bound) (view : View) (extent : ℕ) (first now : Known) (before part : Parts) (known : view.scn ≤ scn first.log)
-    (went : Went first now) (is : before ≡ partial bound (wanted_of wanted (seen_to first.log view extent)))
-    (and_is : part ≡ partial bound (wanted_of wanted (seen_in now.log view extent))) where
-  and_so : part ≡ partial bound (wanted_of wanted (seen_in first.log view extent))
-  and_so = and_is ∙ ap (λ (rows : List Numbered). partial bound (wanted_of wanted rows)) (seen_in-went first now view extent known went)
-
-  pub part-merges : view.rows < 2 ^ 64 → CanMerge before part
-  part-merges few = by wanted is and_so
-    where
-      by : (w : Wanted) → before ≡ partial bound (wanted_of w (seen_to first.log view extent))
-          → part ≡ partial bound (wanted_of w (seen_in first.log view extent)) → CanMerge before part
-      by AllParts one two = can-merge-seen bound first.log view extent before part few one two
-      by Marks one two = rw (one, two) (CanMerge-partial bound [] [] (omega arith))
-
-  pub part-next : merged before part ≡ partial bound (wanted_of wanted (seen_to first.log view (extent + 1)))
-  part-next = by wanted is and_so
-    where
-      by : (w : Wanted) → before ≡ partial bound (wanted_of w (seen_to first.log view extent))
-          → part ≡ partial bound (wanted_of w (seen_in first.log view extent))
-          → merged before part ≡ partial bound (wanted_of w (seen_to first.log view (extent + 1)))
-      by AllParts one two = merged-seen bound first.log view extent before part one two
-      by Marks one two = rw (one, two) (merged-partial bound [] [])
-
--- the part before the first of the extents
-pub part-first : (wanted : Wanted) (bound : Bound) (view : View) (extent : ℕ) (now : Known) (part : Parts) → (wanted ≡ Marks → extent ≡ 0)
-    → part ≡ partial bound (seen_to now.log view extent) → part ≡ partial bound (wanted_of wanted (seen_to now.log view extent))
-part-first AllParts bound view extent now part first is = is
-part-first Marks bound view extent now part first is =
-    is ∙ ap (partial bound) (ap (seen_to now.log view) (first refl) ∙ seen_to-none now.log view)
 
 -- the parts of all extents
 pub part-all : (wanted : Wanted) (who cursor extent : ℕ) (bound : Bound) (view : View) (now : Known) (part : Parts) → IsScan who cursor view now

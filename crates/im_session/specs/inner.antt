@@ -2,6 +2,7 @@ pub mod Cursors
 pub mod Definitions
 pub mod Ends
 pub mod Names
+pub mod Pins
 pub mod Purposes
 pub mod Refusals
 pub mod Rests

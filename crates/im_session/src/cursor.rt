@@ -19,7 +19,7 @@ ghost use Rattle.im_statements.specs.Outcomes.{Closes, Replied};
 
 use crate::context::Context;
 use crate::refusals::{out_of_memory, refused_reply};
-use crate::serving::{ServedPart, Wanted, answer_scan, served_part};
+use crate::serving::{ServedPart, answer_scan, served_part};
 use im_edge::Gate;
 use im_group::Partial;
 use im_history::{Look, Opening, Refused, View, Why};
@@ -32,6 +32,7 @@ use im_values::{List, NoMemory, Steps};
 use std::alloc::Global;
 use std::sync::Wait;
 use std::sync::ledger::Ledger;
+use std::thread::Threads;
 
 /// A cursor that a session has open.
 #[derive(Drop)]
@@ -174,7 +175,7 @@ pub struct FetchOutcome {
 
 /// FETCH: answers the query of an open cursor over all rows that it sees, whatever steps served before, and closes it. The
 /// answer was settled at this look.
-pub fn fetch<R: Wait, H: Reach<ColumnUnit>, G: Gate, L: Ledger>(
+pub fn fetch<R: Threads + Wait + Sync, H: Reach<ColumnUnit>, G: Gate, L: Ledger>(
     context: &Context<R, G>,
     reach: &mut H,
     look: &Look,
@@ -246,7 +247,7 @@ pub fn step<R: Wait, H: Reach<ColumnUnit>, G: Gate, L: Ledger>(
         };
     }
     let next = kept.next;
-    match served_part(context, reach, kept, next, Wanted::Parts, steps) {
+    match served_part(context, reach, kept, next, steps) {
         Ok(served) => take(context.outside.alloc, kept, served, next + 1),
         Err(_) => StepOutcome {
             reply: out_of_memory(context.outside.alloc, 0),

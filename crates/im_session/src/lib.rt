@@ -8,10 +8,11 @@
 //! session keeps of its cursors agrees with the history before and after (`specs/Sessions.antt`, `specs/Cursors.antt`).
 //!
 //! The contract of each inner function says what is left of its line (`specs/inner/Rests.antt`). A statement that scans opens
-//! a cursor of its own and serves its extents each at a turn of its own (`specs/inner/Scans.antt`).
+//! a cursor of its own and serves its extents each at a turn of its own (`specs/inner/Scans.antt`). What they give is made of what was
+//! read of them, and many of them are gone over in chunks, on threads of their own (`specs/inner/Pins.antt`).
 //!
 //! Start with `session.rt` and `playing.rt`, then `transaction.rt`, whose statements make one call each, then `cursor.rt`,
-//! `serving.rt` and `scan.rt`.
+//! `serving.rt`, `parts.rt` and `scan.rt`.
 #![tactic(auto)]
 
 mod changes;
@@ -20,6 +21,7 @@ mod cursor;
 mod definition;
 mod ending;
 mod inserts;
+mod parts;
 mod playing;
 mod refusals;
 mod rewriting;

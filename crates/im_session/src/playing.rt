@@ -38,9 +38,10 @@ use im_values::limits::NUMBERS;
 use std::alloc::Global;
 use std::sync::Wait;
 use std::sync::ledger::Ledger;
+use std::thread::Threads;
 
 /// Plays one statement over the cursors that its session keeps.
-pub fn run<R: Wait, H: Reach<ColumnUnit>, G: Gate, L: Ledger>(
+pub fn run<R: Threads + Wait + Sync, H: Reach<ColumnUnit>, G: Gate, L: Ledger>(
     context: &Context<R, G>,
     reach: &mut H,
     kept: &mut Vec<Cursor>,
@@ -78,7 +79,7 @@ pub fn run<R: Wait, H: Reach<ColumnUnit>, G: Gate, L: Ledger>(
 }
 
 /// Plays a statement that defines no table and whose names were found at this look.
-fn play<R: Wait, H: Reach<ColumnUnit>, G: Gate, L: Ledger>(
+fn play<R: Threads + Wait + Sync, H: Reach<ColumnUnit>, G: Gate, L: Ledger>(
     context: &Context<R, G>,
     reach: &mut H,
     kept: &mut Vec<Cursor>,
@@ -191,7 +192,7 @@ pub enum Use {
 }
 
 /// STEP, FETCH and CLOSE: uses a cursor so, where it is open.
-fn on_cursor<R: Wait, H: Reach<ColumnUnit>, G: Gate, L: Ledger>(
+fn on_cursor<R: Threads + Wait + Sync, H: Reach<ColumnUnit>, G: Gate, L: Ledger>(
     context: &Context<R, G>,
     reach: &mut H,
     kept: &mut Vec<Cursor>,

@@ -33,10 +33,11 @@ use im_values::{List, Row, Steps};
 use std::alloc::Global;
 use std::sync::Wait;
 use std::sync::ledger::Ledger;
+use std::thread::Threads;
 
 /// UPDATE and DELETE: rewrites the rows of a table that a session sees and a condition keeps, unless its transaction was READ
 /// ONLY at this look.
-pub fn rewrite<R: Wait, H: Reach<ColumnUnit>, G: Gate, L: Ledger>(
+pub fn rewrite<R: Threads + Wait + Sync, H: Reach<ColumnUnit>, G: Gate, L: Ledger>(
     context: &Context<R, G>,
     reach: &mut H,
     look: &Look,
@@ -73,7 +74,7 @@ pub fn rewrite<R: Wait, H: Reach<ColumnUnit>, G: Gate, L: Ledger>(
 }
 
 /// Rewrites the rows of a table that a session sees and a condition keeps, by a scan and a write.
-fn rewrite_rows<R: Wait, H: Reach<ColumnUnit>, G: Gate, L: Ledger>(
+fn rewrite_rows<R: Threads + Wait + Sync, H: Reach<ColumnUnit>, G: Gate, L: Ledger>(
     context: &Context<R, G>,
     reach: &mut H,
     table: u32,
@@ -117,7 +118,7 @@ fn condition_query(alloc: Global, table: u32, filter: Option<Filter>) -> Bound
 }
 
 /// Rewrites the rows that a scan sees and its condition keeps. Its cursor is still open then.
-pub fn rewrite_seen<R: Wait, H: Reach<ColumnUnit>, G: Gate, L: Ledger>(
+pub fn rewrite_seen<R: Threads + Wait + Sync, H: Reach<ColumnUnit>, G: Gate, L: Ledger>(
     context: &Context<R, G>,
     reach: &mut H,
     cursor: &Cursor,

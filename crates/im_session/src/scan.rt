@@ -28,6 +28,7 @@ use im_values::{List, NoMemory, Steps};
 use std::alloc::Global;
 use std::sync::Wait;
 use std::sync::ledger::Ledger;
+use std::thread::Threads;
 
 /// What a statement scans a table for.
 #[derive(Drop)]
@@ -45,7 +46,7 @@ pub enum Purpose {
 ///
 /// Each extent is served by itself: others may change the table meanwhile, and what is seen is what there was at the opening. Each row
 /// that is read from the blocks is one step at most.
-pub fn scan<R: Wait, H: Reach<ColumnUnit>, G: Gate, L: Ledger>(
+pub fn scan<R: Threads + Wait + Sync, H: Reach<ColumnUnit>, G: Gate, L: Ledger>(
     context: &Context<R, G>,
     reach: &mut H,
     columns: u32,
@@ -84,7 +85,7 @@ pub fn scan<R: Wait, H: Reach<ColumnUnit>, G: Gate, L: Ledger>(
 }
 
 /// Lets an open scan serve its purpose. It is still open then.
-fn use_scan<R: Wait, H: Reach<ColumnUnit>, G: Gate, L: Ledger>(
+fn use_scan<R: Threads + Wait + Sync, H: Reach<ColumnUnit>, G: Gate, L: Ledger>(
     context: &Context<R, G>,
     reach: &mut H,
     cursor: &Cursor,
@@ -105,7 +106,7 @@ fn use_scan<R: Wait, H: Reach<ColumnUnit>, G: Gate, L: Ledger>(
 }
 
 /// Answers the query of a scan over the rows that it sees. Its cursor is still open then.
-fn answer_seen<R: Wait, H: Reach<ColumnUnit>, G: Gate, L: Ledger>(
+fn answer_seen<R: Threads + Wait + Sync, H: Reach<ColumnUnit>, G: Gate, L: Ledger>(
     context: &Context<R, G>,
     reach: &mut H,
     cursor: &Cursor,
@@ -124,7 +125,7 @@ fn answer_seen<R: Wait, H: Reach<ColumnUnit>, G: Gate, L: Ledger>(
 }
 
 /// Answers how each extent is served to a scan. Its cursor is still open then.
-fn explain_seen<R: Wait, H: Reach<ColumnUnit>, G: Gate, L: Ledger>(
+fn explain_seen<R: Threads + Wait + Sync, H: Reach<ColumnUnit>, G: Gate, L: Ledger>(
     context: &Context<R, G>,
     reach: &mut H,
     cursor: &Cursor,

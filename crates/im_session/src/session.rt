@@ -22,6 +22,7 @@ use std::alloc::Global;
 use std::marker::Model;
 use std::sync::Wait;
 use std::sync::ledger::Ledger;
+use std::thread::Threads;
 
 /// A session: its number, the cursors that it has open, and whether its transaction is.
 #[derive(Drop)]
@@ -66,7 +67,7 @@ impl Session {
     /// A statement of the background is not a session's: nothing is done, and the reply says so. The gate is called before and
     /// after each extent that a scan is served, outside the store's turn. Each row that is read from the blocks is one step at
     /// most: no more than the marks of the reply tell of, and where memory is out no extent twice.
-    pub fn execute<R: Wait, H: Reach<ColumnUnit>, G: Gate, L: Ledger>(
+    pub fn execute<R: Threads + Wait + Sync, H: Reach<ColumnUnit>, G: Gate, L: Ledger>(
         &mut self,
         outside: &Outside<R, G>,
         reach: &mut H,

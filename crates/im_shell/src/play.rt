@@ -16,11 +16,13 @@ use im_text::{Passage, Waiting};
 use im_unit::ColumnUnit;
 use im_values::Steps;
 use im_values::limits::SESSIONS;
+use std::mem::forget;
 use std::sync::Wait;
 use std::sync::ledger::Ledger;
+use std::thread::Threads;
 
 /// Reads the next line, and plays it.
-fn play_bytes<R: Wait, H: Reach<ColumnUnit>, G: Gate, L: Ledger>(
+fn play_bytes<R: Threads + Wait + Sync, H: Reach<ColumnUnit>, G: Gate, L: Ledger>(
     outside: &Outside<R, G>,
     reach: &mut H,
     players: &mut Players,
@@ -63,7 +65,7 @@ fn put_reply<K: Sink>(
 }
 
 /// Plays the next line, and puts the text of its reply behind what waits to be written.
-fn play_next<R: Wait, H: Reach<ColumnUnit>, G: Gate, K: Sink, L: Ledger>(
+fn play_next<R: Threads + Wait + Sync, H: Reach<ColumnUnit>, G: Gate, K: Sink, L: Ledger>(
     outside: &Outside<R, G>,
     reach: &mut H,
     players: &mut Players,
@@ -95,7 +97,7 @@ fn play_next<R: Wait, H: Reach<ColumnUnit>, G: Gate, K: Sink, L: Ledger>(
 
 /// Plays a script line by line, over a store in which nothing has happened and players that keep nothing, and writes the text
 /// of its replies.
-fn play_lines<R: Wait, H: Reach<ColumnUnit>, G: Gate, K: Sink, L: Ledger>(
+fn play_lines<R: Threads + Wait + Sync, H: Reach<ColumnUnit>, G: Gate, K: Sink, L: Ledger>(
     outside: &Outside<R, G>,
     reach: &mut H,
     players: &mut Players,
@@ -129,7 +131,7 @@ fn play_lines<R: Wait, H: Reach<ColumnUnit>, G: Gate, K: Sink, L: Ledger>(
 
 /// Plays a script over a store in which nothing has happened, with sessions and a background of its own, and writes the text of
 /// its replies that are shown.
-fn play_over<R: Wait, H: Reach<ColumnUnit>, G: Gate, K: Sink, L: Ledger>(
+fn play_over<R: Threads + Wait + Sync, H: Reach<ColumnUnit>, G: Gate, K: Sink, L: Ledger>(
     outside: &Outside<R, G>,
     reach: &mut H,
     shown: Shown,
@@ -159,8 +161,8 @@ fn play_over<R: Wait, H: Reach<ColumnUnit>, G: Gate, K: Sink, L: Ledger>(
 }
 
 /// Plays a script, over a store, sessions and a background of its own, and writes the text of its replies that are shown. The column units of
-/// the store may take `area` bytes together.
-pub fn play_script<R: Wait, G: Gate, K: Sink, L: Ledger>(
+/// the store may take `area` bytes together. The store is not taken apart at the end: it goes with the process.
+pub fn play_script<R: Threads + Wait + Sync, G: Gate, K: Sink, L: Ledger>(
     outside: &Outside<R, G>,
     shown: Shown,
     area: u64,
@@ -175,6 +177,6 @@ pub fn play_script<R: Wait, G: Gate, K: Sink, L: Ledger>(
 {
     let mut store = empty_store(outside.alloc, area)?;
     let played = play_over(outside, &mut store, shown, script, sink, steps);
-    drop(store);
+    forget(store);
     played
 }

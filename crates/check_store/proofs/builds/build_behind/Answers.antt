@@ -7,11 +7,11 @@ use Rattle.im_reach.specs.Sides.{Known}
 use Rattle.im_session.specs.Sessions.{Agrees}
 
 pub play_each-requires-clause-sole : goal.play_each-requires-clause-sole
-play_each-requires-clause-sole g c =
+play_each-requires-clause-sole g c κs within =
     side-went 17 (g.H.Reach.known c.args.store.now) (g.H.Reach.known c.begin.new.store) (c.in-Some.ensures.went c.in-Some.task refl) c.requires.sole
 
 pub play_each-requires-clause-agrees : goal.play_each-requires-clause-agrees
-play_each-requires-clause-agrees g c =
+play_each-requires-clause-agrees g c κs within =
     agrees-went 17 c.args.session.now (g.H.Reach.known c.args.store.now) (g.H.Reach.known c.begin.new.store)
     (c.in-Some.ensures.went c.in-Some.task refl) (ap (λ (n : ℕ). 17 == n) c.requires.session) c.requires.agrees
 

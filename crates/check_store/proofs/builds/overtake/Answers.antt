@@ -6,12 +6,12 @@ use Rattle.check_store.proofs.builds.overtake.Goals as goal
 use Rattle.im_reach.specs.Sides.{Known}
 
 pub play_each-requires-clause-sole : goal.play_each-requires-clause-sole
-play_each-requires-clause-sole g c =
+play_each-requires-clause-sole g c κs within =
     side-went 20 (g.H.Reach.known c.args.store.now) (g.H.Reach.known c.evict_of.new.store) (c.in-Some.ensures c.in-Some.place refl)
     c.requires.stage.sole
 
 pub play_each-requires-clause-agrees : goal.play_each-requires-clause-agrees
-play_each-requires-clause-agrees g c =
+play_each-requires-clause-agrees g c κs within =
     agrees-went 20 c.args.session.now (g.H.Reach.known c.args.store.now) (g.H.Reach.known c.evict_of.new.store)
     (c.in-Some.ensures c.in-Some.place refl) (ap (λ (n : ℕ). 20 == n) c.requires.stage.who) c.requires.stage.agrees
 

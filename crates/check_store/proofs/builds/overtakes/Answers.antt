@@ -8,10 +8,10 @@ use Rattle.im_reach.specs.Sides.{Known}
 use Rattle.im_session.specs.Sessions.{Agrees}
 
 pub set_stage-requires-clause-agrees : goal.set_stage-requires-clause-agrees
-set_stage-requires-clause-agrees g c = rw c.new-session.ensures (agrees-new (g.H.Reach.known c.args.store.now) c.requires.fresh)
+set_stage-requires-clause-agrees g c κs within = rw c.new-session.ensures (agrees-new (g.H.Reach.known c.args.store.now) c.requires.fresh)
 
 pub overtake-requires-clause-stage : goal.overtake-requires-clause-stage
-overtake-requires-clause-stage g c =
+overtake-requires-clause-stage g c κs within =
     let stage = c.if-not-set_stage.ensures.stage in
     let old = g.H.Reach.known c.set_stage.new.store in
     let mid = g.H.Reach.known c.begin_slow.new.store in
@@ -25,7 +25,7 @@ overtake-requires-clause-stage g c =
     }
 
 pub overtake-requires-clause-stands : goal.overtake-requires-clause-stands
-overtake-requires-clause-stands g c =
+overtake-requires-clause-stands g c κs within =
     let old = g.H.Reach.known c.set_stage.new.store in
     let now = g.H.Reach.known c.look_on.new.store in
     stands-on 19 refl old now c.if-not-set_stage.ensures.fast

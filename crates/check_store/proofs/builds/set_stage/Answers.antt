@@ -24,13 +24,13 @@ build_now-requires-clause-stands g c =
     c.look_on.ensures.lawful
 
 pub play_each-requires-2-clause-sole : goal.play_each-requires-2-clause-sole
-play_each-requires-2-clause-sole g c =
+play_each-requires-2-clause-sole g c κs within =
     side-went 17 (g.H.Reach.known c.look_on.new.store) (g.H.Reach.known c.build_now.new.store) (c.in-Some.ensures c.in-Some._used refl)
     (ap (λ (k : Known). k.side) c.look_on.ensures.same
     ∙ side-went 1 (g.H.Reach.known c.args.store.now) (g.H.Reach.known c.play_each.new.store) c.play_each.ensures.went c.requires.sole)
 
 pub play_each-requires-2-clause-agrees : goal.play_each-requires-2-clause-agrees
-play_each-requires-2-clause-agrees g c =
+play_each-requires-2-clause-agrees g c κs within =
     agrees-went 17 c.play_each.new.session (g.H.Reach.known c.look_on.new.store) (g.H.Reach.known c.build_now.new.store)
     (c.in-Some.ensures c.in-Some._used refl) (ap (λ (n : ℕ). 17 == n) c.play_each.ensures.session)
     (subst (Agrees c.play_each.new.session) (sym c.look_on.ensures.same) c.play_each.ensures.agrees)

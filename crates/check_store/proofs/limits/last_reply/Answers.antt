@@ -2,4 +2,4 @@ use Rattle.check_store.proofs.SessionLemmas.{agrees-new}
 use Rattle.check_store.proofs.limits.last_reply.Goals as goal
 
 pub play_each-last-requires-clause-agrees : goal.play_each-last-requires-clause-agrees
-play_each-last-requires-clause-agrees g c = rw c.new-session.ensures (agrees-new (g.H.Reach.known c.args.store.now) c.requires.fresh)
+play_each-last-requires-clause-agrees g c κs within = rw c.new-session.ensures (agrees-new (g.H.Reach.known c.args.store.now) c.requires.fresh)

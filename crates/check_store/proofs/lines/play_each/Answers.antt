@@ -2,7 +2,7 @@ use Rattle.check_store.proofs.GoingLemmas.{side-went, went-both, went-none}
 use Rattle.check_store.proofs.lines.play_each.Goals as goal
 
 pub play-requires-clause-sole : goal.play-requires-clause-sole
-play-requires-clause-sole g c =
+play-requires-clause-sole g c κs within =
     side-went 1 (g.H.Reach.known c.args.store.now) (g.H.Reach.known c.loop-line.store) c.loop-line.invariant.went c.requires.sole
 
 pub loop-line-init : goal.loop-line-init

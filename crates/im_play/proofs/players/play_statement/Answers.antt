@@ -2,13 +2,13 @@ use Rattle.im_play.proofs.SessionsLemmas.{answer-after, between-after, session-a
 use Rattle.im_play.proofs.players.play_statement.Goals as goal
 
 pub execute-requires-clause-session : goal.execute-requires-clause-session
-execute-requires-clause-session g c =
+execute-requires-clause-session g c κs within =
     session-number c.args.players.now.sessions.items c.args.who c.index_mut.result.now c.args.players.now.background
     (g.H.Reach.known c.args.reach.now) c.requires.between
     (session-there _ _ _ _ _ c.requires.between c.requires.session c.index_mut.ensures.value) c.requires.one c.requires.session
 
 pub execute-requires-clause-agrees : goal.execute-requires-clause-agrees
-execute-requires-clause-agrees g c =
+execute-requires-clause-agrees g c κs within =
     session-agrees c.args.players.now.sessions.items c.args.who c.index_mut.result.now c.args.players.now.background
     (g.H.Reach.known c.args.reach.now) c.requires.between
     (session-there _ _ _ _ _ c.requires.between c.requires.session c.index_mut.ensures.value) c.requires.one

@@ -23,7 +23,7 @@ pub for_each_mut-requires-clause-accepts : goal.for_each_mut-requires-clause-acc
 for_each_mut-requires-clause-accepts g c κs within = λ at post less is. (
   ready-at (IsReady c.args.course.now.options.area c.args.store.now.id) c.args.jobs.items c.as_mut_slice.result.now
       (c.as_mut_slice.ensures.value ∙ c.in_ok-posts.ensures) c.requires.ready at post.now less is,
-  (c.requires.known, c.requires.names),
+  (c.requires.known, (c.requires.names, (param_sync 0 _ (arg_sync _ no _ c.type_bounds.sync-R), param_sync 1 _ (arg_sync _ no _ c.type_bounds.sync-G)))),
 )
 
 pub returns : goal.returns

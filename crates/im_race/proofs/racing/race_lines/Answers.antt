@@ -8,12 +8,12 @@ use Rattle.im_script.specs.Lines.{NamesOneOf16}
 use Rattle.im_race.proofs.racing.race_lines.Goals as goal
 
 pub play_lines-requires-clause-known : goal.play_lines-requires-clause-known
-play_lines-requires-clause-known g c =
+play_lines-requires-clause-known g c κs within =
     subst (All (λ (line : Line). IsKnown line.kind)) (sym c.split_race.ensures.prelude)
     (all-prelude (λ (line : Line). IsKnown line.kind) c.args.lines.now c.requires.known)
 
 pub play_lines-requires-clause-between : goal.play_lines-requires-clause-between
-play_lines-requires-clause-between g c =
+play_lines-requires-clause-between g c κs within =
     between-start c.args.options.area _ c.in_ok-players.players.sessions.items c.in_ok-players.players.background c.in_ok-store.ensures
     c.in_ok-players.ensures.sessions c.in_ok-players.ensures.background
 

@@ -38,7 +38,7 @@ returns-in-Step-clause-run g c =
     c.index_mut.ensures.value c.step.ensures.rest c.step.ensures.kept c.step.ensures.agrees)
 
 pub fetch-fetched-requires-clause-agrees : goal.fetch-fetched-requires-clause-agrees
-fetch-fetched-requires-clause-agrees g c =
+fetch-fetched-requires-clause-agrees g c κs within =
     is-kept c.args.context.now.who c.args.kept.now.items (g.H.Reach.known c.args.reach.now) c.requires.agrees c.args.number c.in-Some.at
     c.index.result.now
     (at-place c.args.number _ c.args.kept.now.items _ c.in-Some.at c.as_slice.ensures.value c.place_of.ensures c.in-Some.is)

@@ -12,12 +12,12 @@ use Rattle.im_session.proofs.playing.play.Goals as goal
 use Rattle.im_statements.specs.Statements.{resolved_plan}
 
 pub scan-requires-clause-seen : goal.scan-requires-clause-seen
-scan-requires-clause-seen g c =
+scan-requires-clause-seen g c κs within =
     seen-columns (g.H.Reach.known c.args.reach.now).log c.args.context.now.who c.in-Select.bound.table _ c.args.look.now c.requires.look
     c.columns_of-columns.ensures
 
 pub scan-requires-in-Explain-clause-seen : goal.scan-requires-in-Explain-clause-seen
-scan-requires-in-Explain-clause-seen g c =
+scan-requires-in-Explain-clause-seen g c κs within =
     seen-columns (g.H.Reach.known c.args.reach.now).log c.args.context.now.who c.in-Explain.bound.table _ c.args.look.now c.requires.look
     c.columns_of-columns-in-Explain.ensures
 

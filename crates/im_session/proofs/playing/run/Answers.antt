@@ -22,19 +22,19 @@ returns-in_default-clause-run g c =
     c.requires.speaks c.in_default.ensures.err)
 
 pub play-reply-requires-clause-agrees : goal.play-reply-requires-clause-agrees
-play-reply-requires-clause-agrees g c =
+play-reply-requires-clause-agrees g c κs within =
     kept-found c.args.context.now.who c.args.kept.now.items
     (g.H.Reach.known c.args.reach.now) (g.H.Reach.known c.look.new.self) _ c.requires.speaks c.requires.agrees
     c.in-Ok.ensures.ok
 
 pub play-reply-requires-clause-shut : goal.play-reply-requires-clause-shut
-play-reply-requires-clause-shut g c =
+play-reply-requires-clause-shut g c κs within =
     (kept-found c.args.context.now.who c.args.kept.now.items
     (g.H.Reach.known c.args.reach.now) (g.H.Reach.known c.look.new.self) _ c.requires.speaks c.requires.agrees
     c.in-Ok.ensures.ok).cursors.closed
 
 pub play-reply-requires-clause-other : goal.play-reply-requires-clause-other
-play-reply-requires-clause-other g c =
+play-reply-requires-clause-other g c κs within =
     defines-resolved c.in-Ok.look.tables c.args.statement.now c.in-Ok-resolve.resolved c.in-Ok-resolve.ensures.ok
     ∙ (sym c.is_definition.ensures ∙ c.if-is_definition.false)
 

@@ -4,7 +4,7 @@ use Rattle.im_session.proofs.TableLemmas.{seen-columns}
 use Rattle.im_session.proofs.rewriting.rewrite.Goals as goal
 
 pub rewrite_rows-requires-clause-seen : goal.rewrite_rows-requires-clause-seen
-rewrite_rows-requires-clause-seen g c =
+rewrite_rows-requires-clause-seen g c κs within =
     seen-columns (g.H.Reach.known c.args.reach.now).log c.args.context.now.who c.args.table _ c.args.look.now c.requires.look
     c.columns_of-columns.ensures
 

@@ -12,17 +12,17 @@ use Rattle.im_statements.specs.Outcomes.{said}
 use Rattle.im_syntax.specs.declared.bound.Bound.{Bound}
 
 pub scan-requires-clause-serves : goal.scan-requires-clause-serves
-scan-requires-clause-serves g c =
+scan-requires-clause-serves g c κs within =
     subst (λ (b : Bound). OfTable (tables (g.H.Reach.known c.args.reach.now).log) b.table (QueryServes b)) (sym c.condition_query-bound.ensures)
     (condition-serves (g.H.Reach.known c.args.reach.now).log c.args.table c.args.filter c.args.rewriting c.requires.serves)
 
 pub scan-requires-clause-seen : goal.scan-requires-clause-seen
-scan-requires-clause-seen g c =
+scan-requires-clause-seen g c κs within =
     subst (λ (b : Bound). c.args.columns ≡ columns_of (table_at (g.H.Reach.known c.args.reach.now).log b.table)) (sym c.condition_query-bound.ensures)
     c.requires.seen
 
 pub scan-requires-clause-may : goal.scan-requires-clause-may
-scan-requires-clause-may g c =
+scan-requires-clause-may g c κs within =
     subst (λ (b : Bound). (b.grouped ≡ false)
     × OfTable (tables (g.H.Reach.known c.args.reach.now).log) b.table (RewriteServes b.filter c.args.rewriting)) (sym c.condition_query-bound.ensures)
     (refl, c.requires.serves)

@@ -14,11 +14,11 @@ use Rattle.im_history.specs.Views.{view_at}
 use Rattle.im_statements.specs.Scans.{rows_seen, serve_from}
 
 pub use_scan-reply-requires-clause-speaks : goal.use_scan-reply-requires-clause-speaks
-use_scan-reply-requires-clause-speaks g c =
+use_scan-reply-requires-clause-speaks g c κs within =
     ap (λ (s : Known). speaks s.side c.args.context.now.who) c.in-Ok.ensures.opened.added.now ∙ c.requires.speaks
 
 pub use_scan-reply-requires-clause-may : goal.use_scan-reply-requires-clause-may
-use_scan-reply-requires-clause-may g c =
+use_scan-reply-requires-clause-may g c κs within =
     opened-may c.args.context.now.who c.args.bound c.in-Ok.cursor (g.H.Reach.known c.args.reach.now) (g.H.Reach.known c.open_cursor.new.reach)
     c.in-Ok.ensures.opened c.args.purpose c.requires.may c.in-Ok.ensures.lawful c.in-Ok.ensures.kept
 

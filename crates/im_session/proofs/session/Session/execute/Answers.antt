@@ -6,7 +6,7 @@ use Rattle.im_session.proofs.SessionLemmas.{session-agrees, session-counted, ses
 use Rattle.im_session.proofs.session.Session.execute.Goals as goal
 
 pub run-reply-requires-clause-agrees : goal.run-reply-requires-clause-agrees
-run-reply-requires-clause-agrees g c =
+run-reply-requires-clause-agrees g c κs within =
     session-kept c.args.self.now c.self.inside.who c.self.inside.cursors.items c.self.inside.in_transaction (sym c.self.view_is)
     (g.H.Reach.known c.args.reach.now) c.requires.agrees
 
