@@ -15,8 +15,8 @@ use std::alloc::Global;
 use std::thread;
 use std::thread::Threads;
 
-/// From so many rows on that were fetched, parts are made in chunks: to go over fewer costs about as much as threads do. What a unit
-/// has by its columns costs a tenth of that, so it does not count.
+/// From so many rows on that were fetched, parts are made in chunks, since threads cost too. What a unit has by its columns does not
+/// count: it costs far less a row.
 const ROWS_FOR_CHUNKS: u64 = 1 << 17;
 
 /// The most chunks.
