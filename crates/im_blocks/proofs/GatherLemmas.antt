@@ -1,12 +1,13 @@
 -- Rows that are gathered behind what was read before.
 use Prim.Native.Nat.{zero, suc}
 use Rattle.std.proofs.Common.{◌≡◌, ℕ, ◌+◌, ◌*◌, ◌^◌, ◌<◌, ◌≤◌, List, [], ◌∷◌, ◌++◌, drop, length, take, Option, Some, refl, sym, ap, ◌∙◌, arith, append_assoc}
+use Rattle.std.specs.List.{slice_get}
 use Rattle.std.proofs.lemmas.List.{append-nil, length-append, nil_from_length, take_all}
 use Rattle.im_values.specs.Stretches.{cut}
 use Rattle.im_values.specs.declared.value.Value.{Value}
-use Rattle.im_values.proofs.ForCallers.{cut-append, cut-push}
+use Rattle.im_values.proofs.ForCallers.{cut-push}
 use Rattle.im_history.specs.Fetched.{run_from}
-use Rattle.im_history.proofs.FetchedLaws.{run_from-push}
+use Rattle.im_history.proofs.FetchedLaws.{run_from-next, run_from-push}
 use Rattle.im_blocks.specs.declared.gathered.Gathered.{Gathered}
 use Rattle.im_blocks.specs.inner.Gathering.{Gathers, IsFlushed, IsReadyAt, IsWhole, gathered}
 
@@ -133,57 +134,30 @@ Gathers-row old mid new rid row ready put = record {
   whole = put.whole;
 }
 
--- rows behind others from a row number on
-run_from-append : (first : ℕ) (rows more : List (List Value)) → run_from first (rows ++ more) ≡ run_from first rows ++ run_from (first + length rows) more
-run_from-append first [] more = ap (λ (n : ℕ). run_from n more) (omega arith)
-run_from-append first (row ∷ rows) more =
-    let next : first + 1 + length rows ≡ first + suc (length rows) = omega arith in
-    ap (λ (l : Read). (first, Some row) ∷ l)
-    (run_from-append (first + 1) rows more ∙ ap (λ (n : ℕ). run_from (first + 1) rows ++ run_from n more) next)
+slice-drop : (rows : List (List Value)) (from at : ℕ) → slice_get (drop from rows) at ≡ slice_get rows (from + at)
+slice-drop rows zero at = let is : at ≡ 0 + at = omega arith in ap (λ (n : ℕ). slice_get rows n) is
+slice-drop [] (suc from) at = refl
+slice-drop (row ∷ rows) (suc from) at =
+    let next : suc (from + at) ≡ suc from + at = omega arith in
+    slice-drop rows from at ∙ ap (λ (n : ℕ). slice_get (row ∷ rows) n) next
 
--- more rows in the block
-pub Gathers-all : (old new : Gathered) (values : List Value) (many : ℕ) → IsWhole old → length values ≡ many * old.width
-    → old.first + old.count + many ≤ 2 ^ 63 → new.fetched ≡ old.fetched → new.first ≡ old.first → new.width ≡ old.width → new.count ≡ old.count + many
-    → new.values.items ≡ old.values.items ++ values → Gathers old new (run_from (old.first + old.count) (cut many old.width values))
-Gathers-all old new values many whole wide numbers fetched_is first_is width_is count_is values_is =
-    let first = old.first in
-    let rows = cut old.count old.width old.values.items in
-    let more = cut many old.width values in
-    let next : cut new.count new.width new.values.items ≡ rows ++ more =
-    ap (λ (n : ℕ). cut n new.width new.values.items) count_is
-    ∙ (ap (λ (n : ℕ). cut (old.count + many) n new.values.items) width_is
-    ∙ (ap (λ (l : List Value). cut (old.count + many) old.width l) values_is
-    ∙ cut-append old.count many old.width old.values.items values whole.long wide)) in
-    let long : length rows ≡ old.count = length-cut old.count old.width old.values.items in
+-- one row of a run more
+pub Gathers-next : (old mid new : Gathered) (rid from at : ℕ) (rows : List (List Value)) (row : List Value) → slice_get rows (from + at) ≡ Some row
+    → Gathers old mid (run_from rid (take at (drop from rows))) → Gathers mid new ((rid + at, Some row) ∷ [])
+    → Gathers old new (run_from rid (take (at + 1) (drop from rows)))
+Gathers-next old mid new rid from at rows row is before put =
+    let there : slice_get (drop from rows) at ≡ Some row = slice-drop rows from at ∙ is in
     record {
-      rows = ap (λ (l : Read). l ++ run_from new.first (cut new.count new.width new.values.items)) fetched_is
-          ∙ (ap (λ (n : ℕ). old.fetched ++ run_from n (cut new.count new.width new.values.items)) first_is
-          ∙ (ap (λ (l : List (List Value)). old.fetched ++ run_from first l) next
-          ∙ (ap (λ (l : Read). old.fetched ++ l) (run_from-append first rows more ∙ ap (λ (n : ℕ). run_from first rows ++ run_from (first + n) more) long)
-          ∙ sym (append_assoc old.fetched (run_from first rows) (run_from (first + old.count) more)))));
-      whole = record {
-        long = longer;
-        small = omega (arith, numbers, first_is, count_is);
-      };
+      rows = put.rows
+          ∙ (ap (λ (l : Read). l ++ (rid + at, Some row) ∷ []) before.rows
+          ∙ (append_assoc (gathered old) (run_from rid (take at (drop from rows))) ((rid + at, Some row) ∷ [])
+          ∙ ap (λ (l : Read). gathered old ++ l) (sym (run_from-next rid (drop from rows) at row there))));
+      whole = put.whole;
     }
-  where
-    longer : length new.values.items ≡ new.count * new.width
-    longer =
-        let sum : length new.values.items ≡ length old.values.items + length values = ap length values_is ∙ length-append old.values.items values in
-        let long = whole.long in
-        let product : new.count * new.width ≡ (old.count + many) * old.width = ap (λ (n : ℕ). n * new.width) count_is ∙ ap (λ (n : ℕ). (old.count + many) * n) width_is in
-        let all : (old.count + many) * old.width ≡ old.count * old.width + many * old.width = grind arith in
-        omega (arith, sum, long, product, all, wide)
 
--- rows at row numbers for which it was made ready
-pub Gathers-rows : (old mid new : Gathered) (rid width many from : ℕ) (rows : List (List Value)) (values : List Value) → IsReadyAt old mid rid width
-    → cut many width values ≡ take many (drop from rows) → Gathers mid new (run_from (mid.first + mid.count) (cut many mid.width values))
-    → Gathers old new (run_from rid (take many (drop from rows)))
-Gathers-rows old mid new rid width many from rows values ready are put = record {
-  rows = put.rows
-      ∙ (ap (λ (l : Read). l ++ run_from (mid.first + mid.count) (cut many mid.width values)) ready.rows
-      ∙ (ap (λ (n : ℕ). gathered old ++ run_from n (cut many mid.width values)) ready.at
-      ∙ (ap (λ (n : ℕ). gathered old ++ run_from rid (cut many n values)) ready.width_is
-      ∙ ap (λ (l : List (List Value)). gathered old ++ run_from rid l) are)));
-  whole = put.whole;
+-- no row of a run yet
+pub Gathers-begun : (g : Gathered) (rid from : ℕ) (rows : List (List Value)) → IsWhole g → Gathers g g (run_from rid (take 0 (drop from rows)))
+Gathers-begun g rid from rows whole = record {
+  rows = sym (append-nil (gathered g));
+  whole = whole;
 }

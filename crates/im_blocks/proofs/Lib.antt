@@ -5,6 +5,7 @@ mod GatherLemmas
 mod HandingLemmas
 mod ImageLemmas
 mod PageLemmas
+mod PickedLemmas
 mod Places
 mod RoomLemmas
 mod RunLemmas

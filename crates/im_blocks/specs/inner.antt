@@ -3,6 +3,7 @@ pub mod Handing
 pub mod Images
 pub mod Packing
 pub mod Pages
+pub mod Picked
 pub mod Puts
 pub mod Readying
 pub mod Reading

@@ -1,10 +1,11 @@
-ghost use Rattle.std.specs.Prelude.{◌≡◌, ◌+◌, ◌-◌, ◌/◌, ◌%◌, ◌^◌, ◌<◌, ◌≤◌, drop, length, option_copied, take, IfOk, IfSome, OnOk, Some};
+ghost use Rattle.std.specs.Prelude.{◌≡◌, ◌+◌, ◌-◌, ◌/◌, ◌%◌, ◌^◌, ◌<◌, ◌≤◌, [], ◌∷◌, drop, length, option_copied, take, IfOk, IfSome, OnOk, Some};
 ghost use Rattle.im_versions.specs.Versions.{row_at};
 ghost use Rattle.im_blocks.specs.Chains as seen;
 ghost use Rattle.im_blocks.specs.Chains.{newest_scn, rows_among, rows_at, versions_at};
 ghost use Rattle.im_blocks.specs.Readied.{HasRoom, IsReadyFor, ready_changes};
 ghost use Rattle.im_blocks.specs.Transitions.{Applied, IsBefore, SameVersions};
 ghost use Rattle.im_blocks.specs.inner.Gathering.{Gathers, IsWhole};
+ghost use Rattle.im_blocks.specs.inner.Picked.{ArePicked, Picks};
 ghost use Rattle.im_blocks.specs.inner.Reading.{AreRead, IsReadable, IsShownTo};
 ghost use Rattle.im_history.specs.Fetched.{run_from};
 ghost use Rattle.im_history.specs.Puts.{all_changes};
@@ -12,6 +13,7 @@ ghost use Rattle.im_history.specs.Puts.{all_changes};
 use crate::gathered::Gathered;
 use crate::image::{Image, fresh_end};
 use crate::pages::{PAGE, Page, note_each, renew_each};
+use crate::picking::Picking;
 use crate::ready::Ready;
 use crate::scattered::Scattered;
 use crate::version_table::VersionTable;
@@ -25,6 +27,15 @@ use std::sync::ledger::Ledger;
 
 /// The first number that no row has.
 const END: u64 = 1 << 63;
+
+/// The image of a page, lent.
+#[derive(Clone, Copy)]
+pub struct Shown<'a> {
+    /// The page's number.
+    pub number: u64,
+    /// Its image.
+    pub image: &'a Image,
+}
 
 /// The versions of every row of every table.
 ///
@@ -151,10 +162,29 @@ impl Blocks {
         Ok(read.finish()?)
     }
 
-    /// These row numbers, each with a copy of its row at an SCN. The copies share one block, whichever row numbers they are.
+    /// These row numbers, each with its row at an SCN.
     ///
-    /// It costs one look-up and at most one step for each, and the copies.
+    /// Rows that the image of the first one's page shows stay where they are. Copies of the others share one block, whichever row
+    /// numbers they are. It costs one look-up and at most one step for each, and the copies.
     pub fn rows_of<L: Ledger>(
+        &self,
+        alloc: Global,
+        table: u32,
+        rids: &[u64],
+        scn: u64,
+        steps: &mut Steps<L>,
+    ) -> Result<Fetched, NoMemory>
+        ensures rows { IfOk result (λ fetched. fetched ≡ rows_among self.now table rids.now scn) }
+        ensures few { steps.new ≤ steps.old + length rids.now }
+    {
+        match self.first_image(table, rids, scn) {
+            Some(shown) => self.rows_beside(alloc, shown, table, rids, scn, steps),
+            None => self.copied_rows(alloc, table, rids, scn, steps),
+        }
+    }
+
+    /// These row numbers, each with a copy of its row at an SCN.
+    fn copied_rows<L: Ledger>(
         &self,
         alloc: Global,
         table: u32,
@@ -170,6 +200,66 @@ impl Blocks {
             read.push(*rid, self.at(table, *rid, scn, steps))?;
         }
         Ok(read.finish()?)
+    }
+
+    /// These row numbers, each with its row at an SCN: where it is, where an image shows it, and else a copy.
+    fn rows_beside<L: Ledger>(
+        &self,
+        alloc: Global,
+        shown: Shown<'_>,
+        table: u32,
+        rids: &[u64],
+        scn: u64,
+        steps: &mut Steps<L>,
+    ) -> Result<Fetched, NoMemory>
+        requires readable { IsReadable self.now table shown.number scn shown.image.now }
+        ensures rows { IfOk result (λ fetched. fetched ≡ rows_among self.now table rids.now scn) }
+        ensures few { steps.new ≤ steps.old + length rids.now }
+    {
+        let rows = &shown.image.rows;
+        let mut read = Picking::new(alloc, rows, rids.len())?;
+        for rid in rids {
+            self.pick_from(&mut read, shown, table, *rid, scn, steps)?;
+        }
+        Ok(read.finish(rows)?)
+    }
+
+    /// Reads what is at a row number, by an image where that shows it.
+    fn pick_from<L: Ledger>(
+        &self,
+        read: &mut Picking,
+        shown: Shown<'_>,
+        table: u32,
+        rid: u64,
+        scn: u64,
+        steps: &mut Steps<L>,
+    ) -> Result<(), NoMemory>
+        requires readable { IsReadable self.now table shown.number scn shown.image.now }
+        requires picked { ArePicked read.old shown.image.now.rows }
+        ensures read { OnOk result (Picks read.old read.new shown.entry.image.now.rows ((rid, row_at (versions_at self.now table rid) scn) ∷ [])) }
+        ensures few { steps.new ≤ steps.old + 1 }
+    {
+        let rows = &shown.image.rows;
+        if rid / PAGE == shown.number && shown.image.shows(rid % PAGE) {
+            steps.tick();
+            return read.pick(rows, rid, (rid % PAGE) as u32);
+        }
+        read.push(rows, rid, self.versions.at(table, rid, scn, steps))
+    }
+
+    /// The image of the page of the first of some row numbers, where what it shows can be read at an SCN and it has a row.
+    fn first_image(&self, table: u32, rids: &[u64], scn: u64) -> Option<Shown<'_>>
+        ensures { IfSome result (λ shown. IsReadable self.now table shown.number scn shown.image.now) }
+    {
+        let rid = rids.first()?;
+        let image = self.image_at(table, *rid, scn)?;
+        if image.rows.is_empty() {
+            return None;
+        }
+        Some(Shown {
+            number: *rid / PAGE,
+            image,
+        })
     }
 
     /// The image of the page of a row number, where what it shows can be read at an SCN.

@@ -166,9 +166,11 @@ impl Gathered {
         requires numbers { rid + many ≤ 2 ^ 63 }
         ensures { OnOk result (Gathers self.old self.new (run_from rid (take many (drop from rows.now)))) }
     {
-        let lent = rows.lent(from, many);
-        self.begin(rid, lent.width)?;
-        self.put_all(lent.values, many)
+        let _ = rows.len();
+        for at in 0..many {
+            self.push_row(rid + at as u64, rows.values(from + at))?;
+        }
+        Ok(())
     }
 
     /// Makes it ready to gather a row of so many values at this row number.
@@ -195,18 +197,6 @@ impl Gathered {
     {
         put_values(self.alloc, &mut self.values, row)?;
         self.count += 1;
-        Ok(())
-    }
-
-    /// Gathers so many rows more, whose values lie one row behind another.
-    fn put_all(&mut self, values: &[Value], many: usize) -> Result<(), NoMemory>
-        requires whole { IsWhole self.old }
-        requires long { length values.now ≡ many * self.old.width }
-        requires numbers { self.old.first + self.old.count + many ≤ 2 ^ 63 }
-        ensures { OnOk result (Gathers self.old self.new (run_from (self.old.first + self.old.count) (cut many self.old.width values.now))) }
-    {
-        put_values(self.alloc, &mut self.values, values)?;
-        self.count += many;
         Ok(())
     }
 

@@ -17,6 +17,15 @@ pub struct Image {
 }
 
 impl Image {
+    /// Whether the row at a place is shown.
+    pub fn shows(&self, place: u64) -> bool
+        ensures there { result ≡ true → place < length self.now.rows }
+        ensures fresh { result ≡ true → get_or self.now.fresh.items place false ≡ true }
+    {
+        let place = place as usize;
+        place < self.fresh.len() && place < self.rows.len() && self.fresh[place]
+    }
+
     /// The values of the row at a place, where it is shown.
     pub fn values(&self, place: u64) -> Option<&[Value]>
         ensures { IfSome result (λ row. IsFresh self.now place row.now) }

@@ -19,6 +19,7 @@ mod entering;
 mod gathered;
 mod image;
 mod pages;
+mod picking;
 mod ready;
 mod run;
 mod runs;

@@ -105,7 +105,7 @@ impl Fetched {
     pub fn lent(&self, alloc: Global) -> Result<Vec<LentRow<'_>>, NoMemory>
         ensures { IfOk result (λ rows. spec.lent_rows rows.items ≡ self.now) }
     {
-        let mut rows = Vec::new(alloc);
+        let mut rows = Vec::with_capacity(alloc, self.len as usize)?;
         for piece in self.pieces.as_slice() {
             lend_piece(&mut rows, piece)?;
         }

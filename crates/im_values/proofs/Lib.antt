@@ -1,3 +1,4 @@
 mod Cutting
+mod PickLemmas
 mod RunLemmas
 pub mod ForCallers

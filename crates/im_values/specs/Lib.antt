@@ -1,5 +1,6 @@
 pub mod Fits
 pub mod Order
+pub mod Runs
 pub mod Sizes
 pub mod Stretches
 pub mod Text

@@ -27,7 +27,7 @@ pub use name::Name;
 pub use no_memory::NoMemory;
 pub use priority::Priority;
 pub use row::{Row, clone_row, copied, rows_of_block};
-pub use rows::{LentValues, Rows};
+pub use rows::Rows;
 pub use schema::{Column, Kind, Schema, fits};
 pub use steps::Steps;
 pub use truth::Truth;
