@@ -7,6 +7,7 @@ mod SelectionLemmas
 mod SpanLemmas
 mod TallyLemmas
 mod WholeLemmas
+mod CodeNumberLemmas
 mod CountLemmas
 mod KeyedLemmas
 mod PairLemmas

@@ -1,3 +1,4 @@
+pub mod CodeNumbers
 pub mod Numbers
 pub mod Parts
 pub mod Slabs

@@ -2,8 +2,9 @@ ghost use Rattle.std.specs.Prelude.{◌≡◌, pos, ◌*ℤ◌, ◌+◌, ◌*◌
 ghost use Rattle.im_values.specs.declared.value.Value.TheVariants.{Null};
 ghost use Rattle.im_codes.specs.Dictionary.{coded, IsDictionary};
 ghost use Rattle.im_codepred.specs.Tallies.{IsWithin, chosen, some_of};
-ghost use Rattle.im_codepred.specs.inner.Tallying.{at_bits, lesser_code, nothing, number_at, taken, taken_run, totals_of, times_of, with_run, IsInside, Shows};
+ghost use Rattle.im_codepred.specs.inner.Tallying.{at_bits, lesser_code, nothing, taken, taken_run, totals_of, times_of, with_run, IsInside, Shows};
 
+use crate::code_numbers::{CodeNumbers, number_at};
 use crate::tally::Tally;
 use im_bits::{Bits, ROOM};
 use im_codes::Runs;
@@ -47,16 +48,16 @@ impl Found {
 
     /// Takes one code more.
     #[inline(always)]
-    pub fn take(&mut self, dict: &[Value], code: u32)
+    pub fn take(&mut self, numbers: &CodeNumbers, code: u32)
         requires few { self.old.values < 2 ^ 63 }
-        requires code { code < length (coded dict.now) }
-        ensures { self.new ≡ taken dict.now self.old code }
+        requires code { code < length (coded numbers.now) }
+        ensures { self.new ≡ taken numbers.now self.old code }
     {
         if code == 0 {
             return;
         }
         self.values += 1;
-        self.sum += i128::from(number_at(dict, code));
+        self.sum += i128::from(numbers.at(code));
         self.least = lesser_code(self.least, code);
         self.greatest = self.greatest.max(code);
     }
@@ -88,16 +89,16 @@ impl Found {
     }
 
     /// Takes the codes at the bits of a word that are set. It costs a step for each.
-    fn take_word(&mut self, dict: &[Value], codes: &[u32], word: u64)
+    fn take_word(&mut self, numbers: &CodeNumbers, codes: &[u32], word: u64)
         requires few { self.old.values < 2 ^ 62 }
         requires short { length codes.now ≤ 64 }
-        requires codes { All (λ code. code < length (coded dict.now)) codes.now }
+        requires codes { All (λ code. code < length (coded numbers.now)) codes.now }
         requires word { word < 2 ^ length codes.now }
-        ensures { self.new ≡ fold (taken dict.now) self.old (at_bits word codes.now) }
+        ensures { self.new ≡ fold (taken numbers.now) self.old (at_bits word codes.now) }
     {
         let mut rest = word;
         while rest != 0 {
-            self.take(dict, codes[rest.trailing_zeros() as usize]);
+            self.take(numbers, codes[rest.trailing_zeros() as usize]);
             rest &= rest - 1;
         }
     }
@@ -130,19 +131,6 @@ fn value_of<'a>(dict: &'a [Value], code: u32) -> Option<&'a Value>
     }
 }
 
-/// The number that a code from 1 on stands for: 0 where that is a text.
-#[inline(always)]
-fn number_at(dict: &[Value], code: u32) -> i64
-    requires some { 0 < code }
-    requires inside { code < length (coded dict.now) }
-    ensures { result ≡ number_at dict.now code }
-{
-    match &dict[code as usize - 1] {
-        Value::Int(number) => *number,
-        Value::Text(_) | Value::Null => 0,
-    }
-}
-
 /// A number so many times.
 fn times(count: u64, number: i64) -> i128
     requires { count < 2 ^ 31 }
@@ -172,10 +160,10 @@ fn lesser_code(least: u32, code: u32) -> u32
 }
 
 /// What is found among the chosen of packed codes. Where 512 codes have no chosen one, they are not unpacked.
-pub fn found_in(dict: &[Value], bits: &Bits, mask: &Mask) -> Found
+pub fn found_in(numbers: &CodeNumbers, bits: &Bits, mask: &Mask) -> Found
     requires long { length mask.now ≡ length bits.now.codes }
-    requires codes { All (λ code. code < length (coded dict.now)) bits.now.codes }
-    ensures { result ≡ fold (taken dict.now) nothing (chosen mask.now bits.now.codes) }
+    requires codes { All (λ code. code < length (coded numbers.now)) bits.now.codes }
+    ensures { result ≡ fold (taken numbers.now) nothing (chosen mask.now bits.now.codes) }
 {
     let words = mask.words();
     let mut codes = [0; ROOM];
@@ -184,7 +172,7 @@ pub fn found_in(dict: &[Value], bits: &Bits, mask: &Mask) -> Found
     for place in 0..words.len() {
         if words[place] != 0 {
             held = bits.turn_to(place as u64, held, &mut codes);
-            found.take_word(dict, bits.share_of(place as u64, &codes), words[place]);
+            found.take_word(numbers, bits.share_of(place as u64, &codes), words[place]);
         }
     }
     found

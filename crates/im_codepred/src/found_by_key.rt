@@ -3,6 +3,7 @@ ghost use Rattle.im_codes.specs.Dictionary.{coded, IsDictionary};
 ghost use Rattle.im_codepred.specs.Tallies.{chosen};
 ghost use Rattle.im_codepred.specs.inner.Tallying.{at_bits, nothing, totals_of, with_code, AreInside, ShowEach};
 
+use crate::code_numbers::CodeNumbers;
 use crate::found::Found;
 use crate::tally::Tally;
 use im_bits::{Bits, ROOM};
@@ -23,11 +24,12 @@ pub fn found_by_key(
     requires keys { length keys.now.codes ≡ length mask.now }
     requires long { length codes.now.codes ≡ length mask.now }
     requires below { All (λ code. code < most) keys.now.codes }
+    requires dictionary { IsDictionary dict.now }
     requires codes { All (λ code. code < length (coded dict.now)) codes.now.codes }
     ensures { IfOk result (λ founds. founds.items ≡ fold (with_code dict.now) (replicate most nothing) (chosen mask.now (zip keys.now.codes codes.now.codes))) }
 {
     let mut founds = none_found(alloc, most)?;
-    find_all(&mut founds, keys, dict, codes, mask);
+    find_all(&mut founds, keys, &CodeNumbers::of(dict), codes, mask);
     Ok(founds)
 }
 
@@ -43,13 +45,13 @@ fn none_found(alloc: Global, most: u32) -> Result<Vec<Found>, NoMemory>
 }
 
 /// Takes the chosen of packed codes, each with its key.
-fn find_all(founds: &mut [Found], keys: &Bits, dict: &[Value], codes: &Bits, mask: &Mask)
+fn find_all(founds: &mut [Found], keys: &Bits, numbers: &CodeNumbers, codes: &Bits, mask: &Mask)
     requires none { founds.old ≡ replicate (length founds.old) nothing }
     requires keys { length keys.now.codes ≡ length mask.now }
     requires long { length codes.now.codes ≡ length mask.now }
     requires below { All (λ code. code < length founds.old) keys.now.codes }
-    requires codes { All (λ code. code < length (coded dict.now)) codes.now.codes }
-    ensures { founds.new ≡ fold (with_code dict.now) founds.old (chosen mask.now (zip keys.now.codes codes.now.codes)) }
+    requires codes { All (λ code. code < length (coded numbers.now)) codes.now.codes }
+    ensures { founds.new ≡ fold (with_code numbers.now) founds.old (chosen mask.now (zip keys.now.codes codes.now.codes)) }
 {
     let words = mask.words();
     let mut some_keys = [0; ROOM];
@@ -62,7 +64,7 @@ fn find_all(founds: &mut [Found], keys: &Bits, dict: &[Value], codes: &Bits, mas
             find_word(
                 founds,
                 keys.share_of(place as u64, &some_keys),
-                dict,
+                numbers,
                 codes.share_of(place as u64, &some_codes),
                 words[place],
             );
@@ -71,20 +73,20 @@ fn find_all(founds: &mut [Found], keys: &Bits, dict: &[Value], codes: &Bits, mas
 }
 
 /// Takes the codes at the bits of a word that are set, each with its key.
-fn find_word(founds: &mut [Found], keys: &[u32], dict: &[Value], codes: &[u32], word: u64)
+fn find_word(founds: &mut [Found], keys: &[u32], numbers: &CodeNumbers, codes: &[u32], word: u64)
     requires few { (key : ℕ) → (slice_index_or founds.old key nothing).values < 2 ^ 62 }
     requires short { length keys.now ≤ 64 }
     requires long { length keys.now ≡ length codes.now }
     requires below { All (λ code. code < length founds.old) keys.now }
-    requires codes { All (λ code. code < length (coded dict.now)) codes.now }
+    requires codes { All (λ code. code < length (coded numbers.now)) codes.now }
     requires word { word < 2 ^ length keys.now }
-    ensures { founds.new ≡ fold (with_code dict.now) founds.old (at_bits word (zip keys.now codes.now)) }
+    ensures { founds.new ≡ fold (with_code numbers.now) founds.old (at_bits word (zip keys.now codes.now)) }
 {
     let mut rest = word;
     while rest != 0 {
         let i = rest.trailing_zeros() as usize;
         let key = keys[i] as usize;
-        founds[key].take(dict, codes[i]);
+        founds[key].take(numbers, codes[i]);
         rest &= rest - 1;
     }
 }

@@ -15,6 +15,7 @@
 
 mod asked;
 mod chosen;
+mod code_numbers;
 mod counts;
 mod form;
 mod found;

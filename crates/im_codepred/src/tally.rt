@@ -3,6 +3,7 @@ ghost use Rattle.std.specs.Bool.{OnTrue};
 ghost use Rattle.im_codepred.specs.Tallies.{chosen, IsTallyOf, IsWithin};
 ghost use Rattle.im_codes.specs.Dictionary.{coded, values_at};
 
+use crate::code_numbers::CodeNumbers;
 use crate::found::{found_among, found_in};
 use crate::gathered::gathered_in;
 use im_bits::Bits;
@@ -91,7 +92,8 @@ fn coded_tally<'a>(dict: &'a Dict, bits: &Bits, mask: &Mask) -> Tally<'a>
 {
     let _ = dict.len();
     let values = dict.values();
-    found_in(values, bits, mask).tally(values)
+    let numbers = CodeNumbers::of(values);
+    found_in(&numbers, bits, mask).tally(values)
 }
 
 /// What the chosen of runs of codes come to.

@@ -14,8 +14,8 @@ take_word-requires-clause-short c =
 
 pub take_word-requires-clause-codes : goal.take_word-requires-clause-codes
 take_word-requires-clause-codes c =
-    let P : List ℕ → Type 0 = λ l. All (λ code. code < length (coded c.args.dict.now)) l in
-    subst P (sym c.share_of.ensures) (share-all (length (coded c.args.dict.now)) (c.loop-place.place * 64) c.args.bits.now.codes c.requires.codes)
+    let P : List ℕ → Type 0 = λ l. All (λ code. code < length (coded c.args.numbers.now)) l in
+    subst P (sym c.share_of.ensures) (share-all (length (coded c.args.numbers.now)) (c.loop-place.place * 64) c.args.bits.now.codes c.requires.codes)
 
 pub take_word-requires-clause-word : goal.take_word-requires-clause-word
 take_word-requires-clause-word c =
@@ -28,7 +28,7 @@ take_word-requires-clause-word c =
 
 pub loop-place-preserved : goal.loop-place-preserved
 loop-place-preserved c =
-    let dict = c.args.dict.now in
+    let dict = c.args.numbers.now in
     let place = c.loop-place.place in
     let codes = c.args.bits.now.codes in
     let found = c.loop-place.found in
@@ -68,5 +68,5 @@ loop-place-preserved c =
 
 pub returns : goal.returns
 returns c =
-    left-done (taken c.args.dict.now) c.args.mask.now c.args.bits.now.codes c.loop-place.place c.loop-place.found _
+    left-done (taken c.args.numbers.now) c.args.mask.now c.args.bits.now.codes c.loop-place.place c.loop-place.found _
     (omega (arith, c.loop-place-test.false, c.words-words.ensures.count)) c.loop-place.invariant.comes

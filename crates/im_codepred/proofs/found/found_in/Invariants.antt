@@ -7,7 +7,7 @@ use Rattle.im_codepred.proofs.found.found_in.Given as goal
 abbrev pub invariant-loop-place : goal.invariant-loop-place
 invariant-loop-place l = record {
   few : l.found.values ≤ l.place * 64;
-  comes : fold (taken l.dict) l.found (chosen (drop (l.place * 64) l.mask) (drop (l.place * 64) l.bits.codes)) ≡
-      fold (taken l.dict) nothing (chosen l.mask l.bits.codes);
+  comes : fold (taken l.numbers) l.found (chosen (drop (l.place * 64) l.mask) (drop (l.place * 64) l.bits.codes)) ≡
+      fold (taken l.numbers) nothing (chosen l.mask l.bits.codes);
   held : IsHeld l.bits.codes l.held l.codes;
 }

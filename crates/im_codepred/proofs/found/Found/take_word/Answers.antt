@@ -14,8 +14,8 @@ bounds-codes-rest c =
 pub take-requires-clause-few : goal.take-requires-clause-few
 take-requires-clause-few c =
     let all = at_bits c.args.word c.args.codes.now in
-    let rest = found-grows c.args.dict.now c.loop-rest.self (at_bits c.loop-rest.rest c.args.codes.now) in
-    let whole = found-grows c.args.dict.now c.args.self.now all in
+    let rest = found-grows c.args.numbers.now c.loop-rest.self (at_bits c.loop-rest.rest c.args.codes.now) in
+    let whole = found-grows c.args.numbers.now c.args.self.now all in
     let same = ap (λ f. f.values) c.loop-rest.invariant.comes in
     omega (arith, rest.low, whole.high, same, length-at_bits c.args.word c.args.codes.now, c.requires.few, c.requires.short)
 
@@ -23,7 +23,7 @@ pub loop-rest-preserved : goal.loop-rest-preserved
 loop-rest-preserved c =
     let low = bit_at-trailing_zeros w64 c.loop-rest.rest (omega arith) c.loop-rest.auto.rest-fits.fits in
     rw c.take.ensures
-    (left-next (taken c.args.dict.now) c.args.codes.now c.loop-rest.rest _ 0 c.loop-rest.self _ c.loop-rest.invariant (omega arith) low.1 low.2)
+    (left-next (taken c.args.numbers.now) c.args.codes.now c.loop-rest.rest _ 0 c.loop-rest.self _ c.loop-rest.invariant (omega arith) low.1 low.2)
 
 pub returns : goal.returns
-returns c = left-none (taken c.args.dict.now) c.args.codes.now c.loop-rest.rest c.loop-rest.self _ c.loop-rest.invariant c.loop-rest-test.false
+returns c = left-none (taken c.args.numbers.now) c.args.codes.now c.loop-rest.rest c.loop-rest.self _ c.loop-rest.invariant c.loop-rest-test.false
