@@ -21,7 +21,7 @@ use Rattle.im_codepred.specs.inner.Walk.{AreTaken}
 use Rattle.im_codepred.proofs.BitsLemmas.{chosen-split, chosen-none}
 use Rattle.im_codepred.proofs.FormLemmas.{run-fits, left-next}
 use Rattle.im_codepred.specs.Tallies.{IsWithin, chosen, number, lesser, greater}
-use Rattle.im_codepred.specs.inner.Tallying.{FoundOf, taken, nothing, lesser_code, number_at, taken_run, times_of, IsInside, TotalsOf, totals, totals_of, no_totals, with_value}
+use Rattle.im_codepred.specs.inner.Tallying.{FoundOf, taken, taken_for, nothing, lesser_code, number_at, taken_run, times_of, IsInside, TotalsOf, totals, totals_of, no_totals, with_value}
 
 -- how many are found
 pub record Grows (before after : FoundOf) (most : ℕ) : Type 0 where
@@ -34,6 +34,10 @@ grows-or false before after more = more
 
 pub taken-grows : (dict : List Value) (found : FoundOf) (code : ℕ) → Grows found (taken dict found code) 1
 taken-grows dict found code = grows-or (eqb code 0) found _ (record { low = omega arith; high = omega arith })
+
+pub taken_for-grows : (ends : Bool) (dict : List Value) (found : FoundOf) (code : ℕ) → Grows found (taken_for ends dict found code) 1
+taken_for-grows true dict found code = taken-grows dict found code
+taken_for-grows false dict found code = grows-or (eqb code 0) found _ (record { low = omega arith; high = omega arith })
 
 pub found-grows : (dict : List Value) (found : FoundOf) (codes : List ℕ) → Grows found (fold (taken dict) found codes) (length codes)
 found-grows dict found [] = record { low = omega arith; high = omega arith }

@@ -11,9 +11,9 @@ use Rattle.im_values.specs.Order.{order, is_null}
 use Rattle.im_codes.specs.Dictionary.{coded, values_at, IsDictionary, StandAt}
 use Rattle.im_codepred.specs.declared.tally.Tally.{Tally}
 use Rattle.im_codepred.specs.Tallies.{chosen, beside, chosen_with, AreTallies}
-use Rattle.im_codepred.specs.inner.Tallying.{TotalsOf, keyed, no_totals, with_value, with_pair, Shows, ShowEach}
+use Rattle.im_codepred.specs.inner.Tallying.{TotalsOf, keyed, no_totals, with_value, with_pair, Shows, ShowEach, ShowEachFor}
 use Rattle.im_codepred.proofs.CountLemmas.{same-codes}
-use Rattle.im_codepred.proofs.TallyLemmas.{chosen-values, chosen-all, values-tally}
+use Rattle.im_codepred.proofs.TallyLemmas.{chosen-values, chosen-all, values-tally-for}
 
 -- ---- pairs
 
@@ -163,10 +163,10 @@ none-grouped groups key none =
     omega (arith, ap (λ t. t.values) nothing_at)
 
 -- the tallies of the groups
-pub groups-shown : (dict keys column : List Value) (mask : List Bool) (codes : List ℕ) (groups : List TotalsOf) (tallies : List Tally) (most : ℕ) →
+pub groups-shown : (ends : Bool) (dict keys column : List Value) (mask : List Bool) (codes : List ℕ) (groups : List TotalsOf) (tallies : List Tally) (most : ℕ) →
     IsDictionary dict → most ≡ length (coded dict) → groups ≡ fold with_pair (replicate most no_totals) (chosen mask (zip codes column)) →
-    ShowEach groups tallies → StandAt keys (coded dict) codes → AreTallies mask keys column (coded dict) tallies
-groups-shown dict keys column mask codes groups tallies most is long are show stand =
+    ShowEachFor ends groups tallies → StandAt keys (coded dict) codes → AreTallies ends mask keys column (coded dict) tallies
+groups-shown ends dict keys column mask codes groups tallies most is long are show stand =
     let none = replicate most no_totals in
     let pairs = chosen mask (zip codes column) in
     let size : length groups ≡ length (coded dict) = ap length are ∙ (length-groups none pairs ∙ (length-replicate {A = TotalsOf} most no_totals ∙ long)) in
@@ -180,11 +180,10 @@ groups-shown dict keys column mask codes groups tallies most is long are show st
           ap (of_key code) (chosen-zip mask codes column)
           ∙ (keyed-values dict (chosen mask codes) (chosen mask column) code is (chosen-all (length (coded dict)) mask codes stand.inside) inside
           ∙ ap (λ l. beside key l (chosen mask column)) (chosen-values (coded dict) mask codes ∙ ap (chosen mask) stand.same)) in
-          values-tally (chosen_with key mask keys column) (get_or groups code no_totals) (get_or tallies code d)
+          values-tally-for ends (chosen_with key mask keys column) (get_or groups code no_totals) (get_or tallies code d)
           (ap (λ l. get_or l code no_totals) are
           ∙ (group-from none pairs code within ∙ (ap (λ t. fold with_value t (of_key code pairs)) begins ∙ ap (fold with_value no_totals) values)))
           (show.each code d (omega (arith, size, inside)));
-      within = λ code d inside. (show.each code d (omega (arith, size, inside))).within;
     }
 
 -- one group more is shown

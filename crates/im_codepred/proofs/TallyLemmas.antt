@@ -5,8 +5,8 @@ use Rattle.im_values.specs.declared.value.Value.{Value}
 use Rattle.im_values.specs.declared.value.Value.TheVariants.{Null}
 use Rattle.im_codes.specs.Dictionary.{coded, values_at, IsDictionary}
 use Rattle.im_codepred.specs.declared.tally.Tally.{Tally}
-use Rattle.im_codepred.specs.Tallies.{chosen, some_of, IsTallyOf}
-use Rattle.im_codepred.specs.inner.Tallying.{FoundOf, taken, nothing, IsInside, TotalsOf, totals, totals_of, no_totals, with_value, Shows}
+use Rattle.im_codepred.specs.Tallies.{chosen, some_of, IsTallyOf, IsTallyFor}
+use Rattle.im_codepred.specs.inner.Tallying.{FoundOf, taken, nothing, IsInside, TotalsOf, totals, totals_of, no_totals, with_value, Shows, ShowsFor}
 use Rattle.im_codepred.proofs.FoundLemmas.{found-stands, totals-are}
 
 -- the chosen of the values are the values of the chosen codes
@@ -70,3 +70,15 @@ codes-tally dict values mask codes found tally same is low comes shows =
 
 pub values-tally : (vs : List Value) (t : TotalsOf) (tally : Tally) → t ≡ fold with_value no_totals vs → Shows t tally → IsTallyOf vs tally
 values-tally vs t tally comes shows = tally-shown vs t tally shows (comes ∙ totals-are vs)
+
+-- the same, with the ends where they are wanted
+pub values-tally-for : (ends : Bool) (vs : List Value) (t : TotalsOf) (tally : Tally) → t ≡ fold with_value no_totals vs → ShowsFor ends t tally → IsTallyFor ends vs tally
+values-tally-for ends vs t tally comes shows =
+    let is : t ≡ totals vs = comes ∙ totals-are vs in
+    record {
+      values = shows.values ∙ ap (λ t. t.values) is;
+      sum = shows.sum ∙ ap (λ t. t.sum) is;
+      least = λ wanted. shows.least wanted ∙ ap (λ t. some_of t.least) is;
+      greatest = λ wanted. shows.greatest wanted ∙ ap (λ t. some_of t.greatest) is;
+      within = shows.within;
+    }

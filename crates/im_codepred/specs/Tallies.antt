@@ -1,5 +1,5 @@
 -- The values at the chosen positions of a column, and what they come to.
-use Rattle.std.specs.Prelude.{◌≡◌, ◌<◌, ◌*◌, ◌^◌, count_by, slice_index, slice_index_or, ℕ, Bool, List, [], ◌∷◌, Option, Some, None, length, fold, option_copied, ℤ, pos, neg_ℤ, ◌+ℤ◌, ◌≤ℤ◌, if◌then◌else◌}
+use Rattle.std.specs.Prelude.{◌≡◌, ◌<◌, ◌*◌, ◌^◌, count_by, slice_index, slice_index_or, ℕ, Bool, true, List, [], ◌∷◌, Option, Some, None, length, fold, option_copied, ℤ, pos, neg_ℤ, ◌+ℤ◌, ◌≤ℤ◌, if◌then◌else◌}
 use Rattle.std.specs.Ordering.{is_lt, is_eq}
 use Rattle.im_values.specs.declared.value.Value.{Value}
 use Rattle.im_values.specs.declared.value.Value.TheVariants.{Int, Text, Null}
@@ -57,6 +57,14 @@ pub record IsTallyOf (vs : List Value) (tally : Tally) : Type 0 where
   pub greatest : option_copied tally.greatest ≡ some_of (greatest vs)
   pub within : IsWithin tally.values tally.sum
 
+-- the same, with the least and the greatest only where the ends are wanted
+pub record IsTallyFor (ends : Bool) (vs : List Value) (tally : Tally) : Type 0 where
+  pub values : tally.values ≡ length (present vs)
+  pub sum : tally.sum ≡ total vs
+  pub least : ends ≡ true → option_copied tally.least ≡ some_of (least vs)
+  pub greatest : ends ≡ true → option_copied tally.greatest ≡ some_of (greatest vs)
+  pub within : IsWithin tally.values tally.sum
+
 -- how many of these values are one
 abbrev pub count_of : Value → List Value → ℕ
 count_of value vs = count_by (λ v. is_eq (order v value)) vs
@@ -76,9 +84,8 @@ beside value (v ∷ vs) (x ∷ xs) = if is_eq (order v value) then x ∷ beside 
 abbrev pub chosen_with : Value → List Bool → List Value → List Value → List Value
 chosen_with key mask keys column = beside key (chosen mask keys) (chosen mask column)
 
--- of each of some values, what the values of a column come to where the keys have it, and that the sum is of numbers of 64 bits
-pub record AreTallies (mask : List Bool) (keys column values : List Value) (tallies : List Tally) : Type 0 where
+-- of each of some values, what the values of a column come to where the keys have it, with the ends where they are wanted
+pub record AreTallies (ends : Bool) (mask : List Bool) (keys column values : List Value) (tallies : List Tally) : Type 0 where
   pub size : length tallies ≡ length values
   pub each : (code : ℕ) (d : Tally) → code < length values →
-      IsTallyOf (chosen_with (slice_index_or values code Null) mask keys column) (slice_index_or tallies code d)
-  pub within : (code : ℕ) (d : Tally) → code < length values → IsWithin (slice_index_or tallies code d).values (slice_index_or tallies code d).sum
+      IsTallyFor ends (chosen_with (slice_index_or values code Null) mask keys column) (slice_index_or tallies code d)

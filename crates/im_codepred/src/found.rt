@@ -1,8 +1,8 @@
-ghost use Rattle.std.specs.Prelude.{◌≡◌, pos, ◌*ℤ◌, ◌+◌, ◌*◌, ◌^◌, ◌<◌, ◌≤◌, ℕ, All, fold, length, take, drop, option_copied, slice_index_or};
+ghost use Rattle.std.specs.Prelude.{◌≡◌, false, pos, ◌*ℤ◌, ◌+◌, ◌*◌, ◌^◌, ◌<◌, ◌≤◌, ℕ, All, fold, length, take, drop, option_copied, slice_index_or};
 ghost use Rattle.im_values.specs.declared.value.Value.TheVariants.{Null};
 ghost use Rattle.im_codes.specs.Dictionary.{coded, IsDictionary};
 ghost use Rattle.im_codepred.specs.Tallies.{IsWithin, chosen, some_of};
-ghost use Rattle.im_codepred.specs.inner.Tallying.{at_bits, lesser_code, nothing, taken, taken_run, totals_of, times_of, with_run, IsInside, Shows};
+ghost use Rattle.im_codepred.specs.inner.Tallying.{at_bits, lesser_code, nothing, taken, taken_for, taken_run, totals_of, times_of, with_run, IsInside, Shows};
 
 use crate::code_numbers::{CodeNumbers, number_at};
 use crate::tally::Tally;
@@ -60,6 +60,34 @@ impl Found {
         self.sum += i128::from(numbers.at(code));
         self.least = lesser_code(self.least, code);
         self.greatest = self.greatest.max(code);
+    }
+
+    /// The same, but the least and the greatest only where the ends are wanted.
+    #[inline(always)]
+    pub fn take_for(&mut self, ends: bool, numbers: &CodeNumbers, code: u32)
+        requires few { self.old.values < 2 ^ 63 }
+        requires code { code < length (coded numbers.now) }
+        ensures { self.new ≡ taken_for ends numbers.now self.old code }
+    {
+        if ends {
+            self.take(numbers, code);
+        } else {
+            self.take_sum(numbers, code);
+        }
+    }
+
+    /// Takes one code more, but no end.
+    #[inline(always)]
+    fn take_sum(&mut self, numbers: &CodeNumbers, code: u32)
+        requires few { self.old.values < 2 ^ 63 }
+        requires code { code < length (coded numbers.now) }
+        ensures { self.new ≡ taken_for false numbers.now self.old code }
+    {
+        if code == 0 {
+            return;
+        }
+        self.values += 1;
+        self.sum += i128::from(numbers.at(code));
     }
 
     /// Takes one code so many times.

@@ -11,10 +11,11 @@ use im_lanes::Mask;
 use im_values::{NoMemory, Value};
 use std::alloc::Global;
 
-/// What is found among the chosen of packed codes with each packed key below one. Where 512 codes have no chosen one, they are
-/// not unpacked.
+/// What is found among the chosen of packed codes with each packed key below one, and the least and the greatest only where the
+/// ends are wanted. Where 512 codes have no chosen one, they are not unpacked.
 pub fn found_by_key(
     alloc: Global,
+    ends: bool,
     most: u32,
     keys: &Bits,
     dict: &[Value],
@@ -26,10 +27,10 @@ pub fn found_by_key(
     requires below { All (λ code. code < most) keys.now.codes }
     requires dictionary { IsDictionary dict.now }
     requires codes { All (λ code. code < length (coded dict.now)) codes.now.codes }
-    ensures { IfOk result (λ founds. founds.items ≡ fold (with_code dict.now) (replicate most nothing) (chosen mask.now (zip keys.now.codes codes.now.codes))) }
+    ensures { IfOk result (λ founds. founds.items ≡ fold (with_code ends dict.now) (replicate most nothing) (chosen mask.now (zip keys.now.codes codes.now.codes))) }
 {
     let mut founds = none_found(alloc, most)?;
-    find_all(&mut founds, keys, &CodeNumbers::of(dict), codes, mask);
+    find_all(&mut founds, ends, keys, &CodeNumbers::of(dict), codes, mask);
     Ok(founds)
 }
 
@@ -45,13 +46,20 @@ fn none_found(alloc: Global, most: u32) -> Result<Vec<Found>, NoMemory>
 }
 
 /// Takes the chosen of packed codes, each with its key.
-fn find_all(founds: &mut [Found], keys: &Bits, numbers: &CodeNumbers, codes: &Bits, mask: &Mask)
+fn find_all(
+    founds: &mut [Found],
+    ends: bool,
+    keys: &Bits,
+    numbers: &CodeNumbers,
+    codes: &Bits,
+    mask: &Mask,
+)
     requires none { founds.old ≡ replicate (length founds.old) nothing }
     requires keys { length keys.now.codes ≡ length mask.now }
     requires long { length codes.now.codes ≡ length mask.now }
     requires below { All (λ code. code < length founds.old) keys.now.codes }
     requires codes { All (λ code. code < length (coded numbers.now)) codes.now.codes }
-    ensures { founds.new ≡ fold (with_code numbers.now) founds.old (chosen mask.now (zip keys.now.codes codes.now.codes)) }
+    ensures { founds.new ≡ fold (with_code ends numbers.now) founds.old (chosen mask.now (zip keys.now.codes codes.now.codes)) }
 {
     let words = mask.words();
     let mut some_keys = [0; ROOM];
@@ -63,6 +71,7 @@ fn find_all(founds: &mut [Found], keys: &Bits, numbers: &CodeNumbers, codes: &Bi
             held = codes.turn_to(place as u64, held, &mut some_codes);
             find_word(
                 founds,
+                ends,
                 keys.share_of(place as u64, &some_keys),
                 numbers,
                 codes.share_of(place as u64, &some_codes),
@@ -73,20 +82,27 @@ fn find_all(founds: &mut [Found], keys: &Bits, numbers: &CodeNumbers, codes: &Bi
 }
 
 /// Takes the codes at the bits of a word that are set, each with its key.
-fn find_word(founds: &mut [Found], keys: &[u32], numbers: &CodeNumbers, codes: &[u32], word: u64)
+fn find_word(
+    founds: &mut [Found],
+    ends: bool,
+    keys: &[u32],
+    numbers: &CodeNumbers,
+    codes: &[u32],
+    word: u64,
+)
     requires few { (key : ℕ) → (slice_index_or founds.old key nothing).values < 2 ^ 62 }
     requires short { length keys.now ≤ 64 }
     requires long { length keys.now ≡ length codes.now }
     requires below { All (λ code. code < length founds.old) keys.now }
     requires codes { All (λ code. code < length (coded numbers.now)) codes.now }
     requires word { word < 2 ^ length keys.now }
-    ensures { founds.new ≡ fold (with_code numbers.now) founds.old (at_bits word (zip keys.now codes.now)) }
+    ensures { founds.new ≡ fold (with_code ends numbers.now) founds.old (at_bits word (zip keys.now codes.now)) }
 {
     let mut rest = word;
     while rest != 0 {
         let i = rest.trailing_zeros() as usize;
         let key = keys[i] as usize;
-        founds[key].take(numbers, codes[i]);
+        founds[key].take_for(ends, numbers, codes[i]);
         rest &= rest - 1;
     }
 }

@@ -3,7 +3,7 @@ ghost use Rattle.im_values.specs.Sizes as sizes;
 ghost use Rattle.im_values.specs.declared.value.Value.TheVariants.{Null};
 ghost use Rattle.im_codes.specs.Dictionary.{coded, lent, values_at};
 ghost use Rattle.im_codepred.specs.Tallies.{chosen, AreTallies};
-ghost use Rattle.im_codepred.specs.inner.Tallying.{at_bits, keyed, no_totals, with_pair, ShowEach};
+ghost use Rattle.im_codepred.specs.inner.Tallying.{at_bits, keyed, no_totals, with_pair, ShowEach, ShowEachFor};
 
 use crate::found_by_key::{found_by_key, tallies_found};
 use crate::gathered::Gathered;
@@ -16,24 +16,32 @@ use im_values::{NoMemory, Value};
 use std::alloc::Global;
 
 /// What the values of a column come to at the chosen positions that have each code of the keys, where these are kept in codes:
-/// first that of NULL.
+/// first that of NULL. The least and the greatest are told only where the ends are wanted.
 ///
 /// It costs a step for each chosen position, and a tally for each code; where both columns are kept in codes, no value is looked
 /// at but for its number. Of a column of runs it costs a binary search for each of the 64 positions of a word that has a chosen
 /// one.
 pub fn tallies_by_code<'a>(
     alloc: Global,
+    ends: bool,
     keys: &Column,
     column: &'a Column,
     mask: &Mask,
 ) -> Result<Option<Vec<Tally<'a>>>, NoMemory>
     requires keys { length keys.now ≡ length mask.now }
     requires column { length column.now ≡ length mask.now }
-    ensures { IfOk result (λ found. MatchOption found (sizes.shape_of keys.now ≢ sizes.Coded) (λ tallies. AreTallies mask.now keys.now column.now (coded (sizes.dictionary keys.now)) tallies.items)) }
+    ensures { IfOk result (λ found. MatchOption found (sizes.shape_of keys.now ≢ sizes.Coded) (λ tallies. AreTallies ends mask.now keys.now column.now (coded (sizes.dictionary keys.now)) tallies.items)) }
 {
     match keys.form() {
         Form::Coded(dict, bits) => {
-            Ok(Some(keyed_tallies(alloc, dict.len() + 1, bits, column, mask)?))
+            Ok(Some(keyed_tallies(
+                alloc,
+                ends,
+                dict.len() + 1,
+                bits,
+                column,
+                mask,
+            )?))
         }
         Form::Plain(_) | Form::Runs(_, _) => Ok(None),
     }
@@ -42,6 +50,7 @@ pub fn tallies_by_code<'a>(
 /// What the values of a column come to at the chosen positions that have each packed key below one, by the form of the column.
 fn keyed_tallies<'a>(
     alloc: Global,
+    ends: bool,
     most: u32,
     keys: &Bits,
     column: &'a Column,
@@ -50,10 +59,18 @@ fn keyed_tallies<'a>(
     requires keys { length keys.now.codes ≡ length mask.now }
     requires column { length column.now ≡ length mask.now }
     requires codes { All (λ code. code < most) keys.now.codes }
-    ensures { IfOk result (λ tallies. ShowEach (fold with_pair (replicate most no_totals) (chosen mask.now (zip keys.now.codes column.now))) tallies.items) }
+    ensures { IfOk result (λ tallies. ShowEachFor ends (fold with_pair (replicate most no_totals) (chosen mask.now (zip keys.now.codes column.now))) tallies.items) }
 {
     match column.form() {
-        Form::Coded(dict, codes) => Ok(coded_tallies(alloc, most, keys, dict, codes, mask)?),
+        Form::Coded(dict, codes) => Ok(coded_tallies(
+            alloc,
+            ends,
+            most,
+            keys,
+            dict,
+            codes,
+            mask,
+        )?),
         Form::Plain(_) | Form::Runs(_, _) => {
             let groups = grouped_in(alloc, most, keys, column, mask)?;
             Ok(tallies_of(alloc, &groups)?)
@@ -64,6 +81,7 @@ fn keyed_tallies<'a>(
 /// What the values of packed codes come to at the chosen positions that have each packed key below one.
 fn coded_tallies<'a>(
     alloc: Global,
+    ends: bool,
     most: u32,
     keys: &Bits,
     dict: &'a Dict,
@@ -74,11 +92,11 @@ fn coded_tallies<'a>(
     requires long { length codes.now.codes ≡ length mask.now }
     requires below { All (λ code. code < most) keys.now.codes }
     requires codes { All (λ code. code < length (coded dict.now)) codes.now.codes }
-    ensures { IfOk result (λ tallies. ShowEach (fold with_pair (replicate most no_totals) (chosen mask.now (zip keys.now.codes (values_at (coded dict.now) codes.now.codes)))) tallies.items) }
+    ensures { IfOk result (λ tallies. ShowEachFor ends (fold with_pair (replicate most no_totals) (chosen mask.now (zip keys.now.codes (values_at (coded dict.now) codes.now.codes)))) tallies.items) }
 {
     let _ = dict.len();
     let values = dict.values();
-    let founds = found_by_key(alloc, most, keys, values, codes, mask)?;
+    let founds = found_by_key(alloc, ends, most, keys, values, codes, mask)?;
     Ok(tallies_found(alloc, &founds, values)?)
 }
 

@@ -1,6 +1,6 @@
 -- Tallies while they are made.
 use Rattle.std.specs.Borrow.{Bor}
-use Rattle.std.specs.Prelude.{◌≡◌, option_copied, false, Option, Some, None, fold, ℕ, ◌+◌, ◌/◌, ◌%◌, ◌^◌, ◌<◌, ◌==◌, ◌&&◌, ◌||◌, List, [], ◌∷◌, length, max, nat_lt, slice_index, slice_index_or, slice_set, ℤ, pos, ◌+ℤ◌, ◌*ℤ◌, if◌then◌else◌}
+use Rattle.std.specs.Prelude.{◌≡◌, option_copied, Bool, true, false, Option, Some, None, fold, ℕ, ◌+◌, ◌/◌, ◌%◌, ◌^◌, ◌<◌, ◌==◌, ◌&&◌, ◌||◌, List, [], ◌∷◌, length, max, nat_lt, slice_index, slice_index_or, slice_set, ℤ, pos, ◌+ℤ◌, ◌*ℤ◌, if◌then◌else◌}
 use Rattle.im_values.specs.declared.value.Value.{Value}
 use Rattle.im_values.specs.declared.value.Value.TheVariants.{Null}
 use Rattle.im_values.specs.Order.{is_null}
@@ -39,6 +39,14 @@ taken dict found code = if code == 0 then found else record {
   sum = found.sum +ℤ number_at dict code;
   least = lesser_code found.least code;
   greatest = max found.greatest code;
+}
+
+-- the same, with the ends only where they are wanted
+abbrev pub taken_for : Bool → List Value → FoundOf → ℕ → FoundOf
+taken_for true dict found code = taken dict found code
+taken_for false dict found code = if code == 0 then found else record found {
+  values = found.values + 1;
+  sum = found.sum +ℤ number_at dict code;
 }
 
 -- a number so many times
@@ -133,8 +141,8 @@ abbrev pub with_pair : List TotalsOf → ℕ × Value → List TotalsOf
 with_pair groups pair = slice_set groups pair.0 (with_value (slice_index_or groups pair.0 no_totals) pair.1)
 
 -- one code more is found with its key
-abbrev pub with_code : List Value → List FoundOf → ℕ × ℕ → List FoundOf
-with_code dict founds pair = slice_set founds pair.0 (taken dict (slice_index_or founds pair.0 nothing) pair.1)
+abbrev pub with_code : Bool → List Value → List FoundOf → ℕ × ℕ → List FoundOf
+with_code ends dict founds pair = slice_set founds pair.0 (taken_for ends dict (slice_index_or founds pair.0 nothing) pair.1)
 
 -- the ends that are found with each key are codes of a dictionary
 abbrev pub AreInside : List Value → List FoundOf → Type 0
@@ -144,3 +152,15 @@ AreInside dict founds = (key : ℕ) → IsInside dict (slice_index_or founds key
 pub record ShowEach (groups : List TotalsOf) (tallies : List Tally) : Type 0 where
   pub size : length tallies ≡ length groups
   pub each : (i : ℕ) (d : Tally) → i < length groups → Shows (slice_index_or groups i no_totals) (slice_index_or tallies i d)
+
+-- the same, with the ends only where they are wanted
+pub record ShowsFor (ends : Bool) (t : TotalsOf) (tally : Tally) : Type 0 where
+  pub values : tally.values ≡ t.values
+  pub sum : tally.sum ≡ t.sum
+  pub least : ends ≡ true → option_copied tally.least ≡ some_of t.least
+  pub greatest : ends ≡ true → option_copied tally.greatest ≡ some_of t.greatest
+  pub within : IsWithin tally.values tally.sum
+
+pub record ShowEachFor (ends : Bool) (groups : List TotalsOf) (tallies : List Tally) : Type 0 where
+  pub size : length tallies ≡ length groups
+  pub each : (i : ℕ) (d : Tally) → i < length groups → ShowsFor ends (slice_index_or groups i no_totals) (slice_index_or tallies i d)

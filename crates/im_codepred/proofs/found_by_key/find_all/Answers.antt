@@ -82,7 +82,7 @@ loop-place-preserved c =
     let codes = c.args.codes.now.codes in
     let pairs = zip keys codes in
     let founds = c.loop-place.founds in
-    let step = with_code c.args.numbers.now in
+    let step = with_code c.args.ends c.args.numbers.now in
     let inside : place < div_ceil (length c.args.mask.now) 64 = omega (arith, c.loop-place-test.true, c.words-words.ensures.count) in
     let word = get_or c.words-words.result.now place 0 in
     let share = take 64 (drop first pairs) in
@@ -91,7 +91,7 @@ loop-place-preserved c =
     λ new next key. omega (
       arith,
       ap (λ (l : List FoundOf). (get_or l key nothing).values) next,
-      (founds-grow c.args.numbers.now founds (at_bits word share) key).1,
+      (founds-grow c.args.ends c.args.numbers.now founds (at_bits word share) key).1,
       length-at_bits word share,
       length-take 64 (drop first pairs),
       c.loop-place.invariant.few key,
@@ -124,5 +124,5 @@ loop-place-preserved c =
 
 pub returns : goal.returns
 returns c =
-    left-done (with_code c.args.numbers.now) c.args.mask.now (zip c.args.keys.now.codes c.args.codes.now.codes) c.loop-place.place c.loop-place.founds _
+    left-done (with_code c.args.ends c.args.numbers.now) c.args.mask.now (zip c.args.keys.now.codes c.args.codes.now.codes) c.loop-place.place c.loop-place.founds _
     (omega (arith, c.loop-place-test.false, c.words-words.ensures.count)) c.loop-place.invariant.comes

@@ -12,7 +12,7 @@ use Rattle.im_codepred.proofs.found_by_key.find_word.Goals as goal
 pub loop-rest-init : goal.loop-rest-init
 loop-rest-init c =
     let size = length-zip c.args.keys.now c.args.codes.now (omega (arith, c.requires.long)) in
-    left-all (with_code c.args.numbers.now) (zip c.args.keys.now c.args.codes.now) c.args.word c.args.founds.now (rw size c.requires.word)
+    left-all (with_code c.args.ends c.args.numbers.now) (zip c.args.keys.now c.args.codes.now) c.args.word c.args.founds.now (rw size c.requires.word)
 
 pub bounds-keys-i : goal.bounds-keys-i
 bounds-keys-i c =
@@ -37,8 +37,8 @@ bounds-codes-i c =
     let size = length-zip c.args.keys.now c.args.codes.now (omega (arith, c.requires.long)) in
     omega (arith, bit-inside pairs c.loop-rest.rest _ c.loop-rest.invariant.few low.1, size, c.requires.long)
 
-pub take-requires-clause-few : goal.take-requires-clause-few
-take-requires-clause-few c =
+pub take_for-requires-clause-few : goal.take_for-requires-clause-few
+take_for-requires-clause-few c =
     let pairs = zip c.args.keys.now c.args.codes.now in
     let size = length-zip c.args.keys.now c.args.codes.now (omega (arith, c.requires.long)) in
     let key = get_or c.args.keys.now (trailing_zeros w64 c.loop-rest.rest) 0 in
@@ -47,8 +47,8 @@ take-requires-clause-few c =
     let within : trailing_zeros w64 c.loop-rest.rest < length c.args.keys.now = omega (arith, place, size) in
     let inside : key < length c.loop-rest.founds = omega (arith, c.requires.below (trailing_zeros w64 c.loop-rest.rest) 0 within, c.loop-rest.auto.founds) in
     let all = at_bits c.args.word pairs in
-    let rest = founds-grow c.args.numbers.now c.loop-rest.founds (at_bits c.loop-rest.rest pairs) key in
-    let whole = founds-grow c.args.numbers.now c.args.founds.now all key in
+    let rest = founds-grow c.args.ends c.args.numbers.now c.loop-rest.founds (at_bits c.loop-rest.rest pairs) key in
+    let whole = founds-grow c.args.ends c.args.numbers.now c.args.founds.now all key in
     let same = ap (λ l. get_or l key nothing) c.loop-rest.invariant.comes in
     let here = get_or_default c.loop-rest.founds key c.index-founds-key.result nothing inside in
     omega (
@@ -75,15 +75,15 @@ loop-rest-preserved c =
     let within : i < length c.args.keys.now = omega (arith, place, size) in
     let inside : key < length c.loop-rest.founds = omega (arith, c.requires.below i 0 within, c.loop-rest.auto.founds) in
     let put =
-    code-put c.args.numbers.now c.loop-rest.founds key (get_or c.args.codes.now i 0) c.index-founds-key.result c.take.new.self (get_or pairs i (0, 0)) inside
-    c.take.ensures (get_or-zip c.args.keys.now c.args.codes.now i 0 0 within fits) in
+    code-put c.args.ends c.args.numbers.now c.loop-rest.founds key (get_or c.args.codes.now i 0) c.index-founds-key.result c.take_for.new.self (get_or pairs i (0, 0)) inside
+    c.take_for.ensures (get_or-zip c.args.keys.now c.args.codes.now i 0 0 within fits) in
     let P : List FoundOf → Type 0 =
-    λ founds. IsLeft (with_code c.args.numbers.now) pairs (bit_and c.loop-rest.rest (c.loop-rest.rest - 1)) founds
-    (fold (with_code c.args.numbers.now) c.args.founds.now (at_bits c.args.word pairs)) in
+    λ founds. IsLeft (with_code c.args.ends c.args.numbers.now) pairs (bit_and c.loop-rest.rest (c.loop-rest.rest - 1)) founds
+    (fold (with_code c.args.ends c.args.numbers.now) c.args.founds.now (at_bits c.args.word pairs)) in
     subst P (sym put)
-    (left-next (with_code c.args.numbers.now) pairs c.loop-rest.rest i (0, 0) c.loop-rest.founds _ c.loop-rest.invariant (omega arith) low.1 low.2)
+    (left-next (with_code c.args.ends c.args.numbers.now) pairs c.loop-rest.rest i (0, 0) c.loop-rest.founds _ c.loop-rest.invariant (omega arith) low.1 low.2)
 
 pub returns : goal.returns
 returns c =
-    left-none (with_code c.args.numbers.now) (zip c.args.keys.now c.args.codes.now) c.loop-rest.rest c.loop-rest.founds _ c.loop-rest.invariant
+    left-none (with_code c.args.ends c.args.numbers.now) (zip c.args.keys.now c.args.codes.now) c.loop-rest.rest c.loop-rest.founds _ c.loop-rest.invariant
     c.loop-rest-test.false

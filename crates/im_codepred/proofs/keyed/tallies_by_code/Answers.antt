@@ -11,7 +11,7 @@ returns-in_ok-keyed_tallies-in-Coded c =
     let kept = c.in-Coded.ensures.1 in
     let tallies = c.in_ok-keyed_tallies-in-Coded.field-0.items in
     let most : c.len.result + 1 ≡ length (coded dict) = omega (arith, c.len.ensures.len) in
-    let P : List Value → Type 0 = λ d. AreTallies c.args.mask.now c.args.keys.now c.args.column.now (coded d) tallies in
+    let P : List Value → Type 0 = λ d. AreTallies c.args.ends c.args.mask.now c.args.keys.now c.args.column.now (coded d) tallies in
     subst P kept.is_dictionary
-    (groups-shown dict c.args.keys.now c.args.column.now c.args.mask.now c.in-Coded.bits.now.codes _ tallies (c.len.result + 1) c.len.ensures.dictionary most
+    (groups-shown c.args.ends dict c.args.keys.now c.args.column.now c.args.mask.now c.in-Coded.bits.now.codes _ tallies (c.len.result + 1) c.len.ensures.dictionary most
     refl c.in_ok-keyed_tallies-in-Coded.ensures kept.are_codes)
