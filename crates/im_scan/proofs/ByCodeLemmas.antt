@@ -6,11 +6,12 @@ use Rattle.im_values.specs.declared.value.Value.{Value}
 use Rattle.im_values.specs.declared.value.Value.TheVariants.{Null}
 use Rattle.im_history.specs.Rows.{Row}
 use Rattle.im_codepred.specs.declared.tally.Tally.{Tally}
-use Rattle.im_codepred.specs.Tallies.{AreTallies, IsTallyOf, chosen_with}
+use Rattle.im_codepred.specs.Tallies.{AreTallies, IsTallyFor, chosen_with}
 use Rattle.im_group.specs.declared.asked.Asked.{Asked}
 use Rattle.im_group.specs.Sums.{SumsOf, sums_of}
 use Rattle.im_group.specs.Tallies.{Tallied}
 use Rattle.im_unit.specs.Holding.{values_in}
+use Rattle.im_scan.specs.inner.Summed.{wants_ends}
 use Rattle.im_scan.specs.inner.ByCode.{AreAllTallies, ComeTo, group_for, groups_for}
 use Rattle.im_group.specs.MadeGroups.{with_sums}
 
@@ -18,7 +19,7 @@ use Rattle.im_group.specs.MadeGroups.{with_sums}
 
 all-push : (mask : List Bool) (keys : List Value) (held : List Row) (values : List Value) (asked : List Asked) (a : Asked)
     (all : List (List Tally)) (t : List Tally) → AreAllTallies mask keys held values asked all →
-    AreTallies mask keys (values_in a.column held) values t → AreAllTallies mask keys held values (asked ++ a ∷ []) (all ++ t ∷ [])
+    AreTallies (wants_ends a) mask keys (values_in a.column held) values t → AreAllTallies mask keys held values (asked ++ a ∷ []) (all ++ t ∷ [])
 all-push mask keys held values [] a [] t are here = (here, tt)
 all-push mask keys held values [] a (u ∷ all) t are here = absurd are
 all-push mask keys held values (b ∷ asked) a [] t are here = absurd are
@@ -27,7 +28,7 @@ all-push mask keys held values (b ∷ asked) a (u ∷ all) t are here = (are.0, 
 -- one column more
 pub all-more : (mask : List Bool) (keys : List Value) (held : List Row) (values : List Value) (asked : List Asked) (i : ℕ) (d : Asked)
     (all : List (List Tally)) (t : List Tally) → i < length asked → AreAllTallies mask keys held values (take i asked) all →
-    AreTallies mask keys (values_in (get_or asked i d).column held) values t →
+    AreTallies (wants_ends (get_or asked i d)) mask keys (values_in (get_or asked i d).column held) values t →
     AreAllTallies mask keys held values (take (i + 1) asked) (all ++ t ∷ [])
 all-more mask keys held values asked i d all t within are here =
     subst (λ (qs : List Asked). AreAllTallies mask keys held values qs (all ++ t ∷ [])) (sym (take_more asked i d within))
@@ -66,7 +67,7 @@ come-to mask keys held values (a ∷ asked) (t ∷ all) code are within =
 -- the tally of one column at a place
 pub come-at : (of : Asked → List Value) (place : ℕ) (asked : List Asked) (all : List (List Tally)) (i : ℕ) (a : Asked) (ds : List Tally) (d : Tally) →
     ComeTo of place asked all → i < length asked → i < length all →
-    IsTallyOf (of (get_or asked i a)) (slice_index_or (slice_index_or all i ds) place d)
+    IsTallyFor (wants_ends (get_or asked i a)) (of (get_or asked i a)) (slice_index_or (slice_index_or all i ds) place d)
 come-at of place [] all i a ds d come within inside = absurd (omega (arith, within))
 come-at of place (b ∷ asked) [] i a ds d come within inside = absurd (omega (arith, inside))
 come-at of place (b ∷ asked) (t ∷ all) zero a ds d come within inside = come.0 d

@@ -13,6 +13,7 @@ use Rattle.im_codepred.specs.Tallies.{AreCounts, AreTallies, beside, chosen, cho
 use Rattle.im_group.specs.declared.asked.Asked.{Asked}
 use Rattle.im_history.specs.Rows.{Row}
 use Rattle.im_unit.specs.Holding.{values_in}
+use Rattle.im_scan.specs.inner.Summed.{wants_ends}
 use Rattle.im_scan.specs.inner.ByCode.{AreAllTallies}
 use Rattle.im_scan.proofs.CodedLemmas.{count-cons}
 
@@ -46,9 +47,9 @@ counted value (true ∷ mask) (k ∷ keys) (x ∷ column) long none =
     by false some e = omega (arith, e)
 
 -- the values of the tallies are the counts
-pub counts-of-values : (mask : List Bool) (keys column values : List Value) (tallies : List Tally) → AreTallies mask keys column values tallies →
+pub counts-of-values : (ends : Bool) (mask : List Bool) (keys column values : List Value) (tallies : List Tally) → AreTallies ends mask keys column values tallies →
     length keys ≡ length column → count_by is_null column ≡ 0 → AreCounts (chosen mask keys) values (map (λ tally. tally.values) tallies)
-counts-of-values mask keys column values tallies are long none =
+counts-of-values ends mask keys column values tallies are long none =
     let d : Tally = record { values = 0; sum = pos 0; least = None; greatest = None } in
     record {
       size = length-map tallies (λ tally. tally.values) ∙ are.size;
@@ -60,7 +61,7 @@ counts-of-values mask keys column values tallies are long none =
 -- the tallies of the first asked column
 pub first-tallies : {X : Type 0} (f : X → List Tally) (mask : List Bool) (keys : List Value) (held : List Row) (values : List Value)
     (asked : List Asked) (all : List X) (a : Asked) (x : X) → AreAllTallies mask keys held values asked (map f all) → 0 < length asked →
-    0 < length all → AreTallies mask keys (values_in (get_or asked 0 a).column held) values (f (get_or all 0 x))
+    0 < length all → AreTallies (wants_ends (get_or asked 0 a)) mask keys (values_in (get_or asked 0 a).column held) values (f (get_or all 0 x))
 first-tallies f mask keys held values [] all a x are some many = absurd (omega (arith, some))
 first-tallies f mask keys held values (b ∷ asked) [] a x are some many = absurd (omega (arith, many))
 first-tallies f mask keys held values (b ∷ asked) (t ∷ all) a x are some many = are.0

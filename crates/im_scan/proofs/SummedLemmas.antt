@@ -4,7 +4,7 @@ use Rattle.std.specs.List.{fold}
 use Rattle.std.specs.Option.{option_copied, unwrap_or}
 use Rattle.std.specs.Int.RustNames.{unsigned_abs}
 use Rattle.std.proofs.lemmas.Int.{ints}
-use Rattle.std.specs.Prelude.{cond}
+use Rattle.std.specs.Prelude.{cond, ◌||◌}
 use Rattle.std.proofs.lemmas.List.{length-map}
 use Rattle.std.proofs.lemmas.List.FromFn.{length-map-range_with_len}
 use Rattle.std.proofs.lemmas.List.Sums.{sum_by-cons}
@@ -22,7 +22,7 @@ use Rattle.im_group.specs.Sums as sums
 use Rattle.im_group.specs.Tallies.{Tallied, asked_in, tallied, wanted}
 use Rattle.im_unit.specs.Holding.{columns_of, count_present, present_rows, values_in}
 use Rattle.im_unit.proofs.ForCallers.{count-present}
-use Rattle.im_scan.specs.inner.Summed.{TakesTogether}
+use Rattle.im_scan.specs.inner.Summed.{TakesTogether, wants_ends}
 
 -- the values in two that are there are one
 pub some-inj : {A : Type 0} {a b : A} → ◌≡◌ {A = Option A} (Some a) (Some b) → a ≡ b
@@ -49,13 +49,27 @@ some-end (Text t) = refl
 some-end Null = refl
 
 -- an end is there, or NULL
-end-is : (asked : Bool) (end : Option Value) (v : Value) → end ≡ code.some_of v →
+end-is : (asked : Bool) (end : Option Value) (v : Value) → (asked ≡ true → end ≡ code.some_of v) →
     (if asked then unwrap_or end Null else Null) ≡ (if asked then v else Null)
-end-is true end v is = ap (λ (o : Option Value). unwrap_or o Null) is ∙ some-end v
+end-is true end v is = ap (λ (o : Option Value). unwrap_or o Null) (is refl) ∙ some-end v
 end-is false end v is = refl
 
+either : (a b : Bool) → b ≡ true → (a || b) ≡ true
+either true b is = refl
+either false b is = is
+
+-- what values come to has what is asked of them
+pub tally-for : (ends : Bool) (vs : List Value) (tally : Tally) → code.IsTallyOf vs tally → code.IsTallyFor ends vs tally
+tally-for ends vs tally is = record {
+  values = is.values;
+  sum = is.sum;
+  least = λ wanted. is.least;
+  greatest = λ wanted. is.greatest;
+  within = is.within;
+}
+
 -- what values come to, with the ends that are asked for, is their summary
-summary-is : (asked : Asked) (vs : List Value) (tally : Tally) (end_low end_high : Value) (found : sums.SumsOf) → code.IsTallyOf vs tally →
+summary-is : (asked : Asked) (vs : List Value) (tally : Tally) (end_low end_high : Value) (found : sums.SumsOf) → code.IsTallyFor (wants_ends asked) vs tally →
     end_low ≡ (if asked.least then code.least vs else Null) → end_high ≡ (if asked.greatest then code.greatest vs else Null) →
     found ≡ record { values = tally.values; total = tally.sum; least = end_low; greatest = end_high } → found ≡ sums.sums_of asked vs
 summary-is asked vs tally end_low end_high found is low high made =
@@ -67,13 +81,13 @@ summary-is asked vs tally end_low end_high found is low high made =
     ∙ ap (λ v. let s : sums.SumsOf = record { values = length (sums.present vs); total = sums.total vs; least = if asked.least then sums.least vs else Null; greatest = v } in s) high)))
 
 -- the same where the total was written and read back, and each end copied
-pub summary-as : (asked : Asked) (vs : List Value) (tally : Tally) (same : ℤ) (end_low end_high : Value) (found : sums.SumsOf) → code.IsTallyOf vs tally →
+pub summary-as : (asked : Asked) (vs : List Value) (tally : Tally) (same : ℤ) (end_low end_high : Value) (found : sums.SumsOf) → code.IsTallyFor (wants_ends asked) vs tally →
     same ≡ tally.sum → end_low ≡ (if asked.least then unwrap_or (option_copied tally.least) Null else Null) →
     end_high ≡ (if asked.greatest then unwrap_or (option_copied tally.greatest) Null else Null) →
     found ≡ record { values = tally.values; total = same; least = end_low; greatest = end_high } → found ≡ sums.sums_of asked vs
 summary-as asked vs tally same end_low end_high found is sum low high made =
-    summary-is asked vs tally end_low end_high found is (low ∙ end-is asked.least (option_copied tally.least) (code.least vs) is.least)
-    (high ∙ end-is asked.greatest (option_copied tally.greatest) (code.greatest vs) is.greatest)
+    summary-is asked vs tally end_low end_high found is (low ∙ end-is asked.least (option_copied tally.least) (code.least vs) (λ wanted. is.least (rw wanted refl)))
+    (high ∙ end-is asked.greatest (option_copied tally.greatest) (code.greatest vs) (λ wanted. is.greatest (either asked.least asked.greatest wanted)))
     (made ∙ ap (λ n. let s : sums.SumsOf = record { values = tally.values; total = n; least = end_low; greatest = end_high } in s) sum)
 
 -- ---- the chosen values

@@ -6,14 +6,15 @@ ghost use Rattle.im_values.specs.Sizes.{dictionary};
 ghost use Rattle.im_values.specs.declared.value.Value.{Value};
 ghost use Rattle.im_values.specs.declared.value.Value.TheVariants.{Null};
 ghost use Rattle.im_codes.specs.Dictionary.{coded};
-ghost use Rattle.im_codepred.specs.Tallies.{AreCounts, AreTallies, IsTallyOf, chosen};
+ghost use Rattle.im_codepred.specs.Tallies.{AreCounts, AreTallies, IsTallyFor, chosen};
 ghost use Rattle.im_group.specs.MadeGroups.{groups_in, group_of};
 ghost use Rattle.im_group.specs.Sums as sums;
 ghost use Rattle.im_unit.specs.Holding.{count_present, present_rows, values_in};
 ghost use Rattle.im_scan.specs.inner.ByCode.{AreAllTallies, AreByCode, ComeTo, IsGroupedBy, group_for, groups_for};
 ghost use Rattle.im_scan.specs.inner.Left.{IsPartOfChosen};
+ghost use Rattle.im_scan.specs.inner.Summed.{wants_ends};
 
-use crate::summed::sums_by;
+use crate::summed::{sums_by, wants_ends};
 use im_codepred::{Tally, counts_by_code, tallies_by_code};
 use im_codes::Dict;
 use im_column::{Column, Form};
@@ -47,11 +48,11 @@ fn key_column(bound: &Bound) -> Option<u32>
     }
 }
 
-/// What the chosen values of one column of a unit come to for each code of the keys. None where the unit has no such column, or the
-/// keys have no codes.
+/// What the chosen values of one column of a unit come to for each code of the keys, of what a query asks of it. None where the unit
+/// has no such column, or the keys have no codes.
 fn column_tallies<'a>(
     alloc: Global,
-    column: u32,
+    asked: Asked,
     keys: &Column,
     unit: &'a ColumnUnit,
     spots: &Mask,
@@ -59,12 +60,12 @@ fn column_tallies<'a>(
     requires keys { length keys.now ≡ length spots.now }
     requires spots { length spots.now ≡ count_present unit.now.rows }
     ensures { IfOk result (λ found. ForSome found (λ tallies.
-        AreTallies spots.now keys.now (values_in column (present_rows unit.now.rows)) (coded (dictionary keys.now)) tallies.items)) }
+        AreTallies (wants_ends asked) spots.now keys.now (values_in asked.column (present_rows unit.now.rows)) (coded (dictionary keys.now)) tallies.items)) }
 {
-    if column as usize >= unit.columns().len() {
+    if asked.column as usize >= unit.columns().len() {
         return Ok(None);
     }
-    tallies_by_code(alloc, keys, unit.column(column), spots)
+    tallies_by_code(alloc, wants_ends(asked), keys, unit.column(asked.column), spots)
 }
 
 /// The same of all columns of which a query asks one.
@@ -82,7 +83,7 @@ fn all_tallies<'a>(
 {
     let mut all = Vec::with_capacity(alloc, asked.len())?;
     for one in asked {
-        match column_tallies(alloc, one.column, keys, unit, spots)? {
+        match column_tallies(alloc, *one, keys, unit, spots)? {
             Some(tallies) => all.push(tallies)?,
             None => return Ok(None),
         }
@@ -99,7 +100,7 @@ fn sum_at(
 ) -> Result<Option<Sums>, NoMemory>
     requires { place < length tallies.now }
     ensures { IfOk result (λ found. ForSome found (λ found. (vs : List Value) →
-        ((d : _) → IsTallyOf vs (slice_index_or tallies.now place d)) → found ≡ sums.sums_of asked vs)) }
+        ((d : _) → IsTallyFor (wants_ends asked) vs (slice_index_or tallies.now place d)) → found ≡ sums.sums_of asked vs)) }
 {
     sums_by(alloc, asked, tallies[place])
 }

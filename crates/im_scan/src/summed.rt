@@ -3,14 +3,14 @@ ghost use Rattle.std.specs.Bool.{OnTrue};
 ghost use Rattle.std.specs.Option.{ForSome, option_copied, unwrap_or};
 ghost use Rattle.im_values.specs.declared.value.Value.{Value};
 ghost use Rattle.im_values.specs.declared.value.Value.TheVariants.{Null};
-ghost use Rattle.im_codepred.specs.Tallies.{IsTallyOf, chosen};
+ghost use Rattle.im_codepred.specs.Tallies.{IsTallyFor, chosen};
 ghost use Rattle.im_group.specs.MadeGroups.{kept_values, with_sums};
 ghost use Rattle.im_group.specs.Partials as group;
 ghost use Rattle.im_group.specs.Sums as sums;
 ghost use Rattle.im_group.specs.Tallies.{asked_in, tallied, wanted};
 ghost use Rattle.im_unit.specs.Holding.{count_present, present_rows, values_in};
 ghost use Rattle.im_scan.specs.inner.Left.{IsPartOfChosen};
-ghost use Rattle.im_scan.specs.inner.Summed.{TakesTogether};
+ghost use Rattle.im_scan.specs.inner.Summed.{TakesTogether, wants_ends};
 
 use im_codepred::{Tally, tally_of};
 use im_group::{Asked, Asking, Group, Partial, Sums};
@@ -40,6 +40,13 @@ fn end_of(alloc: Global, asked: bool, end: Option<&Value>) -> Result<Value, NoMe
     }
 }
 
+/// Whether a query asks for the least or the greatest value of a column.
+pub fn wants_ends(asked: Asked) -> bool
+    ensures { result ≡ wants_ends asked }
+{
+    asked.least || asked.greatest
+}
+
 /// The sum that values come to.
 fn sum_in(tally: &Tally<'_>) -> i128
     ensures { result ≡ tally.now.sum }
@@ -49,7 +56,7 @@ fn sum_in(tally: &Tally<'_>) -> i128
 
 /// The summary of values by what they come to. None where they cannot come to this.
 pub fn sums_by(alloc: Global, asked: Asked, tally: Tally<'_>) -> Result<Option<Sums>, NoMemory>
-    ensures { IfOk result (λ found. ForSome found (λ found. (vs : List Value) → IsTallyOf vs tally.entry → found ≡ sums.sums_of asked vs)) }
+    ensures { IfOk result (λ found. ForSome found (λ found. (vs : List Value) → IsTallyFor (wants_ends asked) vs tally.entry → found ≡ sums.sums_of asked vs)) }
 {
     let sum = sum_in(&tally);
     if !is_within(tally.values, sum) {

@@ -5,12 +5,13 @@ use Rattle.im_values.specs.declared.value.Value.{Value}
 use Rattle.im_syntax.specs.declared.bound.Bound.{Bound}
 use Rattle.im_history.specs.Rows.{Row}
 use Rattle.im_codepred.specs.declared.tally.Tally.{Tally}
-use Rattle.im_codepred.specs.Tallies.{AreTallies, IsTallyOf, chosen, chosen_with, count_of}
+use Rattle.im_codepred.specs.Tallies.{AreTallies, IsTallyFor, chosen, chosen_with, count_of}
 use Rattle.im_group.specs.declared.asked.Asked.{Asked}
 use Rattle.im_group.specs.Sums.{sums_of}
 use Rattle.im_group.specs.Tallies.{Tallied}
 use Rattle.im_unit.specs.Holding.{values_in}
 use Rattle.im_group.specs.MadeGroups.{with_sums}
+use Rattle.im_scan.specs.inner.Summed.{wants_ends}
 
 -- a query is grouped by one column
 pub record IsGroupedBy (column : ℕ) (bound : Bound) : Type 0 where
@@ -23,14 +24,14 @@ AreAllTallies mask keys held values [] [] = Unit {0}
 AreAllTallies mask keys held values [] (tallies ∷ all) = ⊥
 AreAllTallies mask keys held values (a ∷ asked) [] = ⊥
 AreAllTallies mask keys held values (a ∷ asked) (tallies ∷ all) =
-    AreTallies mask keys (values_in a.column held) values tallies × AreAllTallies mask keys held values asked all
+    AreTallies (wants_ends a) mask keys (values_in a.column held) values tallies × AreAllTallies mask keys held values asked all
 
 -- of each asked column, these values come to the tally at a place
 abbrev pub ComeTo : (Asked → List Value) → ℕ → List Asked → List (List Tally) → Type 0
 ComeTo of place [] all = Unit {0}
 ComeTo of place (a ∷ asked) [] = Unit {0}
 ComeTo of place (a ∷ asked) (tallies ∷ all) =
-    ((d : Tally) → IsTallyOf (of a) (slice_index_or tallies place d)) × ComeTo of place asked all
+    ((d : Tally) → IsTallyFor (wants_ends a) (of a) (slice_index_or tallies place d)) × ComeTo of place asked all
 
 -- a group of one value, of so many rows and with a summary of these values of each asked column
 abbrev pub group_for : (Asked → List Value) → List Asked → Value → ℕ → List Value × Tallied

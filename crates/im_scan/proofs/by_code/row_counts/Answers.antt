@@ -5,6 +5,7 @@ use Rattle.im_codes.specs.Dictionary.{coded}
 use Rattle.im_codepred.specs.Tallies.{AreCounts, chosen}
 use Rattle.im_group.specs.declared.asked.Asked.{Asked}
 use Rattle.im_unit.specs.Holding.{present_rows, values_in}
+use Rattle.im_scan.specs.inner.Summed.{wants_ends}
 use Rattle.im_scan.proofs.CountedLemmas.{counts-of-values, first-tallies}
 use Rattle.im_scan.proofs.SummedLemmas.{column-long, some-inj}
 use Rattle.im_scan.proofs.by_code.row_counts.Goals as goal
@@ -28,4 +29,4 @@ returns c found is =
     ap (λ v. v.items) (sym (some-inj is))
     ∙ (c.in_ok-counts.ensures ∙ ap (map (λ tally. tally.values)) (c.as_slice.ensures.value ∙ ap (λ v. v.items) c.index-all-0.is)) in
     subst (λ (counts : List ℕ). AreCounts (chosen spots keys) values counts) (sym counted)
-    (counts-of-values spots keys column values tallies are long (c.has_null.ensures c.if-has_null.false))
+    (counts-of-values (wants_ends (get_or asked 0 first)) spots keys column values tallies are long (c.has_null.ensures c.if-has_null.false))

@@ -1,9 +1,10 @@
 use Rattle.std.proofs.Common.{◌∙◌, ◌<◌, List, false, get_or, slice_index_or, map, ap, sym, length, subst, arith}
 use Rattle.std.proofs.lemmas.List.{get_or-map, length-map, take_all}
 use Rattle.im_codepred.specs.declared.tally.Tally.{Tally}
-use Rattle.im_codepred.specs.Tallies.{IsTallyOf}
+use Rattle.im_codepred.specs.Tallies.{IsTallyFor}
 use Rattle.im_group.specs.declared.asked.Asked.{Asked}
 use Rattle.im_group.specs.Sums.{sums_of}
+use Rattle.im_scan.specs.inner.Summed.{wants_ends}
 use Rattle.im_scan.proofs.ByCodeLemmas.{come-at, sums-more}
 use Rattle.im_scan.proofs.SummedLemmas.{some-inj}
 use Rattle.im_scan.proofs.by_code.sums_at.Goals as goal
@@ -18,7 +19,7 @@ loop-i-preserved c of come =
     ∙ (ap (λ v. v.items) (sym c.index-all-i.is) ∙ sym c.as_slice.ensures.value) in
     sums-more of c.args.asked.now c.loop-i.i none c.loop-i.sums.items c.push.new.self.items c.in-Some.found c.loop-i-test.true (c.loop-i.invariant of come)
     (c.in_ok-found.ensures c.in-Some.found c.in-Some.is (of (get_or c.args.asked.now c.loop-i.i none)) (λ d.
-    subst (λ (ts : List Tally). IsTallyOf (of (get_or c.args.asked.now c.loop-i.i none)) (slice_index_or ts c.args.place d)) here
+    subst (λ (ts : List Tally). IsTallyFor (wants_ends (get_or c.args.asked.now c.loop-i.i none)) (of (get_or c.args.asked.now c.loop-i.i none)) (slice_index_or ts c.args.place d)) here
     (come-at of c.args.place c.args.asked.now items c.loop-i.i none c.as_slice.result.now d come c.loop-i-test.true (omega (arith, inside, long))))) c.in_ok-push-in-Some.ensures.items
 
 pub returns : goal.returns

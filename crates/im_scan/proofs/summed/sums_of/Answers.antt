@@ -2,7 +2,8 @@ use Rattle.std.proofs.Common.{subst, arith}
 use Rattle.std.specs.Arc.{arc_value}
 use Rattle.std.proofs.lemmas.Result.{IfOk-weaker}
 use Rattle.im_codepred.specs.Tallies.{IsTallyOf, chosen}
-use Rattle.im_scan.proofs.SummedLemmas.{column-long, columns-many}
+use Rattle.im_scan.specs.inner.Summed.{wants_ends}
+use Rattle.im_scan.proofs.SummedLemmas.{column-long, columns-many, tally-for}
 use Rattle.im_scan.proofs.summed.sums_of.Goals as goal
 
 pub column-requires : goal.column-requires
@@ -17,5 +18,5 @@ tally_of-requires c =
 pub returns : goal.returns
 returns c =
     IfOk-weaker c.sums_by.result _ _
-    (λ found some sums is. some sums is _ (subst (λ vs. IsTallyOf (chosen c.args.spots.now vs) c.tally_of.result) c.column.ensures c.tally_of.ensures))
+    (λ found some sums is. some sums is _ (tally-for (wants_ends c.args.asked) _ _ (subst (λ vs. IsTallyOf (chosen c.args.spots.now vs) c.tally_of.result) c.column.ensures c.tally_of.ensures)))
     c.sums_by.ensures
