@@ -281,9 +281,9 @@ founds-told false dict values mask keys codes founds tallies most same is low co
           let whole = totals-at values all i in
           record {
             values = here.values ∙ (ap (λ t. t.values) mine
-            ∙ ((alike.each i).values ∙ (sym (ap (λ t. t.values) whole) ∙ ap (λ (g : List TotalsOf). (get_or g i no_totals).values) shown.same)));
+                ∙ ((alike.each i).values ∙ (sym (ap (λ t. t.values) whole) ∙ ap (λ (g : List TotalsOf). (get_or g i no_totals).values) shown.same)));
             sum = here.sum ∙ (ap (λ t. t.sum) mine
-            ∙ ((alike.each i).sum ∙ (sym (ap (λ t. t.sum) whole) ∙ ap (λ (g : List TotalsOf). (get_or g i no_totals).sum) shown.same)));
+                ∙ ((alike.each i).sum ∙ (sym (ap (λ t. t.sum) whole) ∙ ap (λ (g : List TotalsOf). (get_or g i no_totals).sum) shown.same)));
             least = λ wanted. absurd (true≢false (sym wanted));
             greatest = λ wanted. absurd (true≢false (sym wanted));
             within = here.within;

@@ -34,14 +34,7 @@ pub fn tallies_by_code<'a>(
 {
     match keys.form() {
         Form::Coded(dict, bits) => {
-            Ok(Some(keyed_tallies(
-                alloc,
-                ends,
-                dict.len() + 1,
-                bits,
-                column,
-                mask,
-            )?))
+            Ok(Some(keyed_tallies(alloc, ends, dict.len() + 1, bits, column, mask)?))
         }
         Form::Plain(_) | Form::Runs(_, _) => Ok(None),
     }
@@ -62,15 +55,7 @@ fn keyed_tallies<'a>(
     ensures { IfOk result (λ tallies. ShowEachFor ends (fold with_pair (replicate most no_totals) (chosen mask.now (zip keys.now.codes column.now))) tallies.items) }
 {
     match column.form() {
-        Form::Coded(dict, codes) => Ok(coded_tallies(
-            alloc,
-            ends,
-            most,
-            keys,
-            dict,
-            codes,
-            mask,
-        )?),
+        Form::Coded(dict, codes) => Ok(coded_tallies(alloc, ends, most, keys, dict, codes, mask)?),
         Form::Plain(_) | Form::Runs(_, _) => {
             let groups = grouped_in(alloc, most, keys, column, mask)?;
             Ok(tallies_of(alloc, &groups)?)

@@ -65,7 +65,13 @@ fn column_tallies<'a>(
     if asked.column as usize >= unit.columns().len() {
         return Ok(None);
     }
-    tallies_by_code(alloc, wants_ends(asked), keys, unit.column(asked.column), spots)
+    tallies_by_code(
+        alloc,
+        wants_ends(asked),
+        keys,
+        unit.column(asked.column),
+        spots,
+    )
 }
 
 /// The same of all columns of which a query asks one.
