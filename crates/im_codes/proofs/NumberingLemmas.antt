@@ -127,6 +127,13 @@ stand-more values list places i p value inside is stand here same = record {
   inside = All-push (λ p. p < length list) places p stand.inside here;
 }
 
+-- the same of a lent value
+pub stand-next : (values : List (Bor Value)) (list : List Value) (places : List ℕ) (i p : ℕ) (value : Bor Value) → i < length values →
+    value ≡ get_or values i value → StandAt (take i (lent values)) list places → p < length list → get_or list p Null ≡ value.now →
+    StandAt (take (i + 1) (lent values)) list (places ++ p ∷ [])
+stand-next values list places i p value inside is stand here same =
+    stand-more (lent values) list places i p value.now (omega (arith, length-lent values, inside)) (sym (lent-at values i value inside is value.now)) stand here same
+
 pub stand-none : (values list : List Value) → StandAt (take 0 values) list []
 stand-none values list = record { same = refl; inside = All-nil (λ p. p < length list) }
 
@@ -151,6 +158,13 @@ numbered-more values old new numbers i n value inside is before adds =
       short = ⊎_elim (λ (e : new ≡ old). omega (arith, ap length e, before.short))
           (λ (e : new ≡ old ++ value ∷ []). omega (arith, ap length e, length_push old value, before.short)) adds.grows;
     }
+
+-- one lent value more is numbered
+pub numbered-next : (values : List (Bor Value)) (old new : List Value) (numbers : List ℕ) (i n : ℕ) (value : Bor Value) → i < length values →
+    value ≡ get_or values i value → IsNumberedTo (lent values) old numbers i → Adds old new value.now n → IsNumberedTo (lent values) new (numbers ++ n ∷ []) (i + 1)
+numbered-next values old new numbers i n value inside is before adds =
+    numbered-more (lent values) old new numbers i n value.now (omega (arith, length-lent values, inside)) (sym (lent-at values i value inside is value.now)) before
+    adds
 
 pub numbered-none : (values : List Value) → IsNumberedTo values [] [] 0
 numbered-none values = record { stand = stand-none values []; among = All-nil (Contains values); short = omega arith }

@@ -20,12 +20,27 @@ pub struct Numbering<'a> {
 /// The most distinct values that are looked for one after another.
 const FEW: usize = 16;
 
+/// Whether two values are of one kind, and texts of one length that begin alike. It tells most different values apart at one look.
+fn look_alike(a: &Value, b: &Value) -> bool {
+    match (a, b) {
+        (Value::Text(a), Value::Text(b)) => begin_alike(a.bytes(), b.bytes()),
+        (Value::Int(a), Value::Int(b)) => a == b,
+        (Value::Null, Value::Null) => true,
+        _ => false,
+    }
+}
+
+/// Whether two texts are of one length, and begin with the same byte.
+fn begin_alike(a: &[u8], b: &[u8]) -> bool {
+    a.len() == b.len() && (a.is_empty() || a[0] == b[0])
+}
+
 /// Where a value stands among those seen, if it does.
 fn place_among(seen: &[&Value], value: &Value) -> Option<usize>
     ensures { IfSome result (λ place. slice_get (lent seen.now) place ≡ Some value.now) }
 {
     for (place, other) in seen.iter().enumerate() {
-        if **other == *value {
+        if look_alike(*other, value) && **other == *value {
             return Some(place);
         }
     }
@@ -55,14 +70,14 @@ fn number_by_hash<'a>(seen: &mut IndexSet<&'a Value>, value: &'a Value) -> Resul
 }
 
 /// The values in the order in which they first stand, or none where there are too many to look through.
-fn number_few<'a>(alloc: Global, values: &'a [Value]) -> Result<Option<Numbering<'a>>, NoMemory>
+fn number_few<'a>(alloc: Global, values: &[&'a Value]) -> Result<Option<Numbering<'a>>, NoMemory>
     requires { length values.now < 2 ^ 31 }
-    ensures { IfOk result (λ few. IfSome few (λ n. IsNumbering values.now (lent n.seen.items) n.numbers.items)) }
+    ensures { IfOk result (λ few. IfSome few (λ n. IsNumbering (lent values.now) (lent n.seen.items) n.numbers.items)) }
 {
     let mut seen = Vec::with_capacity(alloc, FEW + 1)?;
     let mut numbers = Vec::with_capacity(alloc, values.len())?;
     for value in values {
-        numbers.push(number_by_list(&mut seen, value)?)?;
+        numbers.push_reserved(number_by_list(&mut seen, *value)?);
         if seen.len() > FEW {
             return Ok(None);
         }
@@ -71,14 +86,14 @@ fn number_few<'a>(alloc: Global, values: &'a [Value]) -> Result<Option<Numbering
 }
 
 /// The values in the order in which they first stand.
-fn number_many<'a>(alloc: Global, values: &'a [Value]) -> Result<Numbering<'a>, NoMemory>
+fn number_many<'a>(alloc: Global, values: &[&'a Value]) -> Result<Numbering<'a>, NoMemory>
     requires { length values.now < 2 ^ 31 }
-    ensures { IfOk result (λ n. IsNumbering values.now (lent n.seen.items) n.numbers.items) }
+    ensures { IfOk result (λ n. IsNumbering (lent values.now) (lent n.seen.items) n.numbers.items) }
 {
     let mut seen = IndexSet::new(alloc);
     let mut numbers = Vec::with_capacity(alloc, values.len())?;
     for value in values {
-        numbers.push(number_by_hash(&mut seen, value)?)?;
+        numbers.push_reserved(number_by_hash(&mut seen, *value)?);
     }
     Ok(Numbering {
         seen: Vec::from_slice(alloc, seen.as_slice())?,
@@ -87,9 +102,9 @@ fn number_many<'a>(alloc: Global, values: &'a [Value]) -> Result<Numbering<'a>, 
 }
 
 /// Numbers the values of a list.
-pub fn number_values<'a>(alloc: Global, values: &'a [Value]) -> Result<Numbering<'a>, NoMemory>
+pub fn number_values<'a>(alloc: Global, values: &[&'a Value]) -> Result<Numbering<'a>, NoMemory>
     requires { length values.now < 2 ^ 31 }
-    ensures { IfOk result (λ n. IsNumbering values.now (lent n.seen.items) n.numbers.items) }
+    ensures { IfOk result (λ n. IsNumbering (lent values.now) (lent n.seen.items) n.numbers.items) }
 {
     if let Some(in_range) = number_in_range(alloc, values)? {
         return Ok(in_range);
