@@ -1,9 +1,10 @@
 ghost use Rattle.std.specs.Prelude.{◌≡◌, ◌^◌, ◌<◌, ◌≤◌, ◌+◌, Some, IfSome, IfOk, IsTrue, length, slice_get};
+ghost use Rattle.std.specs.Bool.{OnTrue};
 ghost use Rattle.im_codes.specs.Dictionary.{lent};
 ghost use Rattle.im_codes.specs.inner.Numbering.{IsNumbering, Adds};
 
 use crate::range::number_in_range;
-use im_values::{NoMemory, Value};
+use im_values::{Name, NoMemory, Value};
 use indexmap::IndexSet;
 use std::alloc::Global;
 
@@ -20,14 +21,14 @@ pub struct Numbering<'a> {
 /// The most distinct values that are looked for one after another.
 const FEW: usize = 16;
 
-/// Whether two values are of one kind, and texts of one length that begin alike. It tells most different values apart at one look.
-fn look_alike(a: &Value, b: &Value) -> bool {
-    match (a, b) {
-        (Value::Text(a), Value::Text(b)) => begin_alike(a.bytes(), b.bytes()),
-        (Value::Int(a), Value::Int(b)) => a == b,
-        (Value::Null, Value::Null) => true,
-        _ => false,
+/// Whether two texts are the same. Most that differ do so in their lengths or in their first bytes.
+fn same_text(a: &Name, b: &Name) -> bool
+    ensures { OnTrue result (a.now ≡ b.now) }
+{
+    if !begin_alike(a.bytes(), b.bytes()) {
+        return false;
     }
+    a == b
 }
 
 /// Whether two texts are of one length, and begin with the same byte.
@@ -35,12 +36,24 @@ fn begin_alike(a: &[u8], b: &[u8]) -> bool {
     a.len() == b.len() && (a.is_empty() || a[0] == b[0])
 }
 
+/// Whether two values are the same.
+fn is_same(a: &Value, b: &Value) -> bool
+    ensures { OnTrue result (a.now ≡ b.now) }
+{
+    match (a, b) {
+        (Value::Text(a), Value::Text(b)) => same_text(a, b),
+        (Value::Int(a), Value::Int(b)) => a == b,
+        (Value::Null, Value::Null) => true,
+        _ => false,
+    }
+}
+
 /// Where a value stands among those seen, if it does.
 fn place_among(seen: &[&Value], value: &Value) -> Option<usize>
     ensures { IfSome result (λ place. slice_get (lent seen.now) place ≡ Some value.now) }
 {
     for (place, other) in seen.iter().enumerate() {
-        if look_alike(*other, value) && **other == *value {
+        if is_same(*other, value) {
             return Some(place);
         }
     }

@@ -1,4 +1,4 @@
-use Rattle.std.proofs.Common.{sym, ap, length, arith}
+use Rattle.std.proofs.Common.{sym, arith}
 use Rattle.im_codes.specs.Dictionary.{lent}
 use Rattle.im_codes.proofs.ForCallers.{dictionary-rising}
 use Rattle.im_column.proofs.LendLemmas.{length-lent}

@@ -1,4 +1,4 @@
-use Rattle.std.proofs.Common.{get_or, sym, ap, arith, ◌∙◌}
+use Rattle.std.proofs.Common.{sym, ap, arith, ◌∙◌}
 use Rattle.std.specs.Option.{option_copied}
 use Rattle.std.proofs.lemmas.List.{get_or-map, length-map}
 use Rattle.im_unit.specs.Holding.{lent_slots}
