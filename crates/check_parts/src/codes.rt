@@ -3,7 +3,7 @@ ghost use Rattle.std.specs.Bool.{OnTrue};
 
 use crate::values::Cell::{Int, Null, Text};
 use crate::values::{Cell, values_of};
-use im_codes::{Coding, Dict, Runs};
+use im_codes::{Coding, Dict, Runs, lend_values};
 use im_values::{NoMemory, Value};
 use std::alloc::Global;
 use std::test::Fail;
@@ -134,7 +134,7 @@ fn are_before(places: &[u32], end: usize) -> bool
 /// The codes at places of the codes of values, with those of fresh values behind them: none for a place that is not there.
 fn picked(
     alloc: Global,
-    values: &[Value],
+    values: &[&Value],
     fresh: &[&Value],
     places: &[u32],
 ) -> Result<Option<Vec<u32>>, NoMemory>
@@ -162,7 +162,8 @@ fn a_dictionary_picks_codes_while_it_is_that_of_the_values(rt: HostRuntime) -> R
         rt.alloc(),
         &[(Int(20), 1), (Null, 1), (Int(10), 1), (Int(20), 1)],
     )?;
-    assert!(rt; values.len() < 8);
+    let lent = lend_values(rt.alloc(), values.as_slice())?;
+    assert!(rt; lent.len() < 8);
     let known = [&Value::Int(10), &Value::Null];
     let cases: [(&[u32], Option<&[u32]>); 5] = [
         (&[0, 1, 2, 3], Some(&[2, 0, 1, 2])),
@@ -172,10 +173,10 @@ fn a_dictionary_picks_codes_while_it_is_that_of_the_values(rt: HostRuntime) -> R
         (&[], None),
     ];
     for (places, wanted) in cases {
-        let codes = picked(rt.alloc(), values.as_slice(), &known, places)?;
+        let codes = picked(rt.alloc(), lent.as_slice(), &known, places)?;
         assert!(rt; is_picked_as(&codes, wanted));
     }
-    let codes = picked(rt.alloc(), values.as_slice(), &[&Value::Int(30)], &[0, 2])?;
+    let codes = picked(rt.alloc(), lent.as_slice(), &[&Value::Int(30)], &[0, 2])?;
     assert!(rt; codes.is_none());
     Ok(())
 }

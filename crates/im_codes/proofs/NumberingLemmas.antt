@@ -1,13 +1,13 @@
 -- Values under numbers.
-use Rattle.std.proofs.Common.{◌≡◌, ◌≢◌, ℕ, zero, suc, ◌+◌, ◌-◌, ◌<◌, ◌≤◌, Bool, true, false, cond, not, List, [], ◌∷◌, ◌++◌, ◌⊎◌, inl, inr, length, map, filter, take, get_or, slice_get, Some, None, Option, All, Contains, ⊎_elim, sym, refl, ap, subst, ◌∙◌, arith}
+use Rattle.std.proofs.Common.{◌≡◌, ◌≢◌, ℕ, zero, suc, ◌+◌, ◌-◌, ◌<◌, ◌≤◌, Bool, true, false, cond, List, [], ◌∷◌, ◌++◌, ◌⊎◌, inl, inr, length, map, take, get_or, slice_get, Some, None, Option, All, Contains, ⊎_elim, sym, refl, ap, ◌∙◌, arith}
 use Rattle.std.specs.Bool.{OnTrue}
 use Rattle.std.specs.Option.{IfNone, IsSome}
 use Rattle.std.specs.Ordering.{is_eq, is_lt}
 use Rattle.std.specs.List.{list_any}
 use Rattle.std.specs.List.Sorted.{IsStrictlySortedBy}
 use Rattle.std.specs.declared.cmp.Ordering.TheVariants.{Less}
-use Rattle.std.proofs.lemmas.List.{length-map, get_or-map, get_or_default, get_or_append_left, get_or_at, length_push, map_push, take_more, take_all, same_lists}
-use Rattle.std.proofs.lemmas.List.Elements.{All-head, All-tail, All-push, All-cons, All-nil, All-contains, Contains-get_or}
+use Rattle.std.proofs.lemmas.List.{length-map, get_or-map, get_or_default, get_or_append_left, get_or_at, length_push, map_push, take_more, take_all}
+use Rattle.std.proofs.lemmas.List.Elements.{All-head, All-tail, All-push, All-cons, All-nil, All-contains}
 use Rattle.std.proofs.lemmas.Option.{slice_get-get_or}
 use Rattle.std.proofs.lemmas.Map.Keys.{sorted_from_all_adjacent}
 use Rattle.indexmap.specs.IndexSet.{insert_key}
@@ -18,7 +18,7 @@ use Rattle.im_values.specs.declared.value.Value.{Value}
 use Rattle.im_values.specs.declared.value.Value.TheVariants.{Int, Text, Null}
 use Rattle.im_values.specs.Order.{order}
 use Rattle.im_values.proofs.ForCallers.{order_total, value_ties}
-use Rattle.im_codes.specs.Dictionary.{coded, lent, present, values_at, StandAt, IsSortedSetOf, IsDictionaryOf, AreCodesOf}
+use Rattle.im_codes.specs.Dictionary.{coded, lent, present, values_at, StandAt, IsSortedSetOf, IsDictionaryOf}
 use Rattle.im_codes.specs.inner.Numbering.{AreAmong, IsNumbering, IsNumberedTo, Adds}
 use Rattle.im_codes.proofs.DictLemmas.{same_is, Less-from_is_lt}
 
@@ -53,12 +53,11 @@ found-at seen k r value inside is ties =
 pub same_equal : (a b : Value) → (value_eq.ghosts).eq a b ≡ true → a ≡ b
 same_equal a b e = same_is a b (sym (value_ties a b) ∙ e)
 
--- where a lent value is equal to one, that one stands there
-pub found-equal : (seen : List (Bor Value)) (k : ℕ) (r : Bor Value) (value : Value) →
-    k < length seen → r ≡ get_or seen k r → (value_eq.ghosts).eq r.now value ≡ true →
+-- where a lent value is the same as one, that one stands there
+pub found-same : (seen : List (Bor Value)) (k : ℕ) (r : Bor Value) (value : Value) → k < length seen → r ≡ get_or seen k r → r.now ≡ value →
     slice_get (lent seen) k ≡ Some value
-found-equal seen k r value inside is e =
-    slice_get-get_or (lent seen) k value (omega (arith, length-lent seen)) ∙ ap Some (lent-at seen k r inside is value ∙ same_equal r.now value e)
+found-same seen k r value inside is same =
+    slice_get-get_or (lent seen) k value (omega (arith, length-lent seen)) ∙ ap Some (lent-at seen k r inside is value ∙ same)
 
 -- what a test that came out says
 pub on-true : (b : Bool) (P : Type 0) → (b ≡ true → P) → OnTrue b P
@@ -127,6 +126,13 @@ stand-more values list places i p value inside is stand here same = record {
   inside = All-push (λ p. p < length list) places p stand.inside here;
 }
 
+-- the same of a lent value
+pub stand-next : (values : List (Bor Value)) (list : List Value) (places : List ℕ) (i p : ℕ) (value : Bor Value) → i < length values →
+    value ≡ get_or values i value → StandAt (take i (lent values)) list places → p < length list → get_or list p Null ≡ value.now →
+    StandAt (take (i + 1) (lent values)) list (places ++ p ∷ [])
+stand-next values list places i p value inside is stand here same =
+    stand-more (lent values) list places i p value.now (omega (arith, length-lent values, inside)) (sym (lent-at values i value inside is value.now)) stand here same
+
 pub stand-none : (values list : List Value) → StandAt (take 0 values) list []
 stand-none values list = record { same = refl; inside = All-nil (λ p. p < length list) }
 
@@ -151,6 +157,13 @@ numbered-more values old new numbers i n value inside is before adds =
       short = ⊎_elim (λ (e : new ≡ old). omega (arith, ap length e, before.short))
           (λ (e : new ≡ old ++ value ∷ []). omega (arith, ap length e, length_push old value, before.short)) adds.grows;
     }
+
+-- one lent value more is numbered
+pub numbered-next : (values : List (Bor Value)) (old new : List Value) (numbers : List ℕ) (i n : ℕ) (value : Bor Value) → i < length values →
+    value ≡ get_or values i value → IsNumberedTo (lent values) old numbers i → Adds old new value.now n → IsNumberedTo (lent values) new (numbers ++ n ∷ []) (i + 1)
+numbered-next values old new numbers i n value inside is before adds =
+    numbered-more (lent values) old new numbers i n value.now (omega (arith, length-lent values, inside)) (sym (lent-at values i value inside is value.now)) before
+    adds
 
 pub numbered-none : (values : List Value) → IsNumberedTo values [] [] 0
 numbered-none values = record { stand = stand-none values []; among = All-nil (Contains values); short = omega arith }

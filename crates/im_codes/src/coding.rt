@@ -16,14 +16,14 @@ pub struct Coding {
 }
 
 impl Coding {
-    /// The dictionary and the codes of a list of values.
+    /// The dictionary and the codes of a list of lent values.
     ///
     /// The distinct values come first, by a table where they are numbers of a small range, one after another where they
     /// are few, and else by their hashes; only they are sorted and copied.
-    pub fn of(alloc: Global, values: &[Value]) -> Result<Coding, NoMemory>
+    pub fn of(alloc: Global, values: &[&Value]) -> Result<Coding, NoMemory>
         requires { length values.now < 2 ^ 31 }
-        ensures dictionary { IfOk result (λ coding. IsDictionaryOf values.now coding.dict) }
-        ensures codes { IfOk result (λ coding. AreCodesOf values.now coding.dict coding.codes.items) }
+        ensures dictionary { IfOk result (λ coding. IsDictionaryOf (lent values.now) coding.dict) }
+        ensures codes { IfOk result (λ coding. AreCodesOf (lent values.now) coding.dict coding.codes.items) }
     {
         let found = number_values(alloc, values)?;
         let dict = Dict::of_seen(alloc, found.seen.as_slice())?;
@@ -64,7 +64,7 @@ fn codes_of(alloc: Global, dict: &Dict, seen: &[&Value]) -> Result<Vec<u32>, NoM
 {
     let mut codes = Vec::with_capacity(alloc, seen.len())?;
     for i in 0..seen.len() {
-        codes.push(code_near(dict, seen[i], i as u32 + 1))?;
+        codes.push_reserved(code_near(dict, seen[i], i as u32 + 1));
     }
     Ok(codes)
 }
@@ -76,7 +76,7 @@ pub(crate) fn through(alloc: Global, numbers: &[u32], codes: &[u32]) -> Result<V
 {
     let mut sent = Vec::with_capacity(alloc, numbers.len())?;
     for number in numbers {
-        sent.push(codes[*number as usize])?;
+        sent.push_reserved(codes[*number as usize]);
     }
     Ok(sent)
 }

@@ -10,6 +10,7 @@
 
 mod coding;
 mod dict;
+mod lending;
 mod numbering;
 mod picking;
 mod range;
@@ -18,5 +19,6 @@ mod runs;
 
 pub use coding::Coding;
 pub use dict::Dict;
+pub use lending::{copy_values, lend_values};
 pub use run::Run;
 pub use runs::Runs;

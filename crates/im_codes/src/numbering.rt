@@ -1,9 +1,10 @@
 ghost use Rattle.std.specs.Prelude.{◌≡◌, ◌^◌, ◌<◌, ◌≤◌, ◌+◌, Some, IfSome, IfOk, IsTrue, length, slice_get};
+ghost use Rattle.std.specs.Bool.{OnTrue};
 ghost use Rattle.im_codes.specs.Dictionary.{lent};
 ghost use Rattle.im_codes.specs.inner.Numbering.{IsNumbering, Adds};
 
 use crate::range::number_in_range;
-use im_values::{NoMemory, Value};
+use im_values::{Name, NoMemory, Value};
 use indexmap::IndexSet;
 use std::alloc::Global;
 
@@ -20,12 +21,39 @@ pub struct Numbering<'a> {
 /// The most distinct values that are looked for one after another.
 const FEW: usize = 16;
 
+/// Whether two texts are the same. Most that differ do so in their lengths or in their first bytes.
+fn same_text(a: &Name, b: &Name) -> bool
+    ensures { OnTrue result (a.now ≡ b.now) }
+{
+    if !begin_alike(a.bytes(), b.bytes()) {
+        return false;
+    }
+    a == b
+}
+
+/// Whether two texts are of one length, and begin with the same byte.
+fn begin_alike(a: &[u8], b: &[u8]) -> bool {
+    a.len() == b.len() && (a.is_empty() || a[0] == b[0])
+}
+
+/// Whether two values are the same.
+fn is_same(a: &Value, b: &Value) -> bool
+    ensures { OnTrue result (a.now ≡ b.now) }
+{
+    match (a, b) {
+        (Value::Text(a), Value::Text(b)) => same_text(a, b),
+        (Value::Int(a), Value::Int(b)) => a == b,
+        (Value::Null, Value::Null) => true,
+        _ => false,
+    }
+}
+
 /// Where a value stands among those seen, if it does.
 fn place_among(seen: &[&Value], value: &Value) -> Option<usize>
     ensures { IfSome result (λ place. slice_get (lent seen.now) place ≡ Some value.now) }
 {
     for (place, other) in seen.iter().enumerate() {
-        if **other == *value {
+        if is_same(*other, value) {
             return Some(place);
         }
     }
@@ -55,14 +83,14 @@ fn number_by_hash<'a>(seen: &mut IndexSet<&'a Value>, value: &'a Value) -> Resul
 }
 
 /// The values in the order in which they first stand, or none where there are too many to look through.
-fn number_few<'a>(alloc: Global, values: &'a [Value]) -> Result<Option<Numbering<'a>>, NoMemory>
+fn number_few<'a>(alloc: Global, values: &[&'a Value]) -> Result<Option<Numbering<'a>>, NoMemory>
     requires { length values.now < 2 ^ 31 }
-    ensures { IfOk result (λ few. IfSome few (λ n. IsNumbering values.now (lent n.seen.items) n.numbers.items)) }
+    ensures { IfOk result (λ few. IfSome few (λ n. IsNumbering (lent values.now) (lent n.seen.items) n.numbers.items)) }
 {
     let mut seen = Vec::with_capacity(alloc, FEW + 1)?;
     let mut numbers = Vec::with_capacity(alloc, values.len())?;
     for value in values {
-        numbers.push(number_by_list(&mut seen, value)?)?;
+        numbers.push_reserved(number_by_list(&mut seen, *value)?);
         if seen.len() > FEW {
             return Ok(None);
         }
@@ -71,14 +99,14 @@ fn number_few<'a>(alloc: Global, values: &'a [Value]) -> Result<Option<Numbering
 }
 
 /// The values in the order in which they first stand.
-fn number_many<'a>(alloc: Global, values: &'a [Value]) -> Result<Numbering<'a>, NoMemory>
+fn number_many<'a>(alloc: Global, values: &[&'a Value]) -> Result<Numbering<'a>, NoMemory>
     requires { length values.now < 2 ^ 31 }
-    ensures { IfOk result (λ n. IsNumbering values.now (lent n.seen.items) n.numbers.items) }
+    ensures { IfOk result (λ n. IsNumbering (lent values.now) (lent n.seen.items) n.numbers.items) }
 {
     let mut seen = IndexSet::new(alloc);
     let mut numbers = Vec::with_capacity(alloc, values.len())?;
     for value in values {
-        numbers.push(number_by_hash(&mut seen, value)?)?;
+        numbers.push_reserved(number_by_hash(&mut seen, *value)?);
     }
     Ok(Numbering {
         seen: Vec::from_slice(alloc, seen.as_slice())?,
@@ -87,9 +115,9 @@ fn number_many<'a>(alloc: Global, values: &'a [Value]) -> Result<Numbering<'a>, 
 }
 
 /// Numbers the values of a list.
-pub fn number_values<'a>(alloc: Global, values: &'a [Value]) -> Result<Numbering<'a>, NoMemory>
+pub fn number_values<'a>(alloc: Global, values: &[&'a Value]) -> Result<Numbering<'a>, NoMemory>
     requires { length values.now < 2 ^ 31 }
-    ensures { IfOk result (λ n. IsNumbering values.now (lent n.seen.items) n.numbers.items) }
+    ensures { IfOk result (λ n. IsNumbering (lent values.now) (lent n.seen.items) n.numbers.items) }
 {
     if let Some(in_range) = number_in_range(alloc, values)? {
         return Ok(in_range);

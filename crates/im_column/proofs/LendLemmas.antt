@@ -1,12 +1,22 @@
 -- Values that are lent one after another.
 use Rattle.std.proofs.Common.{◌≡◌, ◌≢◌, ℕ, zero, suc, ◌+◌, ◌<◌, ◌≤◌, List, [], ◌∷◌, length, map, set, get_or, refl, sym, ap, ◌∙◌, ⊎_elim, arith}
 use Rattle.std.proofs.lemmas.Bool.{cases_lt}
-use Rattle.std.proofs.lemmas.List.{get_or-set_same, get_or-set_other, length-map, length-set}
+use Rattle.std.proofs.lemmas.List.{get_or-map, get_or-set_same, get_or-set_other, length-map, length-set}
 use Rattle.std.specs.Borrow.{Bor}
 use Rattle.im_values.specs.declared.value.Value.{Value}
 use Rattle.im_values.specs.declared.value.Value.TheVariants.{Null}
 use Rattle.im_codes.specs.Dictionary.{lent}
 use Rattle.im_column.specs.Forms.{AreLent}
+
+-- as many values are lent as there are
+pub length-lent : (values : List (Bor Value)) → length (lent values) ≡ length values
+length-lent values = length-map values (λ (value : Bor Value). value.now)
+
+-- a lent value at its place
+pub lent-at : (values : List (Bor Value)) (i : ℕ) (value : Bor Value) (d : Value) → i < length values → value ≡ get_or values i value →
+    value.now ≡ get_or (lent values) i d
+lent-at values i value d inside is =
+    ap (λ (v : Bor Value). v.now) is ∙ sym (get_or-map (λ (v : Bor Value). v.now) values i value d inside)
 
 map-set : {A B : Type 0} (f : A → B) (xs : List A) (i : ℕ) (x : A) → map f (set xs i x) ≡ set (map f xs) i (f x)
 map-set f [] i x = refl

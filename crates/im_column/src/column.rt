@@ -7,15 +7,15 @@ ghost use Rattle.im_column.specs.Forms.{AreKeptFor, AreLent, IsFormOf, IsShort};
 ghost use Rattle.im_bits.specs.Packed.{HasCodesFrom};
 ghost use Rattle.im_column.specs.Summaries.{sum_of};
 ghost use Rattle.im_index.specs.Bounds.{bounds_of, bounds_with};
-ghost use Rattle.im_column.specs.inner.Sized.{AreSizes, IsCountedFor, IsSummary, values_of};
+ghost use Rattle.im_column.specs.inner.Sized.{AreRising, AreSizes, IsCountedFor, IsSummary, values_of};
 
 use crate::form::{Form, Kept};
 use crate::sizes::{coded_bytes, rise, runs_bytes, width_for};
 use crate::summary::{Summary, summarize};
 use im_bits::Bits;
-use im_codes::{Coding, Dict, Runs};
+use im_codes::{Coding, Dict, Runs, copy_values, lend_values};
 use im_index::Bounds;
-use im_values::{NoMemory, Value, copied};
+use im_values::{NoMemory, Value};
 use std::alloc::Global;
 use std::marker::Model;
 
@@ -55,19 +55,28 @@ pub struct Counted {
 }
 
 impl Column {
-    /// A column of these values.
-    ///
-    /// Values that rise are kept as they are, with no dictionary; else it costs the dictionary and the codes.
+    /// A column of these values. It lends them first.
     pub fn build(alloc: Global, values: &[Value]) -> Result<Column, NoMemory>
         requires few { length values.now < 2 ^ 31 }
         requires short { All IsShort values.now }
         ensures { IfOk result (λ column. column ≡ values.now) }
     {
+        let lent = lend_values(alloc, values)?;
+        let column = Column::build_lent(alloc, lent.as_slice())?;
+        Ok(column)
+    }
+
+    /// A column of values that are lent. It copies those alone that it keeps.
+    ///
+    /// Values that rise are kept as they are, with no dictionary; else it costs the dictionary and the codes.
+    pub fn build_lent(alloc: Global, values: &[&Value]) -> Result<Column, NoMemory>
+        requires few { length values.now < 2 ^ 31 }
+        requires short { All IsShort (lent values.now) }
+        ensures { IfOk result (λ column. column ≡ lent values.now) }
+    {
         let summary = summarize(values);
         if rise(values) {
-            let bounds = bounds_from(alloc, values, summary.nulls)?;
-            let counted = as_plain(alloc, values, summary.bytes)?;
-            return Ok(assembled(counted, bounds, summary.sum));
+            return from_rising(alloc, values, summary);
         }
         let coding = Coding::of(alloc, values)?;
         from_coding(alloc, values, summary, coding)
@@ -279,15 +288,15 @@ pub fn bounds_from(alloc: Global, rising: &[Value], nulls: u64) -> Result<Bounds
 }
 
 /// The values one beside another, where that takes the least bytes.
-fn as_plain(alloc: Global, values: &[Value], plain: u64) -> Result<Counted, NoMemory>
-    requires shape { shape_of values.now ≡ spec.Plain }
-    requires plain { plain ≡ column_bytes values.now }
-    ensures { IfOk result (λ counted. IsCountedFor values.now counted.kept counted.bytes) }
+fn as_plain(values: Vec<Value>, plain: u64) -> Counted
+    requires shape { shape_of values.items ≡ spec.Plain }
+    requires plain { plain ≡ column_bytes values.items }
+    ensures { IsCountedFor values.items result.kept result.bytes }
 {
-    Ok(Counted {
-        kept: Kept::Plain(copied(alloc, values)?),
+    Counted {
+        kept: Kept::Plain(values),
         bytes: plain,
-    })
+    }
 }
 
 /// Codes of a dictionary, where that form takes the least bytes for their values.
@@ -323,22 +332,22 @@ fn as_runs(alloc: Global, dict: Dict, codes: &[u32], bytes: u64) -> Result<Count
 /// The form of the least bytes, where a dictionary and codes are those of the values.
 fn as_least(
     alloc: Global,
-    values: &[Value],
+    values: &[&Value],
     plain: u64,
     dict: Dict,
     codes: &[u32],
 ) -> Result<Counted, NoMemory>
     requires few { length values.now < 2 ^ 31 }
-    requires short { All IsShort values.now }
-    requires plain { plain ≡ plain_bytes values.now }
-    requires dictionary { IsDictionaryOf values.now dict }
-    requires codes { AreCodesOf values.now dict codes.now }
-    ensures { IfOk result (λ counted. IsCountedFor values.now counted.kept counted.bytes) }
+    requires short { All IsShort (lent values.now) }
+    requires plain { plain ≡ plain_bytes (lent values.now) }
+    requires dictionary { IsDictionaryOf (lent values.now) dict }
+    requires codes { AreCodesOf (lent values.now) dict codes.now }
+    ensures { IfOk result (λ counted. IsCountedFor (lent values.now) counted.kept counted.bytes) }
 {
     let coded = coded_bytes(&dict, codes);
     let runs = runs_bytes(&dict, codes);
     if plain <= coded.min(runs) {
-        return as_plain(alloc, values, plain);
+        return Ok(as_plain(copy_values(alloc, values)?, plain));
     }
     as_codes(alloc, dict, codes, coded, runs)
 }
@@ -363,19 +372,32 @@ pub fn as_codes(
     as_runs(alloc, dict, codes, by_run)
 }
 
+/// A column of values that rise.
+fn from_rising(alloc: Global, values: &[&Value], summary: Summary) -> Result<Column, NoMemory>
+    requires few { length values.now < 2 ^ 31 }
+    requires rising { AreRising (lent values.now) }
+    requires summary { IsSummary (lent values.now) summary.nulls summary.sum summary.bytes }
+    ensures { IfOk result (λ column. column ≡ lent values.now) }
+{
+    let kept = copy_values(alloc, values)?;
+    let bounds = bounds_from(alloc, kept.as_slice(), summary.nulls)?;
+    let counted = as_plain(kept, summary.bytes);
+    Ok(assembled(counted, bounds, summary.sum))
+}
+
 /// A column of values, by their dictionary and codes.
 fn from_coding(
     alloc: Global,
-    values: &[Value],
+    values: &[&Value],
     summary: Summary,
     coding: Coding,
 ) -> Result<Column, NoMemory>
     requires few { length values.now < 2 ^ 31 }
-    requires short { All IsShort values.now }
-    requires summary { IsSummary values.now summary.nulls summary.sum summary.bytes }
-    requires dictionary { IsDictionaryOf values.now coding.dict }
-    requires codes { AreCodesOf values.now coding.dict coding.codes.items }
-    ensures { IfOk result (λ column. column ≡ values.now) }
+    requires short { All IsShort (lent values.now) }
+    requires summary { IsSummary (lent values.now) summary.nulls summary.sum summary.bytes }
+    requires dictionary { IsDictionaryOf (lent values.now) coding.dict }
+    requires codes { AreCodesOf (lent values.now) coding.dict coding.codes.items }
+    ensures { IfOk result (λ column. column ≡ lent values.now) }
 {
     let bounds = bounds_from(alloc, coding.dict.values(), summary.nulls)?;
     let Coding { dict, codes } = coding;

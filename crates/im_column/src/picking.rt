@@ -33,7 +33,7 @@ impl Column {
     /// A column of the values at places, where those of an old column come first and fresh ones behind them.
     ///
     /// Where the dictionary of the old column is that of the new one too, it is kept, and codes are picked from codes: that costs
-    /// a look-up for each fresh value and a step for each place. Else the column is built of copies of the values.
+    /// a look-up for each fresh value and a step for each place. Else the column is built of the values, lent.
     pub fn picked(
         alloc: Global,
         old: &Column,
@@ -49,8 +49,8 @@ impl Column {
         if let Some(column) = picked_by_codes(alloc, old, fresh, places)? {
             return Ok(column);
         }
-        let values = copies_picked(alloc, old, fresh, places)?;
-        let column = Column::build(alloc, values.as_slice())?;
+        let values = lent_picked(alloc, old, fresh, places)?;
+        let column = Column::build_lent(alloc, values.as_slice())?;
         Ok(column)
     }
 }
@@ -93,19 +93,19 @@ fn all_stay(old: &Column, fresh: &[&Value], places: &[u32]) -> bool
     true
 }
 
-/// Copies of the values at places.
-fn copies_picked(
+/// The values at places, lent.
+fn lent_picked<'a>(
     alloc: Global,
-    old: &Column,
-    fresh: &[&Value],
+    old: &'a Column,
+    fresh: &[&'a Value],
     places: &[u32],
-) -> Result<Vec<Value>, NoMemory>
+) -> Result<Vec<&'a Value>, NoMemory>
     requires { All (λ place. place < length old.now + length fresh.now) places.now }
-    ensures { IfOk result (λ values. values.items ≡ values_picked old.now (lent fresh.now) places.now) }
+    ensures { IfOk result (λ values. lent values.items ≡ values_picked old.now (lent fresh.now) places.now) }
 {
     let mut values = Vec::with_capacity(alloc, places.len())?;
     for i in 0..places.len() {
-        values.push(value_picked(old, fresh, places[i]).copy(alloc)?)?;
+        values.push_reserved(value_picked(old, fresh, places[i]));
     }
     Ok(values)
 }

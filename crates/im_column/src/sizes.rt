@@ -1,6 +1,7 @@
 ghost use Rattle.std.specs.Prelude.{◌≡◌, ◌^◌, ◌+◌, ◌*◌, ◌<◌, ◌≤◌, All, length, sum_by, take};
 ghost use Rattle.std.specs.Bool.{OnTrue};
 ghost use Rattle.im_values.specs.Sizes as spec;
+ghost use Rattle.im_codes.specs.Dictionary.{lent};
 ghost use Rattle.im_codes.specs.Runs.{run_count};
 ghost use Rattle.im_column.specs.Forms.{IsShort};
 ghost use Rattle.im_column.specs.inner.Sized.{AreRising, Follows};
@@ -81,22 +82,22 @@ pub fn runs_bytes(dict: &Dict, codes: &[u32]) -> u64
 }
 
 /// Whether a value is not NULL, and above the one before.
-fn follows(values: &[Value], i: usize) -> bool
+fn follows(values: &[&Value], i: usize) -> bool
     requires { i < length values.now }
-    ensures { OnTrue result (Follows values.now i) }
+    ensures { OnTrue result (Follows (lent values.now) i) }
 {
-    if is_null(&values[i]) {
+    if is_null(values[i]) {
         return false;
     }
     if i == 0 {
         return true;
     }
-    order(&values[i - 1], &values[i]).is_lt()
+    order(values[i - 1], values[i]).is_lt()
 }
 
 /// Whether each value is below the next, and none is NULL.
-pub fn rise(values: &[Value]) -> bool
-    ensures { OnTrue result (AreRising values.now) }
+pub fn rise(values: &[&Value]) -> bool
+    ensures { OnTrue result (AreRising (lent values.now)) }
 {
     for i in 0..values.len() {
         if !follows(values, i) {

@@ -1,6 +1,7 @@
 ghost use Rattle.std.specs.Prelude.{◌≡◌, ◌^◌, ◌+◌, ◌*◌, ◌<◌, ◌≤◌, All, length, if◌then◌else◌};
 ghost use Rattle.im_values.specs.Order.{is_null};
 ghost use Rattle.im_values.specs.Sizes.{value_bytes};
+ghost use Rattle.im_codes.specs.Dictionary.{lent};
 ghost use Rattle.im_column.specs.Forms.{IsShort};
 ghost use Rattle.im_column.specs.Summaries as spec;
 ghost use Rattle.im_column.specs.inner.Sized.{IsSummary, IsWithin};
@@ -51,11 +52,11 @@ fn added(total: i128, value: &Value, count: u64) -> i128
     }
 }
 
-/// The number of NULLs, the sum and the bytes of a list of values.
-pub fn summarize(values: &[Value]) -> Summary
+/// The number of NULLs, the sum and the bytes of lent values.
+pub fn summarize(values: &[&Value]) -> Summary
     requires few { length values.now < 2 ^ 31 }
-    requires short { All IsShort values.now }
-    ensures summary { IsSummary values.now result.nulls result.sum result.bytes }
+    requires short { All IsShort (lent values.now) }
+    ensures summary { IsSummary (lent values.now) result.nulls result.sum result.bytes }
     ensures few { result.bytes < 2 ^ 48 }
 {
     let mut summary = Summary {
@@ -64,7 +65,7 @@ pub fn summarize(values: &[Value]) -> Summary
         bytes: 0,
     };
     for i in 0..values.len() {
-        summary = with_value(summary, &values[i], i as u64);
+        summary = with_value(summary, values[i], i as u64);
     }
     summary
 }

@@ -34,19 +34,6 @@ pub wide-at : (width : ℕ) (rows : List (Bor Row)) (i : ℕ) (row : Bor Row) �
 wide-at width rows i row are inside is =
     ap length (sym (at-lent rows i row [] inside is)) ∙ are.wide i [] (omega (arith, length-map rows (λ (r : Bor Row). r.now), inside))
 
--- one value more
-pub values-more : (rows : List (Bor Row)) (i column : ℕ) (row : Bor Row) (value : Value) (values longer : List Value) → i < length rows →
-    row ≡ get_or rows i row → value ≡ get_or row.now column Null → values ≡ values_in column (lent (take i rows)) → longer ≡ values ++ value ∷ [] →
-    longer ≡ values_in column (lent (take (i + 1) rows))
-values-more rows i column row value values longer inside is at so_far more =
-    let f = λ (r : Row). get_or r column Null in
-    more
-    ∙ (ap (λ (l : List Value). l ++ value ∷ []) so_far
-    ∙ (ap (λ (v : Value). map f (lent (take i rows)) ++ v ∷ []) at
-    ∙ (sym (map_push f (lent (take i rows)) row.now)
-    ∙ ap (map f)
-    (ap (λ (r : Bor Row). lent (take i rows) ++ r.now ∷ []) is ∙ sym (map_more (λ (r : Bor Row). r.now) rows i row inside)))))
-
 -- the values of short rows are short
 pub short-in : (width : ℕ) (rows : List Row) (column : ℕ) → AreRows width rows → column < width → All IsShort (values_in column rows)
 short-in width rows column are inside k d within =

@@ -1,10 +1,10 @@
-ghost use Rattle.std.specs.Prelude.{◌≡◌, ◌<◌, ◌++◌, ◌∷◌, [], IfOk, OnOk, get_or, length, map};
+ghost use Rattle.std.specs.Prelude.{◌≡◌, ◌+◌, ◌<◌, ◌≤◌, ◌++◌, ◌∷◌, [], IfOk, get_or, length, map, vec_len, vec_capacity};
 ghost use Rattle.im_values.specs.declared.value.Value.TheVariants.{Null};
 ghost use Rattle.std.specs.Arc.{arc_value};
 ghost use Rattle.std.specs.List.{range_with_len};
 ghost use Rattle.std.specs.Option.{option_copied};
 ghost use Rattle.im_unit.specs.Holding.{lent_slots, present_rows, values_in};
-ghost use Rattle.im_unit.specs.inner.Kept.{AreRows, lent};
+ghost use Rattle.im_unit.specs.inner.Kept.{AreRows, lent, lent_values};
 
 use im_column::Column;
 use im_history::lent_values;
@@ -26,17 +26,16 @@ pub fn lend_slots<'a>(
     Ok(slots)
 }
 
-/// Puts a row, where there is one, behind others.
-pub fn put_present<'a>(
-    row: Option<&'a [Value]>,
-    present: &mut Vec<&'a [Value]>,
-) -> Result<(), NoMemory>
-    ensures { OnOk result (lent present.new.items ≡ lent present.old.items ++ present_rows (option_copied row.entry ∷ [])) }
+/// Puts a row, where there is one, behind others. There is room for one.
+pub fn put_present<'a>(row: Option<&'a [Value]>, present: &mut Vec<&'a [Value]>)
+    requires { vec_len present.old < vec_capacity present.old }
+    ensures rows { lent present.new.items ≡ lent present.old.items ++ present_rows (option_copied row.entry ∷ []) }
+    ensures room { vec_capacity present.new ≡ vec_capacity present.old }
+    ensures few { vec_len present.new ≤ vec_len present.old + 1 }
 {
     if let Some(row) = row {
-        present.push(row)?;
+        present.push_reserved(row);
     }
-    Ok(())
 }
 
 /// The rows that are present. They stay where they are.
@@ -48,7 +47,7 @@ pub fn rows_present<'a>(
 {
     let mut present = Vec::with_capacity(alloc, rows.len())?;
     for i in 0..rows.len() {
-        put_present(rows[i], &mut present)?;
+        put_present(rows[i], &mut present);
     }
     Ok(present)
 }
@@ -62,20 +61,20 @@ pub fn value_in(row: &[Value], column: usize) -> &Value
     &row[column]
 }
 
-/// The values of rows in one column, copied.
-fn values_of(
+/// The values of rows in one column, lent.
+pub fn values_lent<'a>(
     alloc: Global,
-    rows: &[&[Value]],
+    rows: &[&'a [Value]],
     column: usize,
     width: usize,
-) -> Result<Vec<Value>, NoMemory>
+) -> Result<Vec<&'a Value>, NoMemory>
     requires rows { AreRows width (lent rows.now) }
     requires inside { column < width }
-    ensures { IfOk result (λ values. values.items ≡ values_in column (lent rows.now)) }
+    ensures { IfOk result (λ values. lent_values values.items ≡ values_in column (lent rows.now)) }
 {
     let mut values = Vec::with_capacity(alloc, rows.len())?;
     for i in 0..rows.len() {
-        values.push(value_in(rows[i], column).copy(alloc)?)?;
+        values.push_reserved(value_in(rows[i], column));
     }
     Ok(values)
 }
@@ -91,8 +90,8 @@ fn column_of(
     requires inside { column < width }
     ensures { IfOk result (λ built. arc_value built ≡ values_in column (lent rows.now)) }
 {
-    let values = values_of(alloc, rows, column, width)?;
-    Ok(Arc::new(alloc, Column::build(alloc, values.as_slice())?)?)
+    let values = values_lent(alloc, rows, column, width)?;
+    Ok(Arc::new(alloc, Column::build_lent(alloc, values.as_slice())?)?)
 }
 
 /// The columns of rows.

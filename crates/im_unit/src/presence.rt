@@ -42,7 +42,7 @@ fn bits_of<T>(alloc: Global, rows: &[Option<T>]) -> Result<Vec<u32>, NoMemory>
 {
     let mut bits = Vec::with_capacity(alloc, rows.len())?;
     for row in rows {
-        bits.push(bit_of(row))?;
+        bits.push_reserved(bit_of(row));
     }
     Ok(bits)
 }
@@ -66,19 +66,38 @@ fn count_on(bits: &Bits, first: u64, known: u64, place: u64) -> u64
 }
 
 /// How many bits lie between two ranks.
-const STEP: u64 = 64;
+const STEP: usize = 64;
+
+/// How many of the bits before a place are set, where it is known how many are before an earlier one, and the bits lie one beside
+/// another.
+fn count_beside(bits: &[u32], first: usize, known: u64, place: usize) -> u64
+    requires order { first ≤ place }
+    requires within { place ≤ length bits.now }
+    requires known { known ≡ count_set (take first (map (nat_lt 0) bits.now)) }
+    requires few { known ≤ first }
+    ensures count { result ≡ count_set (take place (map (nat_lt 0) bits.now)) }
+    ensures most { result ≤ place }
+{
+    let mut count = known;
+    for i in first..place {
+        if bits[i] != 0 {
+            count += 1;
+        }
+    }
+    count
+}
 
 /// How many of the bits are set before each 64th one.
-fn ranks_of(alloc: Global, bits: &Bits) -> Result<Vec<u64>, NoMemory>
-    ensures { IfOk result (λ ranks. ranks.items ≡ ranks_of (map (nat_lt 0) bits.now.codes)) }
+fn ranks_of(alloc: Global, bits: &[u32]) -> Result<Vec<u64>, NoMemory>
+    ensures { IfOk result (λ ranks. ranks.items ≡ ranks_of (map (nat_lt 0) bits.now)) }
 {
     let len = bits.len();
     let many = len / STEP + 1;
-    let mut ranks = Vec::with_capacity(alloc, many as usize)?;
+    let mut ranks = Vec::with_capacity(alloc, many)?;
     let mut count = 0;
     for i in 0..many {
-        ranks.push(count)?;
-        count = count_on(bits, i * STEP, count, len.min((i + 1) * STEP));
+        ranks.push_reserved(count);
+        count = count_beside(bits, i * STEP, count, len.min((i + 1) * STEP));
     }
     Ok(ranks)
 }
@@ -90,8 +109,8 @@ fn count_at(bits: &Bits, ranks: &[u64], place: u64) -> u64
     ensures count { result ≡ count_set (take place (map (nat_lt 0) bits.now.codes)) }
     ensures most { result ≤ place }
 {
-    let rank = place / STEP;
-    count_on(bits, rank * STEP, ranks[rank as usize], place)
+    let rank = place / STEP as u64;
+    count_on(bits, rank * STEP as u64, ranks[rank as usize], place)
 }
 
 impl Presence {
@@ -100,8 +119,9 @@ impl Presence {
         requires { length rows.now < 2 ^ 31 }
         ensures { IfOk result (λ presence. presence ≡ map is_some rows.now) }
     {
-        let bits = Bits::pack(alloc, bits_of(alloc, rows)?.as_slice(), 1)?;
-        let ranks = ranks_of(alloc, &bits)?;
+        let flags = bits_of(alloc, rows)?;
+        let bits = Bits::pack(alloc, flags.as_slice(), 1)?;
+        let ranks = ranks_of(alloc, flags.as_slice())?;
         let count = count_at(&bits, ranks.as_slice(), bits.len());
         Ok(Presence { bits, ranks, count })
     }

@@ -3,12 +3,12 @@ ghost use Rattle.std.specs.Arc.{arc_value};
 ghost use Rattle.im_column.specs.Forms.{IsShort};
 ghost use Rattle.im_column.specs.Picks.{values_picked};
 ghost use Rattle.im_history.specs.Fetched.{lent_rows};
-ghost use Rattle.im_unit.specs.Holding.{present_rows, values_in};
+ghost use Rattle.im_unit.specs.Holding.{present_rows};
 ghost use Rattle.im_unit.specs.Rebuilt.{fetched_rows};
 ghost use Rattle.im_unit.specs.inner.Kept.{AreRows, HaveLength, lent, lent_values};
 ghost use Rattle.im_unit.specs.inner.Planned.{columns_picked};
 
-use crate::building::{put_present, value_in};
+use crate::building::{put_present, values_lent};
 use im_column::Column;
 use im_history::LentRow;
 use im_values::{NoMemory, Value};
@@ -21,27 +21,9 @@ pub fn fresh_rows<'a>(alloc: Global, fetched: &[LentRow<'a>]) -> Result<Vec<&'a 
 {
     let mut fresh = Vec::with_capacity(alloc, fetched.len())?;
     for i in 0..fetched.len() {
-        put_present(fetched[i].1, &mut fresh)?;
+        put_present(fetched[i].1, &mut fresh);
     }
     Ok(fresh)
-}
-
-/// The values of rows in one column, lent.
-fn fresh_values<'a>(
-    alloc: Global,
-    rows: &[&'a [Value]],
-    column: usize,
-    width: usize,
-) -> Result<Vec<&'a Value>, NoMemory>
-    requires rows { AreRows width (lent rows.now) }
-    requires inside { column < width }
-    ensures { IfOk result (λ values. lent_values values.items ≡ values_in column (lent rows.now)) }
-{
-    let mut values = Vec::with_capacity(alloc, rows.len())?;
-    for i in 0..rows.len() {
-        values.push(value_in(rows[i], column))?;
-    }
-    Ok(values)
 }
 
 /// A column of the values at places, where those of an old column come first and fresh ones behind them. Where they are those of
@@ -81,7 +63,7 @@ pub fn columns_again(
 {
     let mut columns = Vec::with_capacity(alloc, old.len())?;
     for column in 0..old.len() {
-        let values = fresh_values(alloc, fresh, column, old.len())?;
+        let values = values_lent(alloc, fresh, column, old.len())?;
         columns.push(column_again(alloc, &old[column], values.as_slice(), places)?)?;
     }
     Ok(columns)

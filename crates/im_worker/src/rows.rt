@@ -1,6 +1,6 @@
-ghost use Rattle.std.specs.Prelude.{◌≡◌, ◌+◌, ◌-◌, ◌*◌, ◌<◌, ◌≤◌, ◌^◌, ◌++◌, map, length, nat_le, IfOk, OnOk, IfSome};
+ghost use Rattle.std.specs.Prelude.{◌≡◌, ◌+◌, ◌-◌, ◌*◌, ◌<◌, ◌≤◌, ◌^◌, ◌++◌, map, length, nat_le, IfOk, OnOk, IfSome, Some};
 ghost use Rattle.std.specs.Option.{option_copied};
-ghost use Rattle.im_history.specs.Fetched.{lent_rows};
+ghost use Rattle.im_history.specs.Fetched.{HasNumbers, in_piece, lent_rows};
 ghost use Rattle.im_unit.specs.Holding.{lent_slots};
 ghost use Rattle.im_unit.specs.Rebuilt.{RiseWithin, fetched_rows, rebuilt};
 ghost use Rattle.im_values.specs.declared.limits.TheConstants.{MOST_COLUMNS};
@@ -8,10 +8,10 @@ ghost use Rattle.im_values.specs.Sizes.{value_bytes};
 ghost use Rattle.im_worker.specs.inner.Good as spec;
 
 use im_core::Fetched;
-use im_history::{LentRow, Task};
+use im_history::{LentRow, Piece, Task, lent_values};
 use im_unit::ColumnUnit;
 use im_values::limits::MOST_COLUMNS;
-use im_values::{NoMemory, Value};
+use im_values::{NoMemory, Rows, Value};
 use std::alloc::Global;
 
 /// Whether a value is no text of more than 65,535 bytes.
@@ -126,17 +126,30 @@ pub fn unit_again(
     ColumnUnit::rebuild(alloc, old, task.scn, rows)
 }
 
-/// Puts rows that were fetched behind others, without their numbers.
-fn put_rows<'a>(
-    slots: &mut Vec<Option<&'a [Value]>>,
-    fetched: &[LentRow<'a>],
-) -> Result<(), NoMemory>
-    ensures { OnOk result (lent_slots slots.new.items ≡ lent_slots slots.old.items ++ fetched_rows (lent_rows fetched.now)) }
+/// Puts the rows of a run behind others, lent.
+fn put_run<'a>(slots: &mut Vec<Option<&'a [Value]>>, run: &'a Rows) -> Result<(), NoMemory>
+    ensures { OnOk result (lent_slots slots.new.items ≡ lent_slots slots.old.items ++ map (λ row. Some row) run.now) }
 {
-    for row in fetched {
-        slots.push(row.1)?;
+    slots.reserve(run.len())?;
+    for at in 0..run.len() {
+        slots.push_reserved(Some(run.values(at)));
     }
     Ok(())
+}
+
+/// Puts the rows of a piece, or none, behind others, lent and without their numbers.
+fn put_piece<'a>(slots: &mut Vec<Option<&'a [Value]>>, piece: &'a Piece) -> Result<(), NoMemory>
+    requires { HasNumbers piece.now }
+    ensures { OnOk result (lent_slots slots.new.items ≡ lent_slots slots.old.items ++ fetched_rows (in_piece piece.now)) }
+{
+    match piece {
+        Piece::Run(_, run) => put_run(slots, run),
+        Piece::Each(_, block) => put_run(slots, block),
+        Piece::One(_, row) => {
+            slots.push(lent_values(row))?;
+            Ok(())
+        }
+    }
 }
 
 /// Puts so many row numbers without a row behind others.
@@ -158,9 +171,10 @@ pub fn padded<'a>(
     ensures { IfOk result (λ slots.
         lent_slots slots.items ≡ map (λ found. found.1) fetched.now ++ spec.nones (per - length fetched.now)) }
 {
-    let lent = fetched.lent(alloc)?;
-    let mut slots = Vec::with_capacity(alloc, lent.len())?;
-    put_rows(&mut slots, lent.as_slice())?;
+    let mut slots = Vec::with_capacity(alloc, fetched.len() as usize)?;
+    for piece in fetched.pieces() {
+        put_piece(&mut slots, piece)?;
+    }
     pad(&mut slots, per.saturating_sub(fetched.len()))?;
     Ok(slots)
 }

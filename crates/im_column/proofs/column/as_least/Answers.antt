@@ -2,54 +2,55 @@ use Rattle.std.proofs.Common.{◌≤◌, ◌<◌, List, min, ap, subst, arith}
 use Rattle.std.specs.Prelude.{IfOk}
 use Rattle.im_values.specs.declared.value.Value.{Value}
 use Rattle.im_values.specs.Sizes.{plain_bytes}
-use Rattle.im_codes.specs.Dictionary.{coded, values_at}
+use Rattle.im_codes.specs.Dictionary.{coded, lent, values_at}
 use Rattle.im_codes.proofs.ForCallers.{dictionary-is, length-codes}
 use Rattle.im_column.specs.Forms.{AreKeptFor}
 use Rattle.im_column.specs.inner.Sized.{AreSizes, IsCountedFor}
 use Rattle.im_column.proofs.ColumnLemmas.{own-kept, own-sizes}
+use Rattle.im_column.proofs.LendLemmas.{length-lent}
 use Rattle.im_column.proofs.SizeLemmas.{are-sizes, short-dictionary, least-plain}
 use Rattle.im_column.proofs.column.as_least.Goals as goal
 use Rattle.im_column.proofs.column.as_least.Goals.{After-runs_bytes-runs}
 
 pub coded_bytes-coded-requires-clause-short : goal.coded_bytes-coded-requires-clause-short
-coded_bytes-coded-requires-clause-short c = short-dictionary c.args.values.now c.args.dict c.requires.dictionary c.requires.short
+coded_bytes-coded-requires-clause-short c = short-dictionary (lent c.args.values.now) c.args.dict c.requires.dictionary c.requires.short
 
 pub coded_bytes-coded-requires-clause-few : goal.coded_bytes-coded-requires-clause-few
 coded_bytes-coded-requires-clause-few c =
-    omega (arith, length-codes c.args.values.now c.args.dict c.args.codes.now c.requires.codes, c.requires.few)
+    omega (arith, length-codes (lent c.args.values.now) c.args.dict c.args.codes.now c.requires.codes, length-lent c.args.values.now, c.requires.few)
 
 pub runs_bytes-runs-requires-clause-short : goal.runs_bytes-runs-requires-clause-short
-runs_bytes-runs-requires-clause-short c = short-dictionary c.args.values.now c.args.dict c.requires.dictionary c.requires.short
+runs_bytes-runs-requires-clause-short c = short-dictionary (lent c.args.values.now) c.args.dict c.requires.dictionary c.requires.short
 
 pub runs_bytes-runs-requires-clause-few : goal.runs_bytes-runs-requires-clause-few
 runs_bytes-runs-requires-clause-few c =
-    omega (arith, length-codes c.args.values.now c.args.dict c.args.codes.now c.requires.codes, c.requires.few)
+    omega (arith, length-codes (lent c.args.values.now) c.args.dict c.args.codes.now c.requires.codes, length-lent c.args.values.now, c.requires.few)
 
 -- what was counted
-are_sizes : (c : After-runs_bytes-runs) → AreSizes c.args.values.now c.args.plain c.coded_bytes-coded.result c.runs_bytes-runs.result
+are_sizes : (c : After-runs_bytes-runs) → AreSizes (lent c.args.values.now) c.args.plain c.coded_bytes-coded.result c.runs_bytes-runs.result
 are_sizes c =
-    are-sizes c.args.values.now c.args.dict c.args.codes.now c.args.plain c.coded_bytes-coded.result c.runs_bytes-runs.result
+    are-sizes (lent c.args.values.now) c.args.dict c.args.codes.now c.args.plain c.coded_bytes-coded.result c.runs_bytes-runs.result
     c.requires.plain c.requires.dictionary c.requires.codes c.coded_bytes-coded.ensures c.runs_bytes-runs.ensures
 
-are_kept : (c : After-runs_bytes-runs) → AreKeptFor c.args.values.now c.args.dict c.args.codes.now
-are_kept c = record { is_dictionary = dictionary-is c.args.values.now c.args.dict c.requires.dictionary; are_codes = c.requires.codes }
+are_kept : (c : After-runs_bytes-runs) → AreKeptFor (lent c.args.values.now) c.args.dict c.args.codes.now
+are_kept c = record { is_dictionary = dictionary-is (lent c.args.values.now) c.args.dict c.requires.dictionary; are_codes = c.requires.codes }
 
 pub as_plain-requires : goal.as_plain-requires
 as_plain-requires c =
     let most : c.args.plain ≤ min c.coded_bytes-coded.result c.runs_bytes-runs.result = omega (arith, c.min.ensures, c.if-plain-min.true) in
     let is =
-    least-plain c.args.values.now c.args.plain c.coded_bytes-coded.result c.runs_bytes-runs.result
+    least-plain (lent c.args.values.now) c.args.plain c.coded_bytes-coded.result c.runs_bytes-runs.result
     (are_sizes (goal.at.as_plain-requires c).After-runs_bytes-runs) most in
-    record { shape = is.0; plain = is.1 }
+    rw c.in_ok-copy_values.ensures (record { shape = is.0; plain = is.1 })
 
 pub as_codes-requires : goal.as_codes-requires
 as_codes-requires c =
     let less : min c.coded_bytes-coded.result c.runs_bytes-runs.result < c.args.plain = omega (arith, c.min.ensures, c.if-plain-min.false) in
     let counted = (goal.at.as_codes-requires c).After-runs_bytes-runs in
-    let values = c.args.values.now in
+    let values = lent c.args.values.now in
     let same = c.requires.codes.same in
     record {
-      few = omega (arith, length-codes values c.args.dict c.args.codes.now c.requires.codes, c.requires.few);
+      few = omega (arith, length-codes values c.args.dict c.args.codes.now c.requires.codes, length-lent c.args.values.now, c.requires.few);
       kept = own-kept values c.args.dict c.args.codes.now (are_kept counted);
       sizes = own-sizes values (values_at (coded c.args.dict) c.args.codes.now) c.args.plain c.coded_bytes-coded.result c.runs_bytes-runs.result same
           (are_sizes counted);

@@ -1,11 +1,17 @@
+use Rattle.std.proofs.Common.{ap, length, arith}
+use Rattle.std.proofs.lemmas.List.{length-map}
+use denote.Ref.{Bor}
+use Rattle.im_values.specs.declared.value.Value.{Value}
 use Rattle.im_unit.specs.inner.Kept.{lent}
 use Rattle.im_unit.proofs.BuildLemmas.{short-in, few-in}
 use Rattle.im_unit.proofs.building.column_of.Goals as goal
 
-pub build-requires-clause-few : goal.build-requires-clause-few
-build-requires-clause-few c =
-    rw (c.as_slice.ensures.value, c.in_ok-values.ensures) (few-in c.args.width (lent c.args.rows.now) c.args.column c.requires.rows)
+pub build_lent-requires-clause-few : goal.build_lent-requires-clause-few
+build_lent-requires-clause-few c =
+    let few = few-in c.args.width (lent c.args.rows.now) c.args.column c.requires.rows in
+    let values = c.in_ok-values.values.items in
+    rw c.as_slice.ensures.value (omega (arith, few, ap length c.in_ok-values.ensures, length-map values (λ (value : Bor Value). value.now)))
 
-pub build-requires-clause-short : goal.build-requires-clause-short
-build-requires-clause-short c =
+pub build_lent-requires-clause-short : goal.build_lent-requires-clause-short
+build_lent-requires-clause-short c =
     rw (c.as_slice.ensures.value, c.in_ok-values.ensures) (short-in c.args.width (lent c.args.rows.now) c.args.column c.requires.rows c.requires.inside)

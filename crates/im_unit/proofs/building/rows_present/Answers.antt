@@ -1,4 +1,4 @@
-use Rattle.std.proofs.Common.{get_or, sym, ap, arith, ◌∙◌}
+use Rattle.std.proofs.Common.{sym, ap, arith, ◌∙◌}
 use Rattle.std.specs.Option.{option_copied}
 use Rattle.std.proofs.lemmas.List.{get_or-map, length-map}
 use Rattle.im_unit.specs.Holding.{lent_slots}
@@ -9,7 +9,11 @@ pub loop-i-preserved : goal.loop-i-preserved
 loop-i-preserved c =
     let rows = c.args.rows.now in
     let row = option_copied c.index-rows-i.result in
-    present-more (lent_slots rows) c.loop-i.i row c.loop-i.present.items c.put_present.new.present.items
-    (omega (arith, length-map rows option_copied, c.loop-i-test.true))
-    (sym (get_or-map option_copied rows c.loop-i.i c.index-rows-i.result row c.loop-i-test.true ∙ ap option_copied (sym c.index-rows-i.is)))
-    c.loop-i.invariant c.in_ok-put_present.ensures
+    record {
+      rows = present-more (lent_slots rows) c.loop-i.i row c.loop-i.present.items c.put_present.new.present.items
+          (omega (arith, length-map rows option_copied, c.loop-i-test.true))
+          (sym (get_or-map option_copied rows c.loop-i.i c.index-rows-i.result row c.loop-i-test.true ∙ ap option_copied (sym c.index-rows-i.is)))
+          c.loop-i.invariant.rows c.put_present.ensures.rows;
+      few = omega (arith, c.put_present.ensures.few, c.loop-i.invariant.few);
+      room = c.put_present.ensures.room ∙ c.loop-i.invariant.room;
+    }

@@ -10,8 +10,8 @@ picked_by_codes-requires-clause-short c =
     short-picked old (lent fresh) c.args.places.now c.requires.short_old c.requires.short_fresh
     (λ k d within. omega (arith, c.requires.places k d within, length-fresh fresh))
 
-pub build-requires-clause-short : goal.build-requires-clause-short
-build-requires-clause-short c =
+pub build_lent-requires-clause-short : goal.build_lent-requires-clause-short
+build_lent-requires-clause-short c =
     let old = c.args.old.now in
     let fresh = c.args.fresh.now in
     rw (c.as_slice.ensures.value, c.in_ok-values.ensures)

@@ -1,6 +1,6 @@
 use Rattle.std.proofs.Common.{arith}
 use Rattle.im_unit.proofs.BuildLemmas.{wide-at}
-use Rattle.im_unit.proofs.rebuilding.fresh_values.Goals as goal
+use Rattle.im_unit.proofs.building.values_lent.Goals as goal
 
 pub value_in-requires : goal.value_in-requires
 value_in-requires c =

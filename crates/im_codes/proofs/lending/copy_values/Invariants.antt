@@ -1,0 +1,12 @@
+use Rattle.std.proofs.Common.{◌≡◌, length, take, vec_len}
+use Rattle.std.specs.Prelude.{vec_capacity}
+use Rattle.im_codes.specs.Dictionary.{lent}
+use Rattle.im_codes.proofs.lending.copy_values.Given as goal
+
+-- the values so far are copied, and there is room for all of them
+abbrev pub invariant-loop-value : goal.invariant-loop-value
+invariant-loop-value l = record {
+  copied : l.copies.items ≡ lent (take l.value-index l.values);
+  long : vec_len l.copies ≡ l.value-index;
+  room : vec_capacity l.copies ≡ length l.values;
+}
