@@ -1,6 +1,6 @@
 -- What pages show, as changes are noted and put in.
 use Prim.Native.Nat.{zero, suc}
-use Rattle.std.proofs.Common.{◌≡◌, ℕ, ◌+◌, ◌*◌, ◌-◌, ◌/◌, ◌%◌, ◌<◌, ◌≤◌, Bool, true, false, ◌&&◌, ◌==◌, ◌⊎◌, inl, List, [], ◌∷◌, ◌++◌, drop, get_or, length, take, Option, Some, None, is_some, if◌then◌else◌, refl, sym, ap, ◌∙◌, subst, ⊎_elim, arith, append-nil}
+use Rattle.std.proofs.Common.{◌≡◌, ℕ, ◌+◌, ◌*◌, ◌-◌, ◌/◌, ◌%◌, ◌<◌, ◌≤◌, Bool, true, false, ◌&&◌, ◌==◌, inl, List, [], ◌∷◌, ◌++◌, drop, get_or, length, take, Option, Some, None, is_some, if◌then◌else◌, refl, sym, ap, ◌∙◌, subst, ⊎_elim, arith, append-nil}
 use Rattle.std.specs.Prelude.{slice_get}
 use Rattle.std.specs.List.{All}
 use Rattle.std.specs.Option.{option_or}
@@ -105,6 +105,18 @@ IsNoted-same old mid new place same noted = record {
       row_is = shows.row_is;
     }
 
+pub ShowsWithin-same : (old new : Page) → new.image ≡ old.image → ShowsWithin old new
+ShowsWithin-same old new same = record {
+  each = λ place scn row shows. record {
+    image = shows.image;
+    is = sym same ∙ shows.is;
+    fresh = shows.fresh;
+    there = shows.there;
+    from = shows.from;
+    row_is = shows.row_is;
+  };
+}
+
 -- ---- all pages
 
 pub ShowWithin-refl : (pages : List (List Page)) → ShowWithin pages pages
@@ -167,10 +179,23 @@ both_are table number t n is =
     let sides = and-true (table == t) (number == n) is in
     (eq-true table t sides.0, eq-true number n sides.1)
 
+pub ShowWithin-set : (pages : List (List Page)) (table number : ℕ) (page : Page) → HasCell pages table number
+    → ShowsWithin (page_at pages table number) page → ShowWithin pages (with_cell table number page pages)
+ShowWithin-set pages table number page has less = record { each = within }
+  where
+    within : (t n : ℕ) → ShowsWithin (page_at pages t n) (page_at (with_cell table number page pages) t n)
+    within t n =
+        subst (λ (p : Page). ShowsWithin (page_at pages t n) p) (sym (set_page pages table number page t n has))
+        (either (λ (p : Page). ShowsWithin (page_at pages t n) p) ((table == t) && (number == n)) page (page_at pages t n)
+        (λ is. let are = both_are table number t n is in
+        subst (λ (k : ℕ). ShowsWithin (page_at pages k n) page) are.0
+        (subst (λ (k : ℕ). ShowsWithin (page_at pages table k) page) are.1 less))
+        (λ isnt. ShowsWithin-refl (page_at pages t n)))
+
 pub IsNotedAt-set : (pages : List (List Page)) (table rid : ℕ) (page : Page) → HasCell pages table (rid / 2048)
     → IsNoted (page_at pages table (rid / 2048)) page (rid % 2048) → IsNotedAt pages (with_cell table (rid / 2048) page pages) table rid
 IsNotedAt-set pages table rid page has noted = record {
-  within = record { each = within };
+  within = ShowWithin-set pages table number page has noted.within;
   gone = subst (λ (p : Page). ShowsNone p (rid % 2048)) (sym here) noted.gone;
 }
   where
@@ -179,15 +204,6 @@ IsNotedAt-set pages table rid page has noted = record {
 
     here : page_at (with_cell table number page pages) table number ≡ page
     here = set_page pages table number page table number has ∙ rw (eq-eqb table table refl, eq-eqb number number refl) refl
-
-    within : (t n : ℕ) → ShowsWithin (page_at pages t n) (page_at (with_cell table number page pages) t n)
-    within t n =
-        subst (λ (p : Page). ShowsWithin (page_at pages t n) p) (sym (set_page pages table number page t n has))
-        (either (λ (p : Page). ShowsWithin (page_at pages t n) p) ((table == t) && (number == n)) page (page_at pages t n)
-        (λ is. let are = both_are table number t n is in
-        subst (λ (k : ℕ). ShowsWithin (page_at pages k n) page) are.0
-        (subst (λ (k : ℕ). ShowsWithin (page_at pages table k) page) are.1 noted.within))
-        (λ isnt. ShowsWithin-refl (page_at pages t n)))
 
 -- a page that is not there
 pub IsNotedAt-past : (pages : List (List Page)) (table rid : ℕ) → length (row_of pages table) ≤ rid / 2048 → IsNotedAt pages pages table rid

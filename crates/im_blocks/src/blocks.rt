@@ -12,7 +12,7 @@ ghost use Rattle.im_history.specs.Puts.{all_changes};
 
 use crate::gathered::Gathered;
 use crate::image::{Image, fresh_end};
-use crate::pages::{PAGE, Page, note_each, renew_each};
+use crate::pages::{PAGE, Page, note_each, renew_each, reserve_each};
 use crate::picking::Picking;
 use crate::ready::Ready;
 use crate::scattered::Scattered;
@@ -41,8 +41,8 @@ pub struct Shown<'a> {
 ///
 /// Contracts see where the versions of each row number are kept, and read them through `versions_at`. A row number takes 4
 /// bytes. Rows that one commit put together at row numbers in a row share a run of 64 bytes; a row that was
-/// touched again, or taken away, has a chain of 80 bytes. Of 2,048 row numbers in a row that were changed often the newest rows
-/// are kept once more, side by side, so that a scan reads them together.
+/// touched again, or taken away, has a chain of 80 bytes. Of 2,048 row numbers in a row, once many of them were read one by one,
+/// the newest rows are kept once more, side by side, so that a scan reads them together.
 #[derive(Drop)]
 pub struct Blocks {
     alloc: Global,
@@ -76,21 +76,38 @@ impl Blocks {
     /// Makes the changes of these pieces ready to be put in, in order, and makes room for them.
     ///
     /// Rows that are put together at row numbers that have no version stay together, and are shared. It costs one look-up for
-    /// each row number below those that were ever used, and for each other change; and the chains that are new. After 16
-    /// changes of a page of 2,048 row numbers its newest rows are copied, if there is memory, and after 64 more, or those of 16
-    /// commits, again. After an error some room may be there.
+    /// each row number below those that were ever used, and for each other change; and the chains that are new. After an
+    /// error some room may be there.
     pub fn reserve(&mut self, pieces: &[Changes]) -> Result<Vec<Ready>, NoMemory>
         ensures same { SameVersions self.old self.new }
         ensures ready { IfOk result (λ ready. IsReadyFor self.new ready.items (all_changes pieces.now)) }
     {
         let ready = self.versions.reserve(pieces)?;
+        reserve_each(&mut self.pages, ready.as_slice());
+        Ok(ready)
+    }
+
+    /// Makes the images of the pages of so many row numbers from the first on anew, where that is due, as so many of their rows at
+    /// most are read now at an SCN. Where memory is out, a page stays as it is.
+    ///
+    /// Once 512 rows of a page were read that its image did not show, its newest rows are copied, unless one was changed behind
+    /// the SCN. Where nothing is due it costs a look at each page.
+    pub fn draw(&mut self, table: u32, first: u64, count: u64, scn: u64, most: u64)
+        ensures { self.new ≡ self.old }
+    {
+        let asked = Asked {
+            table,
+            end: first.saturating_add(count),
+            scn,
+        };
         renew_each(
             self.alloc,
             &self.versions,
             &mut self.pages,
-            ready.as_slice(),
+            asked,
+            first,
+            most,
         );
-        Ok(ready)
     }
 
     /// Puts the changes of the commit with this SCN in: each row that they touch has one version more, with what the last

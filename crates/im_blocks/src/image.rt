@@ -38,15 +38,13 @@ impl Image {
         }
     }
 
-    /// Shows the row at a place no more, and answers whether the place is one of the image's. It takes no memory.
-    pub fn forget(&mut self, place: u64) -> bool
+    /// Shows the row at a place no more. It takes no memory.
+    pub fn forget(&mut self, place: u64)
         ensures { IsForgotten self.old self.new place }
     {
-        if place >= self.fresh.len() as u64 {
-            return false;
+        if place < self.fresh.len() as u64 {
+            self.fresh[place as usize] = false;
         }
-        self.fresh[place as usize] = false;
-        true
     }
 }
 

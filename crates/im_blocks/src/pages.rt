@@ -1,13 +1,15 @@
-ghost use Rattle.std.specs.Prelude.{◌≡◌, ◌^◌, ◌<◌, List};
+ghost use Rattle.std.specs.Prelude.{◌≡◌, ◌^◌, ◌<◌, ◌≤◌, List};
 ghost use Rattle.std.specs.Bool.{OnTrue};
+ghost use Rattle.im_tables.specs.Table.{HasCell};
 ghost use Rattle.im_blocks.specs.declared.pages.Page.{Page as AnyPage};
 ghost use Rattle.im_blocks.specs.inner.Pages as spec;
-ghost use Rattle.im_blocks.specs.inner.Pages.{AreNoted, AreShown, HidesOne, IsNoted, IsNotedAt};
+ghost use Rattle.im_blocks.specs.inner.Pages.{AreNoted, AreShown, HidesOne, IsNoted, IsNotedAt, ShowWithin};
 
 use crate::drawing::image_of;
 use crate::image::Image;
 use crate::ready::Ready;
 use crate::version_table::VersionTable;
+use crate::version_table::extents::Asked;
 use im_tables::{Cell, Cells};
 use im_values::NoMemory;
 use std::alloc::Global;
@@ -15,14 +17,8 @@ use std::alloc::Global;
 /// How many row numbers a page has.
 pub const PAGE: u64 = 2048;
 
-/// From so many changes on a page gets its first image, and from so many commits on that changed rows of an image a new one.
-const SOME: u64 = 16;
-
-/// From so many changes on an image is made anew: a change then costs the copies of 32 rows.
-const MANY: u64 = 64;
-
-/// What is put behind an image counts from this part of its rows on: so each row is copied a few times in all.
-const PART: u64 = 8;
+/// Once so many rows of a page were read one by one, the next read finds a new image. To copy a page costs about as much.
+const ENOUGH: u64 = 512;
 
 /// A run of so many rows is read together without an image, and counts for none.
 const LONG: usize = 64;
@@ -30,14 +26,12 @@ const LONG: usize = 64;
 /// What is kept of row numbers in a row beside their versions.
 #[derive(Drop)]
 pub struct Page {
-    /// How many times a row of the image was changed since it was made.
-    pub changed: u64,
-    /// How many commits did so.
-    pub commits: u64,
-    /// The SCN of the last of them, or 0.
+    /// How many times a row was changed or put since the image was made: so many are read one by one, or fewer.
+    pub apart: u64,
+    /// How many were read so since.
+    pub read: u64,
+    /// The SCN of the last commit that did so, or 0.
     pub noted: u64,
-    /// How many times rows were put behind those of the image since, or changed or put where there is no image.
-    pub added: u64,
     /// The image, if one was made.
     pub image: Option<Image>,
 }
@@ -47,48 +41,41 @@ impl Cell for Page {
 
     fn empty(_alloc: Global) -> Page {
         Page {
-            changed: 0,
-            commits: 0,
+            apart: 0,
+            read: 0,
             noted: 0,
-            added: 0,
             image: None,
         }
     }
 }
 
 impl Page {
-    /// Whether so much was changed, or put behind, that an image pays. One that is there is made anew after a few commits too: then
-    /// what is read beside it stays little.
-    fn is_due(&self) -> bool {
-        match &self.image {
-            Some(image) => {
-                let rows = image.fresh.len() as u64;
-                self.changed >= MANY || self.commits >= SOME || self.added >= MANY.max(rows / PART)
-            }
-            None => self.added >= SOME,
-        }
+    /// Whether so many rows were read one by one that an image pays, and one of the newest rows serves at this SCN. Those that are
+    /// read now, so many at most, count from the next time on.
+    fn is_due(&mut self, scn: u64, most: u64) -> bool
+        ensures { self.new.image ≡ self.old.image }
+    {
+        let due = self.read >= ENOUGH && self.noted <= scn;
+        self.read = self.read.saturating_add(self.apart.min(most));
+        due
     }
 
     /// Takes note of a change of the row at a place by the commit with this SCN. It is not shown any more.
     fn note(&mut self, place: u64, scn: u64)
         ensures { IsNoted self.old self.new place }
     {
-        if self.forget(place) {
-            self.changed = self.changed.saturating_add(1);
-            self.commits = self.commits.saturating_add((self.noted != scn) as u64);
-            self.noted = scn;
-        } else {
-            self.added = self.added.saturating_add(1);
-        }
+        self.forget(place);
+        self.apart = self.apart.saturating_add(1);
+        self.noted = scn;
     }
 
-    /// Shows the row at a place no more, and answers whether the place is one of the image's.
-    fn forget(&mut self, place: u64) -> bool
+    /// Shows the row at a place no more.
+    fn forget(&mut self, place: u64)
         ensures { IsNoted self.old self.new place }
     {
         match &mut self.image {
             Some(image) => image.forget(place),
-            None => false,
+            None => (),
         }
     }
 }
@@ -144,55 +131,82 @@ pub fn note_each(pages: &mut Cells<Page>, ready: &[Ready], scn: u64)
     }
 }
 
-/// Whether the image of a page is due.
-fn is_due(pages: &Cells<Page>, table: u32, number: u64) -> bool {
-    match pages.get(table, number) {
-        Some(page) => page.is_due(),
-        None => false,
+/// Sees to it that the pages are there that changes are noted in. Where memory is out, one is missing: it has no image then.
+pub fn reserve_each(pages: &mut Cells<Page>, ready: &[Ready])
+    ensures { ShowWithin pages.old pages.new }
+{
+    for one in ready {
+        let (table, rid) = place_of(one);
+        let number = rid / PAGE;
+        if number >= pages.count(table) {
+            let _ = pages.reserve(table, number);
+        }
     }
 }
 
-/// Makes the image of a page anew, where that is due.
+/// Whether the image of a page is due, of which so many rows at most are read now.
+fn is_due(pages: &mut Cells<Page>, asked: Asked, number: u64, most: u64) -> bool
+    requires { HasCell pages.old asked.table number }
+    ensures there { HasCell pages.new asked.table number }
+    ensures within { ShowWithin pages.old pages.new }
+{
+    pages.cell_mut(asked.table, number).is_due(asked.scn, most)
+}
+
+/// Makes the image of a page anew, of which so many rows at most are read now, where that is due.
 fn renew(
     alloc: Global,
     versions: &VersionTable,
     pages: &mut Cells<Page>,
-    table: u32,
+    asked: Asked,
     number: u64,
+    most: u64,
 ) -> Result<(), NoMemory>
     requires number { number < 2 ^ 53 }
     requires shown { AreShown versions.now pages.old }
     ensures { AreShown versions.now pages.new }
 {
-    pages.reserve(table, number)?;
-    if !is_due(pages, table, number) {
+    let table = asked.table;
+    if number >= pages.count(table) {
+        return Ok(());
+    }
+    if !is_due(pages, asked, number, most) {
         return Ok(());
     }
     let first = number * PAGE;
     let count = versions.count(table).saturating_sub(first).min(PAGE);
     let image = image_of(alloc, versions, table, first, count)?;
     *pages.cell_mut(table, number) = Page {
-        changed: 0,
-        commits: 0,
+        apart: 0,
+        read: 0,
         noted: 0,
-        added: 0,
         image: Some(image),
     };
     Ok(())
 }
 
-/// Makes images anew, where that is due, of the pages that changes touch and of those before. Where memory is out, a page stays
-/// as it is.
-pub fn renew_each(alloc: Global, versions: &VersionTable, pages: &mut Cells<Page>, ready: &[Ready])
+/// The number of the page behind those of the row numbers before one.
+fn page_behind(end: u64) -> u64
+    ensures { result ≤ 2 ^ 53 }
+{
+    end.saturating_add(PAGE - 1) / PAGE
+}
+
+/// Makes the images of the pages of row numbers from the first on anew, where that is due, as so many of their rows at most are
+/// read now. Where memory is out, a page stays as it is.
+pub fn renew_each(
+    alloc: Global,
+    versions: &VersionTable,
+    pages: &mut Cells<Page>,
+    asked: Asked,
+    first: u64,
+    most: u64,
+)
     requires { AreShown versions.now pages.old }
     ensures { AreShown versions.now pages.new }
 {
-    for one in ready {
-        let (table, rid) = place_of(one);
-        let number = rid / PAGE;
-        let _ = renew(alloc, versions, pages, table, number);
-        if number > 0 {
-            let _ = renew(alloc, versions, pages, table, number - 1);
-        }
+    let end = page_behind(asked.end).min(pages.count(asked.table));
+    for number in first / PAGE..end {
+        let _ = renew(alloc, versions, pages, asked, number, most);
     }
 }

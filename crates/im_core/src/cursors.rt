@@ -147,9 +147,32 @@ impl<U: UnitLike> Core<U> {
         ensures err { IfErr result (λ why. IsRefusal self.old.log None why) }
     {
         let caller = Who::of(who);
+        self.draw(caller, cursor, extent);
         match self.read(caller, cursor, extent, steps) {
             Ok(pin) => Ok(pin),
             Err(NoMemory) => Err(self.refused(Why::NoMemory)),
+        }
+    }
+
+    /// Lets the images of an extent that a cursor reads be made anew, where that is due.
+    fn draw(&mut self, who: Who, cursor: u32, extent: u64)
+        ensures { self.new ≡ self.old }
+    {
+        if let Some(view) = self.sessions.cursor(who, cursor) {
+            let first = extent.saturating_mul(view.per);
+            let most = self.most_read(view, extent);
+            self.blocks
+                .draw(view.table, first, view.per, view.scn, most);
+        }
+    }
+
+    /// How many rows of an extent a cursor has to read at most: those beside the unit that it is lent, or all.
+    fn most_read(&self, view: Cursor, extent: u64) -> u64 {
+        match self.directory.unit(view.table, extent) {
+            Some(unit) if unit.scn() <= view.scn => {
+                self.directory.stale_count(view.table, extent)
+            }
+            _ => view.per,
         }
     }
 

@@ -12,7 +12,7 @@ use Rattle.im_blocks.specs.Chains.{AllVersions, versions_at}
 
 -- a page without an image
 abbrev pub no_page : Page
-no_page = record { changed = 0; commits = 0; noted = 0; added = 0; image = None }
+no_page = record { apart = 0; read = 0; noted = 0; image = None }
 
 -- a page shows a row at a place and an SCN
 pub record Shows (page : Page) (place scn : ℕ) (row : Option (List Value)) : Type 0 where
