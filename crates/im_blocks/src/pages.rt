@@ -17,7 +17,7 @@ use std::alloc::Global;
 /// How many row numbers a page has.
 pub const PAGE: u64 = 2048;
 
-/// Once so many rows of a page were read one by one, the next read finds a new image. To copy a page costs about as much.
+/// Once so many rows of a page were read one by one, the next read finds a new image. To copy a page costs some three times as much.
 const ENOUGH: u64 = 512;
 
 /// A run of so many rows is read together without an image, and counts for none.
