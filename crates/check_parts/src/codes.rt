@@ -47,11 +47,11 @@ fn is_in_order(dict: &Dict, values: &[Value]) -> bool {
         }
     }
     for (number, code) in [(9, 1), (10, 1), (20, 2), (30, 2), (31, 3)] {
-        if dict.lower(&Value::Int(number)) != code {
+        if dict.lower(&Value::int(number)) != code {
             return false;
         }
     }
-    dict.len() == 4 && dict.code_of(&Value::Int(20)).is_none()
+    dict.len() == 4 && dict.code_of(&Value::int(20)).is_none()
 }
 
 #[test]
@@ -66,14 +66,14 @@ fn a_dictionary_numbers_the_distinct_values_in_their_order(rt: HostRuntime) -> R
 /// Whether a dictionary has the code of NULL alone.
 fn is_of_null_alone(dict: &Dict) -> bool {
     dict.is_empty()
-        && dict.code_of(&Value::Null) == Some(0)
-        && dict.code_of(&Value::Int(0)).is_none()
-        && dict.lower(&Value::Int(0)) == 1
+        && dict.code_of(&Value::null()) == Some(0)
+        && dict.code_of(&Value::int(0)).is_none()
+        && dict.lower(&Value::int(0)) == 1
 }
 
 #[test]
 fn a_dictionary_of_no_value_has_the_code_of_null_alone(rt: HostRuntime) -> Result<(), Fail> {
-    let nulls = [Value::Null, Value::Null];
+    let nulls = [Value::null(), Value::null()];
     for count in 0..3 {
         let dict = dictionary(rt.alloc(), &nulls[..count])?;
         assert!(rt; is_of_null_alone(&dict));
@@ -164,7 +164,7 @@ fn a_dictionary_picks_codes_while_it_is_that_of_the_values(rt: HostRuntime) -> R
     )?;
     let lent = lend_values(rt.alloc(), values.as_slice())?;
     assert!(rt; lent.len() < 8);
-    let known = [&Value::Int(10), &Value::Null];
+    let known = [&Value::int(10), &Value::null()];
     let cases: [(&[u32], Option<&[u32]>); 5] = [
         (&[0, 1, 2, 3], Some(&[2, 0, 1, 2])),
         (&[4, 0, 5], Some(&[1, 2, 0])),
@@ -176,7 +176,7 @@ fn a_dictionary_picks_codes_while_it_is_that_of_the_values(rt: HostRuntime) -> R
         let codes = picked(rt.alloc(), lent.as_slice(), &known, places)?;
         assert!(rt; is_picked_as(&codes, wanted));
     }
-    let codes = picked(rt.alloc(), lent.as_slice(), &[&Value::Int(30)], &[0, 2])?;
+    let codes = picked(rt.alloc(), lent.as_slice(), &[&Value::int(30)], &[0, 2])?;
     assert!(rt; codes.is_none());
     Ok(())
 }

@@ -5,7 +5,7 @@ use crate::values::Cell::{Int, Null, Text};
 use crate::values::{Cell, text, values_of};
 use Shape::{Coded, Plain, Runs};
 use im_column::{Column, Form};
-use im_values::{NoMemory, Value};
+use im_values::{NoMemory, Seen, Value};
 use std::alloc::Global;
 use std::test::Fail;
 
@@ -75,8 +75,8 @@ fn built(alloc: Global, values: &[Value]) -> Result<Column, NoMemory>
 fn sum(values: &[Value]) -> i128 {
     let mut sum = 0i128;
     for value in values {
-        if let Value::Int(number) = value {
-            sum = sum.wrapping_add(i128::from(*number));
+        if let Seen::Int(number) = value.seen() {
+            sum = sum.wrapping_add(i128::from(number));
         }
     }
     sum
@@ -93,7 +93,7 @@ fn agrees(column: &Column, values: &[Value]) -> bool {
         }
     }
     let bounds = column.bounds();
-    let some = |value: &&Value| **value != Value::Null;
+    let some = |value: &&Value| **value != Value::null();
     bounds.least.as_ref() == values.iter().filter(some).min()
         && bounds.greatest.as_ref() == values.iter().filter(some).max()
         && bounds.nulls == values.iter().filter(|value| !some(value)).count() as u64
@@ -135,9 +135,9 @@ fn nth(alloc: Global, series: Series, number: u32) -> Result<Value, NoMemory>
     ensures { IfOk result IsShort }
 {
     match series {
-        _ if number == 0 => Ok(Value::Null),
-        Series::Numbers(apart) => Ok(Value::Int(i64::from(number).wrapping_mul(apart))),
-        Series::Mixed if number % 2 == 0 => Ok(Value::Int(i64::from(number))),
+        _ if number == 0 => Ok(Value::null()),
+        Series::Numbers(apart) => Ok(Value::int(i64::from(number).wrapping_mul(apart))),
+        Series::Mixed if number % 2 == 0 => Ok(Value::int(i64::from(number))),
         Series::Mixed => text(alloc, &number.to_be_bytes()),
     }
 }
@@ -206,7 +206,7 @@ fn lends_each(alloc: Global, values: &[Value]) -> Result<bool, NoMemory>
         return Ok(false);
     }
     let column = built(alloc, values)?;
-    let null = Value::Null;
+    let null = Value::null();
     for first in 0..column.len() + 1 {
         if !lends(&column, values, &null, first) {
             return Ok(false);

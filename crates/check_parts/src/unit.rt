@@ -10,7 +10,7 @@ use crate::column::shape_of;
 use im_column::Column;
 use im_history::{LentRow, UnitLike, lent_values};
 use im_unit::ColumnUnit;
-use im_values::{Name, NoMemory, Row, Value};
+use im_values::{Name, NoMemory, Row, Seen, Value};
 use std::alloc::Global;
 use std::test::Fail;
 
@@ -22,7 +22,7 @@ fn row(alloc: Global, number: Option<i64>) -> Result<Option<Row>, Fail>
     match number {
         Some(number) => {
             let mut values = Vec::new(alloc);
-            values.push(Value::Int(number))?;
+            values.push(Value::int(number))?;
             Ok(Some(Row::of(values)))
         }
         None => Ok(None),
@@ -31,8 +31,8 @@ fn row(alloc: Global, number: Option<i64>) -> Result<Option<Row>, Fail>
 
 /// The number of a row of one.
 fn number(row: &Option<Row>) -> Option<i64> {
-    match row.as_ref()?.values().first()? {
-        Value::Int(number) => Some(*number),
+    match row.as_ref()?.values().first()?.seen() {
+        Seen::Int(number) => Some(number),
         _ => None,
     }
 }
@@ -69,10 +69,10 @@ fn mixed(alloc: Global, number: u64) -> Result<Value, NoMemory>
     ensures { IfOk result IsShort }
 {
     match number % 5 {
-        0 => Ok(Value::Null),
-        1 => Ok(Value::Text(Name::of(alloc, b"a text of more than 14 bytes")?)),
-        2 => Ok(Value::Text(Name::of(alloc, &number.to_be_bytes())?)),
-        _ => Ok(Value::Int((number % 1000) as i64)),
+        0 => Ok(Value::null()),
+        1 => Ok(Value::text(Name::of(alloc, b"a text of more than 14 bytes")?)),
+        2 => Ok(Value::text(Name::of(alloc, &number.to_be_bytes())?)),
+        _ => Ok(Value::int((number % 1000) as i64)),
     }
 }
 

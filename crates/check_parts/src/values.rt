@@ -16,8 +16,8 @@ fn value(alloc: Global, cell: Cell) -> Result<Value, NoMemory>
     ensures { IfOk result IsShort }
 {
     match cell {
-        Cell::Null => Ok(Value::Null),
-        Cell::Int(number) => Ok(Value::Int(number)),
+        Cell::Null => Ok(Value::null()),
+        Cell::Int(number) => Ok(Value::int(number)),
         Cell::Text(bytes) => text(alloc, bytes),
     }
 }
@@ -27,7 +27,7 @@ pub fn text(alloc: Global, bytes: &[u8]) -> Result<Value, NoMemory>
     ensures { IfOk result IsShort }
 {
     let kept = &bytes[..bytes.len().min(65_535)];
-    Ok(Value::Text(Name::of(alloc, kept)?))
+    Ok(Value::text(Name::of(alloc, kept)?))
 }
 
 /// Puts the value of a cell behind others, so many times.

@@ -1,6 +1,6 @@
 ghost use Rattle.std.specs.Prelude.{◌≡◌, ◌<◌};
 
-use im_values::{Row, Steps, Value};
+use im_values::{Row, Seen, Steps, Value};
 use im_versions::Chain;
 use std::alloc::Global;
 use std::marker::Brand;
@@ -13,7 +13,7 @@ fn put(alloc: Global, chain: &mut Chain, scn: u64, number: Option<i64>) -> Resul
     let row = match number {
         Some(number) => {
             let mut values = Vec::new(alloc);
-            values.push(Value::Int(number))?;
+            values.push(Value::int(number))?;
             Some(Row::of(values))
         }
         None => None,
@@ -30,8 +30,8 @@ fn put(alloc: Global, chain: &mut Chain, scn: u64, number: Option<i64>) -> Resul
 
 /// The number of a row of one.
 fn number(row: Option<&Row>) -> Option<i64> {
-    match row?.values().first()? {
-        Value::Int(number) => Some(*number),
+    match row?.values().first()?.seen() {
+        Seen::Int(number) => Some(number),
         _ => None,
     }
 }

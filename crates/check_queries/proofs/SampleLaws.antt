@@ -1,7 +1,7 @@
 -- The query of the sample may be asked of its rows, and its counts are theirs.
 use Rattle.std.proofs.Common.{◌≡◌, false, refl, sym, lit<}
 use Rattle.std.specs.List.{AllByRecursion}
-use Rattle.im_values.specs.declared.value.Value.{Value}
+use Rattle.im_values.specs.declared.content.Content.{Content as Value}
 use Rattle.im_syntax.specs.BoundFits.{BoundFits, is_text}
 use Rattle.im_syntax.specs.BoundQuery.{IsQuery}
 use Rattle.im_group.proofs.ForCallers.{counts-in_order}

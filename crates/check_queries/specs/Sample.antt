@@ -1,7 +1,7 @@
 -- A query with groups, the rows of a small table, and their counts.
 use Rattle.std.specs.Prelude.{ℕ, ◌*◌, pos, true, None, List, [], ◌∷◌}
-use Rattle.im_values.specs.declared.value.Value.{Value}
-use Rattle.im_values.specs.declared.value.Value.TheVariants.{Int, Null}
+use Rattle.im_values.specs.declared.content.Content.{Content as Value}
+use Rattle.im_values.specs.declared.content.Content.TheVariants.{Int, Null}
 use Rattle.im_syntax.specs.declared.item.Function.TheVariants as function
 use Rattle.im_syntax.specs.declared.item.ItemOf.TheVariants as item
 use Rattle.im_syntax.specs.declared.bound.Bound.{Bound}

@@ -1,6 +1,6 @@
 ghost use Rattle.std.specs.Prelude.{◌≡◌, ◌<◌, ◌^◌, true, length, IfOk};
 ghost use Rattle.std.specs.List.{AllByRecursion};
-ghost use Rattle.im_values.specs.declared.value.Value.TheVariants.{Int};
+ghost use Rattle.im_values.specs.declared.content.Content.TheVariants.{Int};
 ghost use Rattle.im_syntax.specs.BoundFits.{BoundFits};
 ghost use Rattle.im_syntax.specs.BoundQuery.{IsQuery};
 ghost use Rattle.im_group.specs.Counts.{counted_of, counts_in};
@@ -39,16 +39,16 @@ fn query(alloc: Global) -> Result<Bound, NoMemory>
 fn row(alloc: Global, key: i64, value: Value) -> Result<Row, NoMemory>
     ensures { IfOk result (λ row. row ≡ sample.row (Int key) value) }
 {
-    Ok(Row::of(vec![in alloc; Value::Int(key), value]?))
+    Ok(Row::of(vec![in alloc; Value::int(key), value]?))
 }
 
 /// Three rows of two groups.
 fn rows(alloc: Global) -> Result<Vec<(u64, Row)>, NoMemory>
     ensures { IfOk result (λ rows. rows.items ≡ sample.rows) }
 {
-    let first = row(alloc, 2, Value::Int(5))?;
-    let second = row(alloc, 1, Value::Int(7))?;
-    let third = row(alloc, 2, Value::Null)?;
+    let first = row(alloc, 2, Value::int(5))?;
+    let second = row(alloc, 1, Value::int(7))?;
+    let third = row(alloc, 2, Value::null())?;
     Ok(vec![in alloc; (0, first), (1, second), (2, third)]?)
 }
 
@@ -62,13 +62,13 @@ fn counted(alloc: Global, key: u16, rows: u16, value: u16) -> Result<Counted, No
     let of_keys = Sums::of(
         u64::from(rows),
         total,
-        Value::Int(number),
-        Value::Int(number),
+        Value::int(number),
+        Value::int(number),
     );
     let only = i64::from(value);
-    let of_values = Sums::of(1, i128::from(value), Value::Int(only), Value::Int(only));
+    let of_values = Sums::of(1, i128::from(value), Value::int(only), Value::int(only));
     Ok(Counted {
-        key: vec![in alloc; Value::Int(number)]?,
+        key: vec![in alloc; Value::int(number)]?,
         rows: u64::from(rows),
         sums: vec![in alloc; of_keys, of_values]?,
     })
@@ -157,7 +157,7 @@ fn rows_counts_and_kept_rows_give_one_answer(rt: HostRuntime) -> Result<(), Fail
     let found = counts(alloc)?;
     let part = part_of_counts(alloc, &bound, found.as_slice())?;
     assert!(rt; gives(alloc, &bound, part, &WANTED)?);
-    let third = row(alloc, 2, Value::Null)?;
+    let third = row(alloc, 2, Value::null())?;
     let part = part_of_kept(
         alloc,
         &bound,

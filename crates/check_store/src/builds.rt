@@ -20,7 +20,7 @@ use im_replies::{Body, How, Records, Reply};
 use im_session::Session;
 use im_unit::ColumnUnit;
 use im_values::limits::{MOST_CHANGES, MOST_WEIGHT, NUMBERS};
-use im_values::{NoMemory, Row, Steps, Value};
+use im_values::{NoMemory, Row, Seen, Steps, Value};
 use std::alloc::Global;
 use std::marker::Brand;
 use std::sync::ledger::{Blank, Ledger};
@@ -38,13 +38,26 @@ const FAST_BUILDER: u32 = 19;
 
 const EVICTOR: u32 = 20;
 
+/// Whether values are one number.
+fn are_one_number(values: &[Value]) -> bool
+    ensures width { OnTrue result (length values.now ≡ 1) }
+    ensures short { OnTrue result (All IsShort values.now) }
+{
+    values.len() == 1 && matches!(values[0].seen(), Seen::Int(_))
+}
+
+/// Whether values are this one number.
+fn are_this_number(values: &[Value], number: i64) -> bool {
+    values.len() == 1 && matches!(values[0].seen(), Seen::Int(value) if value == number)
+}
+
 /// Whether a row, where there is one, has one number.
 fn has_one_number(row: &Option<Row>) -> bool
     ensures width { OnTrue result (ForSome row.now (λ values. length values ≡ 1)) }
     ensures short { OnTrue result (ForSome row.now (λ values. All IsShort values)) }
 {
     match row {
-        Some(row) => matches!(row.values(), [Value::Int(_)]),
+        Some(row) => are_one_number(row.values()),
         None => true,
     }
 }
@@ -259,7 +272,7 @@ fn build_now<R: Wait, H: Reach<ColumnUnit>, L: Ledger>(
 /// Whether a row is of this one number.
 fn is_of(row: &Option<Row>, number: i64) -> bool {
     match row {
-        Some(row) => matches!(row.values(), [Value::Int(value)] if *value == number),
+        Some(row) => are_this_number(row.values(), number),
         None => false,
     }
 }

@@ -7,7 +7,7 @@ use Rattle.std.proofs.lemmas.Option.{slice_get-get_or}
 use Rattle.im_tables.specs.Table.{row_of}
 use Rattle.im_tables.proofs.ForCallers.{HasCell-where}
 use Rattle.im_tables.proofs.Wholes.{cell_at-line}
-use Rattle.im_values.specs.declared.value.Value.{Value}
+use Rattle.im_values.specs.declared.content.Content.{Content as Value}
 use Rattle.im_versions.specs.declared.version.Version.{Version}
 use Rattle.im_versions.specs.Versions.{row_at}
 use Rattle.im_versions.proofs.ForCallers.{row_at-push}

@@ -10,7 +10,7 @@ use Rattle.std.proofs.lemmas.Option.{slice_get-get_or}
 use Rattle.im_tables.specs.Table.{HasCell, IsGrown, cell_at, row_of, with_cell}
 use Rattle.im_tables.proofs.ForCallers.{cell_at-nil, cell_at-past, cell_at-with_cell}
 use Rattle.im_tables.proofs.Tests.{and-true, eq-true}
-use Rattle.im_values.specs.declared.value.Value.{Value}
+use Rattle.im_values.specs.declared.content.Content.{Content as Value}
 use Rattle.im_versions.specs.declared.version.Version.{Version}
 use Rattle.im_versions.specs.Versions.{row_at}
 use Rattle.im_history.specs.declared.change.Change.{Change}

@@ -6,7 +6,7 @@ use Rattle.std.proofs.lemmas.Option.{slice_get-get_or}
 use Rattle.std.proofs.Math.Seq.{get_or-append_seam}
 use Rattle.im_values.specs.Runs.{picked}
 use Rattle.im_values.specs.Stretches.{cut}
-use Rattle.im_values.specs.declared.value.Value.{Value}
+use Rattle.im_values.specs.declared.content.Content.{Content as Value}
 use Rattle.im_values.proofs.ForCallers.{cut-push}
 use Rattle.im_history.specs.Fetched.{each_at}
 use Rattle.im_history.proofs.FetchedLaws.{each_at-push}

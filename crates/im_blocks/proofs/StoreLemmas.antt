@@ -7,7 +7,7 @@ use Rattle.std.proofs.lemmas.Bool.{cases_eq, eq-eqb, ne_eqb, true≢false}
 use Rattle.im_tables.specs.Table.{HasCell, IsGrown, row_of, with_cell}
 use Rattle.im_tables.proofs.Tests.{and-true, eq-true}
 use Rattle.im_tables.proofs.ForCallers.{HasCell-grown, HasCell-with_cell, cell_at-past, cell_at-with_cell_other, cell_at-with_cell_same, same_cell}
-use Rattle.im_values.specs.declared.value.Value.{Value}
+use Rattle.im_values.specs.declared.content.Content.{Content as Value}
 use Rattle.im_versions.specs.declared.version.Version.{Version}
 use Rattle.im_blocks.specs.declared.run.Run.{Run}
 use Rattle.im_blocks.specs.declared.slot.Slot.{Slot}

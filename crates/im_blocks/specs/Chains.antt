@@ -1,7 +1,7 @@
 -- The versions of all rows, read by table and row number.
 use Rattle.std.specs.Prelude.{◌≡◌, ℕ, ◌<◌, ◌==◌, ◌&&◌, Bool, true, List, [], ◌∷◌, map, unwrap_or, slice_get, Option, None, Some, if◌then◌else◌}
 use Rattle.std.specs.List.{range_with_len}
-use Rattle.im_values.specs.declared.value.Value.{Value}
+use Rattle.im_values.specs.declared.content.Content.{Content as Value}
 use Rattle.im_tables.specs.Table.{HasCell, cell_at}
 use Rattle.im_versions.specs.declared.version.Version.{Version}
 use Rattle.im_versions.specs.Versions.{latest, row_at}

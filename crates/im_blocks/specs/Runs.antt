@@ -1,6 +1,6 @@
 -- The rows of a run, by row number.
 use Rattle.std.specs.Prelude.{ℕ, ◌-◌, ◌==◌, ◌&&◌, Bool, List, [], ◌∷◌, length, nat_le, nat_lt, slice_get}
-use Rattle.im_values.specs.declared.value.Value.{Value}
+use Rattle.im_values.specs.declared.content.Content.{Content as Value}
 use Rattle.im_versions.specs.declared.version.Version.{Version}
 use Rattle.im_blocks.specs.declared.run.Held.{Held}
 use Rattle.im_blocks.specs.declared.run.Held.TheVariants.{Many, One}

@@ -53,7 +53,7 @@ fn nulls_of(alloc: Global, count: usize) -> Result<Vec<Value>, NoMemory>
 {
     let mut nulls = Vec::with_capacity(alloc, count)?;
     for _ in 0..count {
-        nulls.push(Value::Null)?;
+        nulls.push(Value::null())?;
     }
     Ok(nulls)
 }

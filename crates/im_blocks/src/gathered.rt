@@ -39,11 +39,7 @@ fn put_value(alloc: Global, values: &mut Vec<Value>, value: &Value) -> Result<()
     ensures len { OnOk result (vec_len values.new ≡ vec_len values.old + 1) }
     ensures capacity { vec_capacity values.new ≡ vec_capacity values.old }
 {
-    match value {
-        Value::Int(number) => values.push_reserved(Value::Int(*number)),
-        Value::Text(text) => values.push_reserved(Value::Text(text.copy(alloc)?)),
-        Value::Null => values.push_reserved(Value::Null),
-    }
+    values.push_reserved(value.copy(alloc)?);
     Ok(())
 }
 

@@ -2,8 +2,8 @@
 use Rattle.std.proofs.Common.{◌≡◌, ℕ, ◌+◌, ◌-◌, ◌*◌, ◌<◌, ◌≤◌, min, replicate, Bool, true, false, cond, List, [], ◌∷◌, ◌++◌, length, take, drop, map, get_or, ⊎_elim, sym, refl, ap, subst, ◌∙◌, arith, length-append, length-drop, get_or-drop}
 use Rattle.std.proofs.lemmas.Bool.{cases_lt, cases_Bool, lt-leb, le-leb, lt-ltb, le-ltb}
 use Rattle.std.proofs.lemmas.List.{length-replicate, length-map, get_or-map, get_or_read, map_more, take_all, take_rest, take-map, drop-map, drop-drop, drop_at, drop_more, drop_all, get_or_append_left, get_or-replicate, get_or_past, get_or_default, same_lists}
-use Rattle.im_values.specs.declared.value.Value.{Value}
-use Rattle.im_values.specs.declared.value.Value.TheVariants.{Null}
+use Rattle.im_values.specs.declared.content.Content.{Content as Value}
+use Rattle.im_values.specs.declared.content.Content.TheVariants.{Null}
 use Rattle.im_codes.specs.declared.run.Run.{Run}
 use Rattle.im_codes.specs.Runs.{codes_from, AreFull}
 use Rattle.im_lanes.specs.Masks.{word_at, word_of, filled}

@@ -10,8 +10,8 @@ use Rattle.std.proofs.lemmas.Int.{ints}
 use Rattle.std.proofs.lemmas.Map.Keys.{Less-from_sorted}
 use Rattle.im_values.specs.Order.{order, is_null}
 use Rattle.im_values.proofs.ForCallers.{order_total}
-use Rattle.im_values.specs.declared.value.Value.{Value}
-use Rattle.im_values.specs.declared.value.Value.TheVariants.{Int, Text, Null}
+use Rattle.im_values.specs.declared.content.Content.{Content as Value}
+use Rattle.im_values.specs.declared.content.Content.TheVariants.{Int, Text, Null}
 use Rattle.im_codes.specs.Dictionary.{coded, values_at, present, IsDictionary}
 use Rattle.std.proofs.lemmas.List.{length-replicate, drop-drop, drop_more, drop_all, take_at}
 use Rattle.std.proofs.lemmas.List.Sums.{fold-append, sum_by-cons, count_by-le-length}

@@ -4,8 +4,8 @@ use Rattle.std.proofs.Math.Nat.{pow-suc}
 use Rattle.std.proofs.Math.Pow.{pow_mono}
 use Rattle.std.proofs.lemmas.Bool.{cases_lt}
 use Rattle.std.proofs.lemmas.List.{length-map, get_or-map}
-use Rattle.im_values.specs.declared.value.Value.{Value}
-use Rattle.im_values.specs.declared.value.Value.TheVariants.{Null}
+use Rattle.im_values.specs.declared.content.Content.{Content as Value}
+use Rattle.im_values.specs.declared.content.Content.TheVariants.{Null}
 use Rattle.im_syntax.specs.BoundFits.{value_at}
 use Rattle.im_codepred.specs.inner.Slabs.{column_of}
 use Rattle.im_codepred.specs.inner.Tallying.{at_bits}

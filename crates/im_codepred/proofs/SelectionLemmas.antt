@@ -5,8 +5,8 @@ use Rattle.std.proofs.lemmas.List.{length-map, get_or-map, get_or-replicate, len
 use Rattle.std.proofs.lemmas.List.FromFn.{length-map-range_with_len, get_or-map-range_with_len, fill_by_all}
 use Rattle.im_values.specs.declared.truth.Truth.{Truth}
 use Rattle.im_values.specs.declared.truth.Truth.TheVariants.{Yes, No, Unknown}
-use Rattle.im_values.specs.declared.value.Value.{Value}
-use Rattle.im_values.specs.declared.value.Value.TheVariants.{Null}
+use Rattle.im_values.specs.declared.content.Content.{Content as Value}
+use Rattle.im_values.specs.declared.content.Content.TheVariants.{Null}
 use Rattle.im_values.specs.Truth as truth
 use Rattle.im_syntax.specs.Condition.{TermOf, null_test, between, within, ConjOf, conj_of, cond_of, and_term, or_conj}
 use Rattle.im_syntax.specs.BoundFits.{value_at, TestFits, TestsFit, FilterFits}

@@ -1,8 +1,8 @@
 -- What the chosen values of a column come to.
 use Rattle.std.proofs.Common.{◌≡◌, ℕ, ◌<◌, Bool, true, false, List, [], ◌∷◌, length, get_or, fold, All, sym, refl, ap, subst, ◌∙◌, arith}
 use Rattle.std.proofs.lemmas.List.Elements.{All-head, All-tail, All-cons}
-use Rattle.im_values.specs.declared.value.Value.{Value}
-use Rattle.im_values.specs.declared.value.Value.TheVariants.{Null}
+use Rattle.im_values.specs.declared.content.Content.{Content as Value}
+use Rattle.im_values.specs.declared.content.Content.TheVariants.{Null}
 use Rattle.im_codes.specs.Dictionary.{coded, values_at, IsDictionary}
 use Rattle.im_codepred.specs.declared.tally.Tally.{Tally}
 use Rattle.im_codepred.specs.Tallies.{chosen, some_of, IsTallyOf, IsTallyFor}

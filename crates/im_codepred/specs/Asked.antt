@@ -1,6 +1,6 @@
 -- What a test asks of the values of a column.
 use Rattle.std.specs.Prelude.{Bool, true, false, if◌then◌else◌}
-use Rattle.im_values.specs.declared.value.Value.{Value}
+use Rattle.im_values.specs.declared.content.Content.{Content as Value}
 use Rattle.im_values.specs.declared.truth.Truth.{Truth}
 use Rattle.im_values.specs.declared.truth.Truth.TheVariants.{Yes, No, Unknown}
 use Rattle.im_values.specs.Order.{compare}

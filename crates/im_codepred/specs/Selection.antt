@@ -2,8 +2,8 @@
 use Rattle.std.specs.Prelude.{◌≡◌, ℕ, ◌<◌, Bool, List, All, length, map, get_or}
 use Rattle.std.specs.List.{range_with_len}
 use Rattle.im_values.specs.declared.truth.Truth.{Truth}
-use Rattle.im_values.specs.declared.value.Value.{Value}
-use Rattle.im_values.specs.declared.value.Value.TheVariants.{Null}
+use Rattle.im_values.specs.declared.content.Content.{Content as Value}
+use Rattle.im_values.specs.declared.content.Content.TheVariants.{Null}
 use Rattle.im_codepred.specs.declared.asked.Wanted.{Wanted}
 use Rattle.im_codepred.specs.Asked.{met}
 

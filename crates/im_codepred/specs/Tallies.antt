@@ -1,8 +1,8 @@
 -- The values at the chosen positions of a column, and what they come to.
 use Rattle.std.specs.Prelude.{◌≡◌, ◌<◌, ◌*◌, ◌^◌, count_by, slice_index, slice_index_or, ℕ, Bool, true, List, [], ◌∷◌, Option, Some, None, length, fold, option_copied, ℤ, pos, neg_ℤ, ◌+ℤ◌, ◌≤ℤ◌, if◌then◌else◌}
 use Rattle.std.specs.Ordering.{is_lt, is_eq}
-use Rattle.im_values.specs.declared.value.Value.{Value}
-use Rattle.im_values.specs.declared.value.Value.TheVariants.{Int, Text, Null}
+use Rattle.im_values.specs.declared.content.Content.{Content as Value}
+use Rattle.im_values.specs.declared.content.Content.TheVariants.{Int, Text, Null}
 use Rattle.im_values.specs.Order.{order, is_null}
 use Rattle.im_codes.specs.Dictionary.{present}
 use Rattle.im_codepred.specs.declared.tally.Tally.{Tally}

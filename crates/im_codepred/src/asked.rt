@@ -5,7 +5,7 @@ ghost use Rattle.im_codepred.specs.inner.Spans as span;
 
 use im_eval::within;
 use im_syntax::Choices;
-use im_values::{Cmp, Truth, Value, compare};
+use im_values::{Cmp, Seen, Truth, Value, compare};
 
 /// Which truth is looked for: that a test holds, or that it fails. Of a test that is Unknown it is neither.
 #[derive(Clone, Copy)]
@@ -102,8 +102,8 @@ fn truth(asked: &Asked, value: &Value) -> Truth
 fn null_truth(value: &Value) -> Truth
     ensures { result ≡ holds.null_truth value.now }
 {
-    match value {
-        Value::Null => Truth::Yes,
+    match value.seen() {
+        Seen::Null => Truth::Yes,
         _ => Truth::No,
     }
 }

@@ -1,5 +1,5 @@
 ghost use Rattle.std.specs.Prelude.{◌≡◌, ◌∷◌, ◌^◌, ◌<◌, All, IfOk, length, map};
-ghost use Rattle.im_values.specs.declared.value.Value.TheVariants.{Null};
+ghost use Rattle.im_values.specs.declared.content.Content.TheVariants.{Null};
 ghost use Rattle.im_codes.specs.Dictionary.{coded};
 ghost use Rattle.im_codepred.specs.Asked.{is_met};
 ghost use Rattle.im_codepred.specs.inner.Spans.{is_in, is_chosen, AreChosen, HasFlags};
@@ -79,7 +79,7 @@ fn flags_of(
     ensures { IfOk result (λ flags. flags.items ≡ map (is_met wanted asked.now) (coded dict.now)) }
 {
     let mut flags = Vec::with_capacity(alloc, dict.len() + 1)?;
-    flags.push(asks(wanted, asked, &Value::Null))?;
+    flags.push(asks(wanted, asked, &Value::null()))?;
     for value in dict {
         flags.push(asks(wanted, asked, value))?;
     }

@@ -1,10 +1,10 @@
 ghost use Rattle.std.specs.Prelude.{◌≡◌, ◌+◌, ◌-◌, ◌<◌, ◌≤◌, length, get_or, IfSome};
-ghost use Rattle.im_values.specs.declared.value.Value.TheVariants.{Int, Null};
+ghost use Rattle.im_values.specs.declared.content.Content.TheVariants.{Int, Null};
 ghost use Rattle.im_codes.specs.Dictionary.{coded, IsDictionary};
 ghost use Rattle.im_codepred.specs.inner.CodeNumbers.{IsFirst, StandAtEnds};
 ghost use Rattle.im_codepred.specs.inner.Tallying.{number_at};
 
-use im_values::Value;
+use im_values::{Seen, Value};
 use std::marker::Model;
 
 /// The numbers that the codes of a dictionary stand for: 0 for a text.
@@ -19,7 +19,7 @@ pub struct CodeNumbers<'a> {
 
 impl<'a> Model for CodeNumbers<'a> {
     ghost use Rattle.std.specs.Prelude.{List};
-    ghost use Rattle.im_values.specs.declared.value.Value.{Value as AnyValue};
+    ghost use Rattle.im_values.specs.declared.content.Content.{Content as AnyValue};
     ghost use Rattle.im_codepred.specs.inner.CodeNumbers.{IsFirst};
 
     ghost Value = { List AnyValue };
@@ -62,9 +62,9 @@ pub fn number_at(dict: &[Value], code: u32) -> i64
     requires inside { code < length (coded dict.now) }
     ensures { result ≡ number_at dict.now code }
 {
-    match &dict[code as usize - 1] {
-        Value::Int(number) => *number,
-        Value::Text(_) | Value::Null => 0,
+    match dict[code as usize - 1].seen() {
+        Seen::Int(number) => number,
+        Seen::Text(_) | Seen::Null => 0,
     }
 }
 
@@ -72,9 +72,9 @@ pub fn number_at(dict: &[Value], code: u32) -> i64
 fn number_of(value: &Value) -> Option<i64>
     ensures { IfSome result (λ number. value.now ≡ Int number) }
 {
-    match value {
-        Value::Int(number) => Some(*number),
-        Value::Text(_) | Value::Null => None,
+    match value.seen() {
+        Seen::Int(number) => Some(number),
+        Seen::Text(_) | Seen::Null => None,
     }
 }
 

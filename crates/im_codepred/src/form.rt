@@ -2,7 +2,7 @@ ghost use Rattle.std.specs.Prelude.{◌≡◌, ◌+◌, ◌^◌, ◌<◌, ◌≤
 ghost use Rattle.std.specs.Arc.{arc_value};
 ghost use Rattle.im_codes.specs.Dictionary.{coded, values_at, IsDictionary};
 ghost use Rattle.im_codes.specs.Runs.{codes_of};
-ghost use Rattle.im_values.specs.declared.value.Value.TheVariants.{Null};
+ghost use Rattle.im_values.specs.declared.content.Content.TheVariants.{Null};
 ghost use Rattle.im_lanes.specs.Masks.{word_at, word_of, words_of, filled};
 ghost use Rattle.im_codepred.specs.Asked.{is_met};
 ghost use Rattle.im_codepred.specs.inner.Numbers.{passes, IsReady};

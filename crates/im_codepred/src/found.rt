@@ -1,5 +1,5 @@
 ghost use Rattle.std.specs.Prelude.{◌≡◌, false, pos, ◌*ℤ◌, ◌+◌, ◌*◌, ◌^◌, ◌<◌, ◌≤◌, ℕ, All, fold, length, take, drop, option_copied, slice_index_or};
-ghost use Rattle.im_values.specs.declared.value.Value.TheVariants.{Null};
+ghost use Rattle.im_values.specs.declared.content.Content.TheVariants.{Null};
 ghost use Rattle.im_codes.specs.Dictionary.{coded, IsDictionary};
 ghost use Rattle.im_codepred.specs.Tallies.{IsWithin, chosen, some_of};
 ghost use Rattle.im_codepred.specs.inner.Tallying.{at_bits, lesser_code, nothing, taken, taken_for, taken_run, totals_of, times_of, with_run, IsInside, Shows};

@@ -8,7 +8,7 @@ ghost use Rattle.im_codepred.specs.inner.Tallying.{at_bits, no_totals, with_valu
 use crate::form::share;
 use crate::tally::Tally;
 use im_lanes::Mask;
-use im_values::{Value, order};
+use im_values::{Seen, Value, order};
 use std::marker::Model;
 
 /// What values come to, while they are gone over.
@@ -102,7 +102,7 @@ impl<'a> Gathered<'a> {
 fn is_null(value: &Value) -> bool
     ensures { result ≡ is_null value.now }
 {
-    matches!(value, Value::Null)
+    matches!(value.seen(), Seen::Null)
 }
 
 /// The number of a value: 0 where it is none.
@@ -110,9 +110,9 @@ fn is_null(value: &Value) -> bool
 fn number_of(value: &Value) -> i64
     ensures { result ≡ number value.now }
 {
-    match value {
-        Value::Int(number) => *number,
-        Value::Text(_) | Value::Null => 0,
+    match value.seen() {
+        Seen::Int(number) => number,
+        Seen::Text(_) | Seen::Null => 0,
     }
 }
 
@@ -121,8 +121,8 @@ fn number_of(value: &Value) -> i64
 fn is_below(value: &Value, other: &Value) -> bool
     ensures { result ≡ is_lt (values.order value.now other.now) }
 {
-    match (value, other) {
-        (Value::Int(number), Value::Int(other)) => number < other,
+    match (value.seen(), other.seen()) {
+        (Seen::Int(number), Seen::Int(other)) => number < other,
         _ => order(value, other).is_lt(),
     }
 }

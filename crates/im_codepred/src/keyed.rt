@@ -1,6 +1,6 @@
 ghost use Rattle.std.specs.Prelude.{◌≡◌, ◌≢◌, ◌*◌, ◌^◌, ◌<◌, ◌≤◌, ℕ, All, IfOk, MatchOption, fold, length, replicate, slice_index_or, take, drop, zip};
 ghost use Rattle.im_values.specs.Sizes as sizes;
-ghost use Rattle.im_values.specs.declared.value.Value.TheVariants.{Null};
+ghost use Rattle.im_values.specs.declared.content.Content.TheVariants.{Null};
 ghost use Rattle.im_codes.specs.Dictionary.{coded, lent, values_at};
 ghost use Rattle.im_codepred.specs.Tallies.{chosen, AreTallies};
 ghost use Rattle.im_codepred.specs.inner.Tallying.{at_bits, keyed, no_totals, with_pair, ShowEach, ShowEachFor};

@@ -1,16 +1,17 @@
 ghost use Rattle.std.specs.Prelude.{◌≡◌};
 ghost use Rattle.std.specs.Option.{ForSome};
 ghost use Rattle.std.specs.Ordering.{is_eq};
-ghost use Rattle.im_values.specs.declared.value.Value.{Value as AnyValue};
-ghost use Rattle.im_values.specs.declared.value.Value.TheVariants.{Int};
+ghost use Rattle.im_values.specs.declared.content.Content.{Content as AnyValue};
+ghost use Rattle.im_values.specs.declared.content.Content.TheVariants.{Int};
 ghost use Rattle.im_values.specs.Order as values;
 ghost use Rattle.im_codepred.specs.Asked.{is_met};
+ghost use Rattle.im_codepred.specs.declared.asked.Asked.TheVariants as asked;
 ghost use Rattle.im_codepred.specs.declared.asked.Wanted.TheVariants.{Held};
 ghost use Rattle.im_codepred.specs.Asked.{met};
 ghost use Rattle.im_codepred.specs.inner.Numbers.{has_number, passes, Holds, IsKnown, IsReady};
 
 use crate::asked::{Asked, Wanted, asks};
-use im_values::{Cmp, Truth, Value};
+use im_values::{Cmp, Seen, Truth, Value};
 
 /// The whole numbers between two others, both ends in, or all but those.
 #[derive(Clone, Copy)]
@@ -71,8 +72,8 @@ impl<'a> Probe<'a> {
         requires { IsReady self.now }
         ensures { result ≡ passes self.now value.now }
     {
-        match (self.known, value) {
-            (Known::Numbers(numbers), Value::Int(number)) => numbers.has(*number),
+        match (self.known, value.seen()) {
+            (Known::Numbers(numbers), Seen::Int(number)) => numbers.has(number),
             (Known::Same(other), _) => is_same(value, other),
             _ => asks(self.wanted, self.asked, value),
         }
@@ -95,8 +96,8 @@ impl<'a> Probe<'a> {
         requires { Holds numbers (passes self.now) }
         ensures { result ≡ passes self.now value.now }
     {
-        match value {
-            Value::Int(number) => numbers.has(*number),
+        match value.seen() {
+            Seen::Int(number) => numbers.has(number),
             _ => self.asks(value),
         }
     }
@@ -126,9 +127,19 @@ fn known_of<'a>(wanted: Wanted, asked: &Asked<'a>) -> Known<'a>
 {
     match asked {
         Asked::Compare(cmp, value) => compared(wanted.comparison(*cmp), value),
-        Asked::Between(Value::Int(low), Value::Int(high)) => Known::Numbers(Numbers {
-            low: *low,
-            high: *high,
+        Asked::Between(low, high) => between(wanted, low, high),
+        _ => Known::Nothing,
+    }
+}
+
+/// What is known of the values between two others, or of those that are not.
+fn between<'a>(wanted: Wanted, low: &Value, high: &Value) -> Known<'a>
+    ensures { IsKnown result (is_met wanted (asked.Between low.entry high.entry)) }
+{
+    match (low.seen(), high.seen()) {
+        (Seen::Int(low), Seen::Int(high)) => Known::Numbers(Numbers {
+            low,
+            high,
             inside: wanted.met(Truth::Yes),
         }),
         _ => Known::Nothing,
@@ -139,9 +150,9 @@ fn known_of<'a>(wanted: Wanted, asked: &Asked<'a>) -> Known<'a>
 fn compared(cmp: Cmp, value: &Value) -> Known
     ensures { IsKnown result (λ other. met Held (values.compare other cmp value.now)) }
 {
-    match (cmp, value) {
-        (_, Value::Int(number)) => Known::Numbers(compared_with(cmp, *number)),
-        (Cmp::Eq, Value::Text(_)) => Known::Same(value),
+    match (cmp, value.seen()) {
+        (_, Seen::Int(number)) => Known::Numbers(compared_with(cmp, number)),
+        (Cmp::Eq, Seen::Text(_)) => Known::Same(value),
         _ => Known::Nothing,
     }
 }

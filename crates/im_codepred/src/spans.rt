@@ -1,6 +1,6 @@
 ghost use Rattle.std.specs.Prelude.{◌≡◌, ◌≢◌, ◌≤◌, ◌&&◌, ◌^◌, ◌<◌, ℕ, nat_le, IfSome, length, slice_index_or};
 ghost use Rattle.std.specs.Ordering.{is_eq};
-ghost use Rattle.im_values.specs.declared.value.Value.TheVariants.{Null};
+ghost use Rattle.im_values.specs.declared.content.Content.TheVariants.{Null};
 ghost use Rattle.im_values.specs.Order as values;
 ghost use Rattle.im_codes.specs.Dictionary.{coded};
 ghost use Rattle.im_lanes.specs.Masks.{is_within};
@@ -9,7 +9,7 @@ ghost use Rattle.im_codepred.specs.inner.Spans.{is_in, holds_at, between_at, nul
 
 use crate::asked::{Asked, Wanted};
 use im_codes::Dict;
-use im_values::{Cmp, Value, order};
+use im_values::{Cmp, Seen, Value, order};
 
 /// The codes from one on and below another.
 #[derive(Clone, Copy)]
@@ -92,8 +92,8 @@ pub fn spans_of(wanted: Wanted, asked: &Asked, dict: &Dict) -> Option<Spans>
 fn place_of(dict: &Dict, value: &Value) -> Place
     ensures { IsPlaceOf dict.now value.now result }
 {
-    match value {
-        Value::Null => Place {
+    match value.seen() {
+        Seen::Null => Place {
             low: 1,
             end: 1,
             most: 1,

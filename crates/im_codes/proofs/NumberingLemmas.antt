@@ -14,8 +14,8 @@ use Rattle.indexmap.specs.IndexSet.{insert_key}
 use Rattle.std.proofs.lemmas.Bool.{cases_Bool, cases_lt}
 use denote.Ref.{Bor}
 use Rattle.im_values.specs.contracts.value.ValuePartialEq.TheImpl as value_eq
-use Rattle.im_values.specs.declared.value.Value.{Value}
-use Rattle.im_values.specs.declared.value.Value.TheVariants.{Int, Text, Null}
+use Rattle.im_values.specs.declared.content.Content.{Content as Value}
+use Rattle.im_values.specs.declared.content.Content.TheVariants.{Int, Text, Null}
 use Rattle.im_values.specs.Order.{order}
 use Rattle.im_values.proofs.ForCallers.{order_total, value_ties}
 use Rattle.im_codes.specs.Dictionary.{coded, lent, present, values_at, StandAt, IsSortedSetOf, IsDictionaryOf}

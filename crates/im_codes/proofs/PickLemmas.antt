@@ -5,8 +5,8 @@ use Rattle.std.proofs.lemmas.Bool.{cases_eq}
 use Rattle.std.proofs.lemmas.List.{length-map, length-append, get_or-map, get_or_default, get_or-set_other, map_push, take_more, take_all}
 use Rattle.std.proofs.lemmas.List.Elements.{All-push, Contains-append_left, Contains-push}
 use denote.Ref.{Bor}
-use Rattle.im_values.specs.declared.value.Value.{Value}
-use Rattle.im_values.specs.declared.value.Value.TheVariants.{Null}
+use Rattle.im_values.specs.declared.content.Content.{Content as Value}
+use Rattle.im_values.specs.declared.content.Content.TheVariants.{Null}
 use Rattle.im_codes.specs.Dictionary.{coded, lent, present, values_at, StandAt, AreCodesOf, IsDictionary, IsDictionaryOf}
 use Rattle.im_codes.proofs.NumberingLemmas.{held-present, length-lent, present-held, some-present, stand-through}
 

@@ -22,11 +22,7 @@ fn put_copy(alloc: Global, value: &Value, copies: &mut Vec<Value>) -> Result<(),
     ensures len { OnOk result (vec_len copies.new ≡ vec_len copies.old + 1) }
     ensures capacity { vec_capacity copies.new ≡ vec_capacity copies.old }
 {
-    match value {
-        Value::Int(number) => copies.push_reserved(Value::Int(*number)),
-        Value::Text(text) => copies.push_reserved(Value::Text(text.copy(alloc)?)),
-        Value::Null => copies.push_reserved(Value::Null),
-    }
+    copies.push_reserved(value.copy(alloc)?);
     Ok(())
 }
 

@@ -4,7 +4,7 @@ ghost use Rattle.im_codes.specs.Dictionary.{lent};
 ghost use Rattle.im_codes.specs.inner.Numbering.{IsNumbering, Adds};
 
 use crate::range::number_in_range;
-use im_values::{Name, NoMemory, Value};
+use im_values::{NoMemory, Seen, Value};
 use indexmap::IndexSet;
 use std::alloc::Global;
 
@@ -22,10 +22,10 @@ pub struct Numbering<'a> {
 const FEW: usize = 16;
 
 /// Whether two texts are the same. Most that differ do so in their lengths or in their first bytes.
-fn same_text(a: &Name, b: &Name) -> bool
+fn same_text(a: &[u8], b: &[u8]) -> bool
     ensures { OnTrue result (a.now ≡ b.now) }
 {
-    if !begin_alike(a.bytes(), b.bytes()) {
+    if !begin_alike(a, b) {
         return false;
     }
     a == b
@@ -40,10 +40,10 @@ fn begin_alike(a: &[u8], b: &[u8]) -> bool {
 fn is_same(a: &Value, b: &Value) -> bool
     ensures { OnTrue result (a.now ≡ b.now) }
 {
-    match (a, b) {
-        (Value::Text(a), Value::Text(b)) => same_text(a, b),
-        (Value::Int(a), Value::Int(b)) => a == b,
-        (Value::Null, Value::Null) => true,
+    match (a.seen(), b.seen()) {
+        (Seen::Text(a), Seen::Text(b)) => same_text(a, b),
+        (Seen::Int(a), Seen::Int(b)) => a == b,
+        (Seen::Null, Seen::Null) => true,
         _ => false,
     }
 }

@@ -1,6 +1,6 @@
 -- What a column keeps of its values.
 use Rattle.std.proofs.Common.{◌≡◌, ℕ, ℤ, ◌<◌, List, length, count_by, ap, refl, subst, sym, ◌∙◌}
-use Rattle.im_values.specs.declared.value.Value.{Value}
+use Rattle.im_values.specs.declared.content.Content.{Content as Value}
 use Rattle.im_values.specs.Order.{is_null}
 use Rattle.im_values.specs.Sizes.{dictionary, plain_bytes}
 use Rattle.im_codes.specs.Dictionary.{coded, values_at}

@@ -9,8 +9,8 @@ use Rattle.std.proofs.lemmas.List.{ext_get_or, get_or_append_left, get_or-append
 use Rattle.std.proofs.lemmas.List.Elements.{All-append, All-get_or, All-map}
 use Rattle.std.proofs.Math.Seq.{take-add}
 use denote.Ref.{Bor}
-use Rattle.im_values.specs.declared.value.Value.{Value}
-use Rattle.im_values.specs.declared.value.Value.TheVariants.{Null}
+use Rattle.im_values.specs.declared.content.Content.{Content as Value}
+use Rattle.im_values.specs.declared.content.Content.TheVariants.{Null}
 use Rattle.im_values.specs.Order.{order}
 use Rattle.im_values.proofs.ForCallers.{order_same}
 use Rattle.im_codes.specs.Dictionary.{lent, values_at}

@@ -8,8 +8,8 @@ use Rattle.std.proofs.lemmas.Bool.{cases_lt, cases_eq}
 use Rattle.std.proofs.lemmas.Bool.Decides.{nat_tests}
 use Rattle.std.proofs.lemmas.List.{take_more}
 use Rattle.std.proofs.lemmas.List.Elements.{All-contains, Contains-get_or}
-use Rattle.im_values.specs.declared.value.Value.{Value}
-use Rattle.im_values.specs.declared.value.Value.TheVariants.{Null}
+use Rattle.im_values.specs.declared.content.Content.{Content as Value}
+use Rattle.im_values.specs.declared.content.Content.TheVariants.{Null}
 use Rattle.im_values.specs.Sizes.{Plain, Coded, Runs, value_bytes, words_for, width_from, width_for, dictionary, run_count, plain_bytes, coded_bytes, runs_bytes, least_shape, shape_of, column_bytes}
 use Rattle.std.proofs.lemmas.Map.Keys.{sorted_from_all_adjacent}
 use Rattle.im_values.specs.Order.{order}

@@ -1,7 +1,7 @@
 -- The forms of a column.
 use Rattle.std.specs.Prelude.{◌≡◌, ℕ, ◌<◌, ◌≤◌, List, length, get_or}
-use Rattle.im_values.specs.declared.value.Value.{Value}
-use Rattle.im_values.specs.declared.value.Value.TheVariants.{Null}
+use Rattle.im_values.specs.declared.content.Content.{Content as Value}
+use Rattle.im_values.specs.declared.content.Content.TheVariants.{Null}
 use Rattle.im_values.specs.Sizes.{Plain, Coded, Runs, value_bytes, shape_of, dictionary, width_for}
 use Rattle.im_codes.specs.Dictionary.{AreCodesOf}
 use Rattle.im_column.specs.declared.form.Form.{Form}

@@ -1,7 +1,7 @@
 -- The sum of the values of a column.
 use Rattle.std.specs.Prelude.{ℤ, pos, ◌+ℤ◌, List, fold}
-use Rattle.im_values.specs.declared.value.Value.{Value}
-use Rattle.im_values.specs.declared.value.Value.TheVariants.{Int, Text, Null}
+use Rattle.im_values.specs.declared.content.Content.{Content as Value}
+use Rattle.im_values.specs.declared.content.Content.TheVariants.{Int, Text, Null}
 
 -- a sum with one value more: NULL and a text add nothing
 abbrev pub added : ℤ → Value → ℤ

@@ -1,5 +1,5 @@
 ghost use Rattle.std.specs.Prelude.{◌≡◌, ◌==◌, ◌+◌, ◌^◌, ◌<◌, ◌≤◌, ℕ, Some, All, IfOk, length, min, slice_get, slice_index, get_or};
-ghost use Rattle.im_values.specs.declared.value.Value.TheVariants.{Null};
+ghost use Rattle.im_values.specs.declared.content.Content.TheVariants.{Null};
 ghost use Rattle.im_values.specs.Sizes.{column_bytes, plain_bytes, shape_of};
 ghost use Rattle.im_values.specs.Sizes as spec;
 ghost use Rattle.im_codes.specs.Dictionary.{AreCodesOf, IsDictionaryOf, coded, lent, values_at};
@@ -35,8 +35,8 @@ pub struct Column {
 
 impl Model for Column {
     ghost use Rattle.std.specs.Prelude.{◌≡◌, List, ◌^◌, ◌<◌, length};
-    ghost use Rattle.im_values.specs.declared.value.Value.{Value as AnyValue};
-    ghost use Rattle.im_values.specs.declared.value.Value.TheVariants.{Null};
+    ghost use Rattle.im_values.specs.declared.content.Content.{Content as AnyValue};
+    ghost use Rattle.im_values.specs.declared.content.Content.TheVariants.{Null};
 
     ghost Value = { List AnyValue };
 
@@ -419,6 +419,6 @@ pub fn assembled(counted: Counted, bounds: Bounds, sum: i128) -> Column
         bytes,
         bounds,
         sum,
-        null: Value::Null,
+        null: Value::null(),
     }
 }

@@ -1,6 +1,6 @@
 ghost use Rattle.std.specs.Prelude.{◌≡◌, ◌+◌, ◌++◌, ◌^◌, ◌<◌, All, IfOk, IfSome, length, get_or};
 ghost use Rattle.std.specs.Bool.{OnTrue};
-ghost use Rattle.im_values.specs.declared.value.Value.TheVariants.{Null};
+ghost use Rattle.im_values.specs.declared.content.Content.TheVariants.{Null};
 ghost use Rattle.im_codes.specs.Dictionary.{IsDictionaryOf, coded, lent, values_at};
 ghost use Rattle.im_column.specs.Forms.{IsShort};
 ghost use Rattle.im_column.specs.Picks.{values_picked};
@@ -193,7 +193,7 @@ fn summarize_codes(dict: &[Value], codes: &[u32]) -> Summary
     requires short { All IsShort (values_at (coded dict.now) codes.now) }
     ensures { IsSummary (values_at (coded dict.now) codes.now) result.nulls result.sum result.bytes }
 {
-    let null = Value::Null;
+    let null = Value::null();
     let mut summary = Summary {
         nulls: 0,
         sum: 0,

@@ -6,7 +6,7 @@ ghost use Rattle.im_column.specs.Forms.{IsShort};
 ghost use Rattle.im_column.specs.Summaries as spec;
 ghost use Rattle.im_column.specs.inner.Sized.{IsSummary, IsWithin};
 
-use im_values::Value;
+use im_values::{Seen, Value};
 
 /// What one pass over values finds.
 #[derive(Clone, Copy)]
@@ -20,9 +20,9 @@ pub struct Summary {
 pub fn is_null(value: &Value) -> bool
     ensures { result ≡ is_null value.now }
 {
-    match value {
-        Value::Int(_) | Value::Text(_) => false,
-        Value::Null => true,
+    match value.seen() {
+        Seen::Int(_) | Seen::Text(_) => false,
+        Seen::Null => true,
     }
 }
 
@@ -32,10 +32,10 @@ pub fn value_bytes(value: &Value) -> u64
     ensures bytes { result ≡ value_bytes value.now }
     ensures few { result < 65539 }
 {
-    match value {
-        Value::Int(_) => 9,
-        Value::Text(text) => 3 + text.bytes().len() as u64,
-        Value::Null => 1,
+    match value.seen() {
+        Seen::Int(_) => 9,
+        Seen::Text(text) => 3 + text.len() as u64,
+        Seen::Null => 1,
     }
 }
 
@@ -46,9 +46,9 @@ fn added(total: i128, value: &Value, count: u64) -> i128
     ensures sum { result ≡ spec.added total value.now }
     ensures within { IsWithin (count + 1) result }
 {
-    match value {
-        Value::Int(number) => total + i128::from(*number),
-        Value::Text(_) | Value::Null => total,
+    match value.seen() {
+        Seen::Int(number) => total + i128::from(number),
+        Seen::Text(_) | Seen::Null => total,
     }
 }
 

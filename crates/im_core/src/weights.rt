@@ -4,7 +4,7 @@ ghost use Rattle.im_history.specs.Weights as weight;
 
 use im_history::{Changes, LentChange};
 use im_values::limits::{CHANGE_WEIGHT, VALUE_WEIGHT};
-use im_values::{NoMemory, Value};
+use im_values::{NoMemory, Seen, Value};
 
 /// The sum of two weights. What weighs more than 64 bits can say has no room in memory.
 fn add(a: u64, b: u64) -> Result<u64, NoMemory>
@@ -19,9 +19,9 @@ fn add(a: u64, b: u64) -> Result<u64, NoMemory>
 fn value_weight(value: &Value) -> Result<u64, NoMemory>
     ensures { IfOk result (λ weighed. weighed ≡ weight.value_weight value.now) }
 {
-    match value {
-        Value::Text(text) => add(VALUE_WEIGHT, text.bytes().len() as u64),
-        Value::Int(_) | Value::Null => Ok(VALUE_WEIGHT),
+    match value.seen() {
+        Seen::Text(text) => add(VALUE_WEIGHT, text.len() as u64),
+        Seen::Int(_) | Seen::Null => Ok(VALUE_WEIGHT),
     }
 }
 

@@ -1,6 +1,6 @@
 -- The parts of a condition fit a row where the whole does.
 use Rattle.std.proofs.Common.{◌≡◌, ℕ, zero, suc, ◌<◌, List, [], ◌∷◌, length, get_or, sym, subst, arith}
-use Rattle.im_values.specs.declared.value.Value.{Value}
+use Rattle.im_values.specs.declared.content.Content.{Content as Value}
 use Rattle.im_syntax.specs.Condition.{TermOf, ConjOf, conj_of, cond_of}
 use Rattle.im_syntax.specs.BoundFits.{TestFits, TestsFit, FilterFits}
 

@@ -6,12 +6,15 @@ use Rattle.std.specs.declared.cmp.Ordering.TheVariants.{Less, Equal, Greater}
 use Rattle.std.specs.Ordering.{is_eq, ordering_reverse}
 use Rattle.im_values.specs.declared.truth.Truth.{Truth}
 use Rattle.im_values.specs.declared.truth.Truth.TheVariants.{Yes, No, Unknown}
-use Rattle.im_values.specs.declared.value.Value.{Value}
-use Rattle.im_values.specs.declared.value.Value.TheVariants.{Int, Text, Null}
+use Rattle.im_values.specs.declared.content.Content.{Content as Value}
+use Rattle.im_values.specs.declared.content.Content.TheVariants.{Int, Text, Null}
 use Rattle.im_values.specs.Order.{order, is_null}
 use Rattle.im_values.specs.Truth as truth
 use Rattle.im_values.proofs.ForCallers.{order_total}
 use Rattle.im_syntax.specs.Choices.{has}
+use Rattle.im_values.specs.Contents.{content_seen}
+use Rattle.im_values.specs.declared.value.Seen.{Seen}
+use Rattle.im_values.specs.declared.value.Seen.TheVariants as seen
 use Rattle.im_eval.specs.Holds.{within_truth}
 
 -- the truth where the value is one of the list or not, and where NULL is or not
@@ -74,3 +77,9 @@ unknown_more (x ∷ choices) = rw (unknown_more choices) refl
 pub within_null : (value : Value) (choices : List Value) → value ≡ Null → (length choices == 0) ≡ false → Unknown ≡ within_truth value choices
 within_null value [] is filled = cc
 within_null value (x ∷ choices) is filled = sym (ap (λ v. within_truth v (x ∷ choices)) is ∙ unknown_more choices)
+
+-- a value is NULL only where it is seen so
+pub seen_null : (s : Seen) → content_seen s ≡ Null → s ≡ seen.Null
+seen_null (seen.Int n) e = cc
+seen_null (seen.Text t) e = cc
+seen_null seen.Null e = refl

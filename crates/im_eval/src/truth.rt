@@ -3,7 +3,7 @@ ghost use Rattle.im_syntax.specs.BoundFits.{FilterFits, TestsFit, TestFits, valu
 ghost use Rattle.im_eval.specs.Holds as spec;
 
 use im_syntax::{Choices, Filter, Test, TestForm, Tests};
-use im_values::{Cmp, Truth, Value, compare};
+use im_values::{Cmp, Seen, Truth, Value, compare};
 
 /// The value of a row in a column.
 fn value_in(row: &[Value], column: u32) -> &Value
@@ -23,8 +23,8 @@ fn with_not(negated: bool, truth: Truth) -> Truth
 fn null_test(value: &Value) -> Truth
     ensures { result ≡ spec.null_truth value.now }
 {
-    match value {
-        Value::Null => Truth::Yes,
+    match value.seen() {
+        Seen::Null => Truth::Yes,
         _ => Truth::No,
     }
 }
@@ -42,8 +42,8 @@ pub fn within(value: &Value, choices: &Choices) -> Truth
     if choices.is_empty() {
         return Truth::No;
     }
-    match value {
-        Value::Null => Truth::Unknown,
+    match value.seen() {
+        Seen::Null => Truth::Unknown,
         _ if choices.has(value) => Truth::Yes,
         _ if choices.has_null() => Truth::Unknown,
         _ => Truth::No,

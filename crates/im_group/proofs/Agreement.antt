@@ -4,8 +4,8 @@ use Rattle.std.specs.Ordering.{ordering_then}
 use Rattle.std.specs.Cmp.Lexicographic.{pointwise, slice_cmp, lists_ties}
 use Rattle.im_values.specs.contracts.value.ValuePartialEq.TheImpl as value_eq
 use Rattle.im_values.specs.contracts.value.ValueOrd.TheImpl as value_ord
-use Rattle.im_values.specs.declared.value.Value.{Value}
-use Rattle.im_values.specs.declared.value.Value.TheVariants.{Int, Text, Null}
+use Rattle.im_values.specs.declared.content.Content.{Content as Value}
+use Rattle.im_values.specs.declared.content.Content.TheVariants.{Int, Text, Null}
 use Rattle.im_values.specs.Order.{order}
 use Rattle.im_values.proofs.ForCallers.{value_ties}
 use Rattle.im_group.specs.Partials.{key_order, is_key}

@@ -1,7 +1,7 @@
 -- What a query asks of its groups may be asked of the rows that it fits.
 use Rattle.std.proofs.Common.{ℕ, ◌<◌, true, false, cond, List, [], ◌∷◌, ◌++◌, length, map, fold}
 use Rattle.std.specs.List.{AllByRecursion}
-use Rattle.im_values.specs.declared.value.Value.{Value}
+use Rattle.im_values.specs.declared.content.Content.{Content as Value}
 use Rattle.im_syntax.specs.declared.item.ItemOf.{ItemOf}
 use Rattle.im_syntax.specs.declared.item.ItemOf.TheVariants as item
 use Rattle.im_syntax.specs.declared.bound.Bound.{Bound}

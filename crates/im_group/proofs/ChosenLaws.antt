@@ -11,7 +11,7 @@ use Rattle.std.proofs.lemmas.List.Elements.{filter-append}
 use Rattle.std.proofs.lemmas.List.Sums.{fold-append}
 use Rattle.std.proofs.lemmas.Nat.Bits.{bit_at_lowest, bit_at-suc, bit_at-zero}
 use Rattle.std.proofs.lemmas.Grind.{div_ceil_times}
-use Rattle.im_values.specs.declared.value.Value.{Value}
+use Rattle.im_values.specs.declared.content.Content.{Content as Value}
 use Rattle.im_lanes.specs.Masks.{word_of, word_at, words_of}
 use Rattle.im_lanes.proofs.ForCallers.{word_of-few, get_or-words_of}
 use Rattle.im_syntax.specs.declared.bound.Bound.{Bound}

@@ -3,7 +3,7 @@ use Rattle.std.proofs.Common.{◌≡◌, Contains, ℕ, ◌+◌, ◌<◌, ◌≤
 use Rattle.std.specs.Option.{ForSome}
 use Rattle.std.specs.List.{AllByRecursion}
 use Rattle.std.specs.FinMap as map_of
-use Rattle.im_values.specs.declared.value.Value.{Value}
+use Rattle.im_values.specs.declared.content.Content.{Content as Value}
 use Rattle.im_syntax.specs.declared.bound.Bound.{Bound}
 use Rattle.im_syntax.specs.BoundFits.{BoundFits}
 use Rattle.im_group.specs.Tallies.{Tallied, wanted, asked_in, CanJoin}

@@ -6,7 +6,7 @@ use Rattle.std.specs.declared.cmp.Ordering.TheVariants.{Less, Equal, Greater}
 use Rattle.std.specs.FinMap as map_of
 use Rattle.std.proofs.lemmas.List.Elements.{filter-append}
 use Rattle.std.proofs.lemmas.Cmp.{tied_itself}
-use Rattle.im_values.specs.declared.value.Value.{Value}
+use Rattle.im_values.specs.declared.content.Content.{Content as Value}
 use Rattle.im_syntax.specs.declared.bound.Bound.{Bound}
 use Rattle.im_group.specs.Tallies.{Tallied, wanted, asked_in, tallied, row_taken}
 use Rattle.im_group.specs.Partials.{key_order, key_of, is_key, members, tallies_of, keys_of, groups_of}

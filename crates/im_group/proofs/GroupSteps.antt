@@ -7,7 +7,7 @@ use Rattle.std.proofs.lemmas.List.{map-append, take_more, length-map}
 use Rattle.std.proofs.lemmas.List.Elements.{filter-append}
 use Rattle.std.proofs.lemmas.Cmp.{tied_itself, eq_by_cmp_equiv}
 use denote.Ref.{Bor}
-use Rattle.im_values.specs.declared.value.Value.{Value}
+use Rattle.im_values.specs.declared.content.Content.{Content as Value}
 use Rattle.im_syntax.specs.declared.bound.Bound.{Bound}
 use Rattle.im_syntax.specs.BoundFits.{BoundFits}
 use Rattle.im_group.specs.declared.asked.Asked.{Asked}

@@ -6,7 +6,7 @@ use Rattle.std.proofs.lemmas.Cmp.{eq_by_cmp_equiv}
 use Rattle.std.specs.Map.{lookup, set_value}
 use Rattle.std.specs.Prelude.{IsSome, MatchOption}
 use Rattle.std.specs.Iterator.{Yields}
-use Rattle.im_values.specs.declared.value.Value.{Value}
+use Rattle.im_values.specs.declared.content.Content.{Content as Value}
 use Rattle.indexmap.specs.IndexMap.{insert_entry}
 use Rattle.im_group.specs.Tallies.{Tallied}
 use Rattle.im_group.specs.Partials.{is_key, keyed}

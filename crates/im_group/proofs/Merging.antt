@@ -6,7 +6,7 @@ use Rattle.std.specs.List.{IsDistinct}
 use Rattle.std.specs.FinMap as map_of
 use Rattle.std.proofs.lemmas.List.{map-append, append_assoc}
 use Rattle.std.proofs.lemmas.Cmp.{tied_itself}
-use Rattle.im_values.specs.declared.value.Value.{Value}
+use Rattle.im_values.specs.declared.content.Content.{Content as Value}
 use Rattle.im_group.specs.Tallies.{Tallied, CanJoin}
 use Rattle.im_group.specs.Partials.{Groups, key_order, is_key, keyed, held, with_tallies, joined_groups}
 use Rattle.im_group.specs.inner.Steps.{tallies_at, placed}

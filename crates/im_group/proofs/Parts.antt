@@ -5,7 +5,7 @@ use Rattle.std.specs.Option.{ForSome}
 use Rattle.std.specs.FinMap as map_of
 use Rattle.std.proofs.lemmas.List.{map-append}
 use Rattle.std.proofs.lemmas.List.Elements.{filter-append}
-use Rattle.im_values.specs.declared.value.Value.{Value}
+use Rattle.im_values.specs.declared.content.Content.{Content as Value}
 use Rattle.im_syntax.specs.declared.bound.Bound.{Bound}
 use Rattle.im_group.specs.Tallies.{Tallied, wanted, asked_in, tallied, all_joined, CanJoin}
 use Rattle.im_group.specs.Partials.{Numbered, Parts, key_order, key_of, is_key, keeps, kept, members, tallies_of, keys_of, groups_of, keyed, held, joined_groups, merged, partial, CanMerge}

@@ -6,7 +6,7 @@ use Rattle.std.specs.Ordering.{is_eq}
 use Rattle.std.specs.FinMap as map_of
 use Rattle.std.proofs.lemmas.List.{length-map, at_drop_all}
 use Rattle.std.proofs.lemmas.Cmp.{tied_itself}
-use Rattle.im_values.specs.declared.value.Value.{Value}
+use Rattle.im_values.specs.declared.content.Content.{Content as Value}
 use Rattle.im_syntax.specs.declared.bound.Bound.{Bound}
 use Rattle.im_syntax.specs.BoundFits.{value_at}
 use Rattle.im_syntax.specs.BoundQuery.{is_listed, IsOfRow, IsQuery}

@@ -1,7 +1,7 @@
 -- What a part becomes by one row more.
 use Rattle.std.proofs.Common.{◌≡◌, Bool, true, false, cond, List, [], ◌∷◌, ◌++◌, map, refl, sym, ap, ◌∙◌, subst, arith}
 use Rattle.std.specs.FinMap as map_of
-use Rattle.im_values.specs.declared.value.Value.{Value}
+use Rattle.im_values.specs.declared.content.Content.{Content as Value}
 use Rattle.im_syntax.specs.declared.bound.Bound.{Bound}
 use Rattle.im_group.specs.Tallies.{Tallied, wanted, asked_in, HasRoom}
 use Rattle.im_group.specs.Partials.{Numbered, Groups, Parts, key_of, keeps, kept, keyed, held, groups_of, partial, IsPartOfFew}

@@ -4,8 +4,8 @@ use Rattle.std.specs.Ordering.{is_gt, ordering_then}
 use Rattle.std.specs.declared.cmp.Ordering.{Ordering}
 use Rattle.std.specs.declared.cmp.Ordering.TheVariants.{Equal}
 use Rattle.std.specs.FinMap as map_of
-use Rattle.im_values.specs.declared.value.Value.{Value}
-use Rattle.im_values.specs.declared.value.Value.TheVariants.{Null}
+use Rattle.im_values.specs.declared.content.Content.{Content as Value}
+use Rattle.im_values.specs.declared.content.Content.TheVariants.{Null}
 use Rattle.im_syntax.specs.declared.item.ItemOf.{ItemOf}
 use Rattle.im_syntax.specs.declared.item.ItemOf.TheVariants as item
 use Rattle.im_syntax.specs.declared.bound.Key.{Key}

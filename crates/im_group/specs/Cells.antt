@@ -1,7 +1,7 @@
 -- The cells of an answer, and their order.
 use Rattle.std.specs.declared.cmp.Ordering.{Ordering}
-use Rattle.im_values.specs.declared.value.Value.{Value}
-use Rattle.im_values.specs.declared.value.Value.TheVariants as value
+use Rattle.im_values.specs.declared.content.Content.{Content as Value}
+use Rattle.im_values.specs.declared.content.Content.TheVariants as value
 use Rattle.im_values.specs.Order.{order}
 use Rattle.im_group.specs.declared.cell.Cell.{Cell}
 use Rattle.im_group.specs.declared.cell.Cell.TheVariants as cell

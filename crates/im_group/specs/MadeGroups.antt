@@ -1,7 +1,7 @@
 -- Groups that are made without their rows.
 use Rattle.std.specs.Prelude.{◌≡◌, ℕ, ◌+◌, ◌<◌, ◌^◌, ◌++◌, Bool, List, length, map}
 use Rattle.std.specs.List.{AllByRecursion, list_any}
-use Rattle.im_values.specs.declared.value.Value.{Value}
+use Rattle.im_values.specs.declared.content.Content.{Content as Value}
 use Rattle.im_syntax.specs.declared.bound.Bound.{Bound}
 use Rattle.im_group.specs.declared.made_groups.Group.{Group}
 use Rattle.im_group.specs.Sums.{SumsOf}

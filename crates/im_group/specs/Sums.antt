@@ -1,8 +1,8 @@
 -- What is kept of the values of one column, and how an aggregate is read off it.
 use Rattle.std.specs.Prelude.{ℕ, ◌+◌, ◌*◌, ◌^◌, ◌==◌, Bool, true, false, not, List, length, map, filter, fold, ℤ, pos, neg_ℤ, ◌≤ℤ◌, ◌+ℤ◌, if◌then◌else◌}
 use Rattle.std.specs.Ordering.{is_lt}
-use Rattle.im_values.specs.declared.value.Value.{Value}
-use Rattle.im_values.specs.declared.value.Value.TheVariants.{Int, Text, Null}
+use Rattle.im_values.specs.declared.content.Content.{Content as Value}
+use Rattle.im_values.specs.declared.content.Content.TheVariants.{Int, Text, Null}
 use Rattle.im_values.specs.Order.{order, is_null}
 use Rattle.im_syntax.specs.declared.item.Function.{Function}
 use Rattle.im_syntax.specs.declared.item.Function.TheVariants as function

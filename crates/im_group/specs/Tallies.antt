@@ -1,7 +1,7 @@
 -- What a group has taken of its rows: how many there are, and one summary for each column that the query aggregates.
 use Rattle.std.specs.Prelude.{ℕ, ◌+◌, ◌<◌, ◌^◌, ◌==◌, Bool, false, ◌&&◌, List, [], ◌∷◌, ◌++◌, length, map, fold, get_or, if◌then◌else◌}
 use Rattle.std.specs.List.{AllByRecursion, list_any}
-use Rattle.im_values.specs.declared.value.Value.{Value}
+use Rattle.im_values.specs.declared.content.Content.{Content as Value}
 use Rattle.im_syntax.specs.declared.bound.Bound.{Bound}
 use Rattle.im_syntax.specs.declared.item.ItemOf.{ItemOf}
 use Rattle.im_syntax.specs.declared.item.ItemOf.TheVariants as item

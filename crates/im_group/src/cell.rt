@@ -1,7 +1,7 @@
 ghost use Rattle.std.specs.Prelude.{◌≡◌, IfOk};
 ghost use Rattle.im_group.specs.Cells as spec;
 
-use im_values::{Name, NoMemory, Value};
+use im_values::{Content, Name, NoMemory, Value};
 use std::alloc::Global;
 use std::cmp::Ordering;
 
@@ -20,10 +20,10 @@ impl Cell {
     pub fn of(value: Value) -> Cell
         ensures { result ≡ spec.cell_of value }
     {
-        match value {
-            Value::Int(number) => Cell::Int(i128::from(number)),
-            Value::Text(text) => Cell::Text(text),
-            Value::Null => Cell::Null,
+        match value.into_content() {
+            Content::Int(number) => Cell::Int(i128::from(number)),
+            Content::Text(text) => Cell::Text(text),
+            Content::Null => Cell::Null,
         }
     }
 

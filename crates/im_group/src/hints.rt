@@ -2,7 +2,7 @@ ghost use Rattle.std.specs.Prelude.{◌<◌, length};
 ghost use Rattle.std.specs.List.{AllByRecursion};
 
 use crate::same::Sought;
-use im_values::Value;
+use im_values::{Seen, Value};
 
 /// How many hints there are.
 pub const SLOTS: usize = 64;
@@ -18,10 +18,10 @@ pub struct Hints {
 /// A number that values seldom share: of a text its ends and how many bytes there are.
 #[inline(always)]
 fn print_of(sought: Sought<'_>) -> u64 {
-    match sought.value {
-        Value::Int(number) => number.cast_unsigned(),
-        Value::Text(text) => sought.ends ^ ((text.bytes().len() as u64) << 56),
-        Value::Null => u64::MAX,
+    match sought.value.seen() {
+        Seen::Int(number) => number.cast_unsigned(),
+        Seen::Text(text) => sought.ends ^ ((text.len() as u64) << 56),
+        Seen::Null => u64::MAX,
     }
 }
 

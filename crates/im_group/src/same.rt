@@ -4,7 +4,7 @@ ghost use Rattle.std.specs.Cmp.Lexicographic.{pointwise};
 ghost use Rattle.im_values.specs.contracts.value.ValuePartialEq.TheImpl as value_eq;
 ghost use Rattle.im_group.specs.inner.Ends as spec;
 
-use im_values::{Name, Value};
+use im_values::{Seen, Value};
 
 /// Up to so many bytes are all told by the number of a text's ends.
 const TOLD: usize = 8;
@@ -37,10 +37,10 @@ pub fn ends(text: &[u8]) -> u64
 
 /// Whether two texts are the same, by all their bytes.
 #[inline(never)]
-fn same_far(text: &Name, other: &Name) -> bool
+fn same_far(text: &[u8], other: &[u8]) -> bool
     ensures { result ≡ pointwise nat_eq text.now other.now }
 {
-    text.bytes() == other.bytes()
+    text == other
 }
 
 /// Whether two texts are the same, as far as their lengths and their ends tell it. The ends of one are told.
@@ -63,11 +63,11 @@ fn told_same(text: &[u8], told: u64, other: &[u8]) -> Option<bool>
 
 /// Whether two texts are the same. Short ones are compared without a call.
 #[inline(always)]
-fn same_text(text: &Name, told: u64, other: &Name) -> bool
+fn same_text(text: &[u8], told: u64, other: &[u8]) -> bool
     requires { told ≡ spec.ends_of text.now }
     ensures { result ≡ pointwise nat_eq text.now other.now }
 {
-    match told_same(text.bytes(), told, other.bytes()) {
+    match told_same(text, told, other) {
         Some(same) => same,
         None => same_far(text, other),
     }
@@ -87,9 +87,9 @@ impl<'a> Sought<'a> {
         ensures sought { spec.IsSought result }
         ensures value { result.value.now ≡ value.now }
     {
-        let ends = match value {
-            Value::Text(text) => ends(text.bytes()),
-            Value::Int(_) | Value::Null => 0,
+        let ends = match value.seen() {
+            Seen::Text(text) => ends(text),
+            Seen::Int(_) | Seen::Null => 0,
         };
         Sought { value, ends }
     }
@@ -100,10 +100,10 @@ impl<'a> Sought<'a> {
         requires { spec.IsSought self.now }
         ensures { result ≡ (value_eq.ghosts).eq self.now.value.now other.now }
     {
-        match (self.value, other) {
-            (Value::Int(number), Value::Int(other)) => *number == *other,
-            (Value::Text(text), Value::Text(other)) => same_text(text, self.ends, other),
-            (Value::Null, Value::Null) => true,
+        match (self.value.seen(), other.seen()) {
+            (Seen::Int(number), Seen::Int(other)) => number == other,
+            (Seen::Text(text), Seen::Text(other)) => same_text(text, self.ends, other),
+            (Seen::Null, Seen::Null) => true,
             _ => false,
         }
     }

@@ -1,14 +1,14 @@
 ghost use Rattle.std.specs.Prelude.{◌≡◌, ◌+◌, ◌<◌, ◌^◌, [], IfOk, OnOk, length, if◌then◌else◌};
 ghost use Rattle.im_syntax.specs.BoundFits.{value_at};
 ghost use Rattle.im_values.specs.Order as values;
-ghost use Rattle.im_values.specs.declared.value.Value.TheVariants.{Null};
+ghost use Rattle.im_values.specs.declared.content.Content.TheVariants.{Null};
 ghost use Rattle.im_group.specs.Sums as spec;
 ghost use Rattle.im_group.specs.inner.Narrowing.{narrowed};
 
 use crate::asked::Asked;
 use crate::cell::Cell;
 use im_syntax::Function;
-use im_values::{NoMemory, Value, order};
+use im_values::{NoMemory, Seen, Value, order};
 use std::alloc::Global;
 use std::marker::Model;
 
@@ -35,7 +35,7 @@ impl Model for Sums {
 fn is_null(value: &Value) -> bool
     ensures { result ≡ values.is_null value.now }
 {
-    matches!(value, Value::Null)
+    matches!(value.seen(), Seen::Null)
 }
 
 /// Puts a value in the place of the least so far, where that is asked for and it is less.
@@ -86,7 +86,7 @@ fn end_or_null(alloc: Global, asked: bool, end: &Value) -> Result<Value, NoMemor
     if asked {
         end.copy(alloc)
     } else {
-        Ok(Value::Null)
+        Ok(Value::null())
     }
 }
 
@@ -105,8 +105,8 @@ impl Sums {
         Sums {
             values: 0,
             total: 0,
-            least: Value::Null,
-            greatest: Value::Null,
+            least: Value::null(),
+            greatest: Value::null(),
         }
     }
 
@@ -158,13 +158,13 @@ impl Sums {
         requires { self.old.values + 1 < 2 ^ 64 }
         ensures { self.new ≡ spec.added self.old value.now }
     {
-        match value {
-            Value::Int(number) => {
+        match value.seen() {
+            Seen::Int(number) => {
                 self.values += 1;
-                self.total += i128::from(*number);
+                self.total += i128::from(number);
             }
-            Value::Text(_) => self.values += 1,
-            Value::Null => {}
+            Seen::Text(_) => self.values += 1,
+            Seen::Null => {}
         }
     }
 

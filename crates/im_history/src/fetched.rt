@@ -30,7 +30,7 @@ pub struct Fetched {
 
 impl Model for Fetched {
     ghost use Rattle.std.specs.Prelude.{◌≡◌, List, ℕ, Option, All, length};
-    ghost use Rattle.im_values.specs.declared.value.Value.{Value as AnyValue};
+    ghost use Rattle.im_values.specs.declared.content.Content.{Content as AnyValue};
 
     ghost Value = { List (ℕ × Option (List AnyValue)) };
 

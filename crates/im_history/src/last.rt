@@ -21,7 +21,7 @@ pub struct LastRows {
 impl Model for LastRows {
     ghost use Rattle.std.specs.Prelude.{List, ℕ, Option};
     ghost use Rattle.std.specs.Arc.{arc_value};
-    ghost use Rattle.im_values.specs.declared.value.Value.{Value as AnyValue};
+    ghost use Rattle.im_values.specs.declared.content.Content.{Content as AnyValue};
 
     ghost Value = { List (ℕ × Option (List AnyValue)) };
 

@@ -8,7 +8,7 @@ use Rattle.im_values.specs.declared.comparison.Cmp.{Cmp}
 use Rattle.im_values.specs.declared.comparison.Cmp.TheVariants.{Eq, Le, Ge}
 use Rattle.im_values.specs.declared.truth.Truth.{Truth}
 use Rattle.im_values.specs.declared.truth.Truth.TheVariants.{Yes, No, Unknown}
-use Rattle.im_values.specs.declared.value.Value.{Value}
+use Rattle.im_values.specs.declared.content.Content.{Content as Value}
 use Rattle.im_values.specs.Order.{order, is_null, admits, compare}
 use Rattle.im_values.specs.Truth as truth
 use Rattle.im_syntax.specs.Condition.{TermOf, negation, nested, comparison, null_test, between, within, ConjOf, no_term, and_term, no_conj, or_conj, terms_of}

@@ -1,6 +1,6 @@
 -- The bounds of a list of values.
 use Rattle.std.specs.Prelude.{ℕ, ◌-◌, List, count_by, length, slice_get}
-use Rattle.im_values.specs.declared.value.Value.{Value}
+use Rattle.im_values.specs.declared.content.Content.{Content as Value}
 use Rattle.im_values.specs.Order.{is_null}
 use Rattle.im_values.specs.Sizes.{dictionary}
 use Rattle.im_index.specs.declared.bounds.Bounds.{Bounds}

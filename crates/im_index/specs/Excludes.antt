@@ -6,7 +6,7 @@ use Rattle.std.specs.Ordering.{is_eq, is_lt}
 use Rattle.im_values.specs.declared.comparison.Cmp.{Cmp}
 use Rattle.im_values.specs.declared.comparison.Cmp.TheVariants.{Eq, Ne, Lt, Le, Gt, Ge}
 use Rattle.im_values.specs.declared.truth.Truth.TheVariants.{Yes}
-use Rattle.im_values.specs.declared.value.Value.{Value}
+use Rattle.im_values.specs.declared.content.Content.{Content as Value}
 use Rattle.im_values.specs.Order.{order, is_null}
 use Rattle.im_syntax.specs.Condition.{TermOf, negation, nested, comparison, null_test, between, within, CondOf, no_conj, or_conj, terms_of}
 use Rattle.im_syntax.specs.BoundFits.{value_at}

@@ -2,7 +2,7 @@ ghost use Rattle.std.specs.Prelude.{◌≡◌, IfOk, not};
 ghost use Rattle.im_index.specs.Excludes as spec;
 ghost use Rattle.im_values.specs.Order as values;
 
-use im_values::{Cmp, NoMemory, Value, order};
+use im_values::{Cmp, NoMemory, Seen, Value, order};
 use std::alloc::Global;
 
 /// The least and the greatest value that is not NULL, or none, and how many NULLs there are.
@@ -40,9 +40,9 @@ impl Bounds {
 fn is_null(value: &Value) -> bool
     ensures { result ≡ values.is_null value.now }
 {
-    match value {
-        Value::Int(_) | Value::Text(_) => false,
-        Value::Null => true,
+    match value.seen() {
+        Seen::Int(_) | Seen::Text(_) => false,
+        Seen::Null => true,
     }
 }
 

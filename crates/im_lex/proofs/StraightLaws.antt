@@ -8,8 +8,8 @@ use Rattle.std.proofs.lemmas.Bool.Decides.{nat_tests}
 use Rattle.std.proofs.lemmas.List.{append-nil, drop-drop, map-append, length-map, take_all}
 use Rattle.std.proofs.lemmas.List.Folds.{list_all-append}
 use Rattle.im_readers.specs.Grammar.{spell_joined, spell_others, GoodJoined, IsFilled, Any}
-use Rattle.im_values.specs.declared.value.Value.{Value}
-use Rattle.im_values.specs.declared.value.Value.TheVariants as value
+use Rattle.im_values.specs.declared.content.Content.{Content as Value}
+use Rattle.im_values.specs.declared.content.Content.TheVariants as value
 use Rattle.im_values.specs.Stretches.{cut}
 use Rattle.im_values.proofs.ForCallers.{cut-push}
 use Rattle.im_syntax.specs.declared.keyword.Keyword.{Keyword}

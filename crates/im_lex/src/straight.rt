@@ -71,7 +71,7 @@ fn put_number(line: &[u8], at: usize, values: &mut Vec<Value>) -> Result<Option<
     let Some((number, more)) = number(behind(line, at)) else {
         return Ok(None);
     };
-    values.push(Value::Int(number))?;
+    values.push(Value::int(number))?;
     Ok(Some(at + 1 + more))
 }
 
@@ -91,7 +91,7 @@ fn put_text(
     let Some((text, more)) = text_of(text(alloc, behind(line, at + 1))?) else {
         return Ok(None);
     };
-    values.push(Value::Text(text))?;
+    values.push(Value::text(text))?;
     Ok(Some(at + more + 1))
 }
 
@@ -104,7 +104,7 @@ fn put_null(line: &[u8], at: usize, values: &mut Vec<Value>) -> Result<Option<us
     let Some(next) = behind_letters(line, at, b"NULL") else {
         return Ok(None);
     };
-    values.push(Value::Null)?;
+    values.push(Value::null())?;
     Ok(Some(next))
 }
 

@@ -1,7 +1,7 @@
 -- The rows of tuples, as one block of values that is cut into rows.
 use Rattle.std.proofs.Common.{◌≡◌, ℕ, ◌+◌, ◌*◌, ◌<◌, List, [], ◌∷◌, ◌++◌, length, get_or, take, map, refl, ap, ◌∙◌, arith, add-one}
 use Rattle.std.proofs.lemmas.List.{length-append}
-use Rattle.im_values.specs.declared.value.Value.{Value}
+use Rattle.im_values.specs.declared.content.Content.{Content as Value}
 use Rattle.im_values.specs.Stretches.{cut}
 use Rattle.im_values.proofs.ForCallers.{cut-push}
 use Rattle.im_syntax.specs.declared.literal.Lit.{Lit}

@@ -8,8 +8,8 @@ use Rattle.std.specs.List.{list_all, range_with_len, zip}
 use Rattle.im_values.specs.declared.schema.Column.{Column}
 use Rattle.im_values.specs.declared.schema.Kind.{Kind}
 use Rattle.im_values.specs.declared.schema.Kind.TheVariants as kind
-use Rattle.im_values.specs.declared.value.Value.{Value}
-use Rattle.im_values.specs.declared.value.Value.TheVariants as value
+use Rattle.im_values.specs.declared.content.Content.{Content as Value}
+use Rattle.im_values.specs.declared.content.Content.TheVariants as value
 use Rattle.im_values.specs.Fits.{may_stand, fits}
 use Rattle.im_syntax.specs.declared.literal.Lit.{Lit}
 use Rattle.im_syntax.specs.declared.literal.Lit.TheVariants as lit

@@ -2,8 +2,8 @@
 use Rattle.std.specs.Prelude.{ℕ, List, [], ◌∷◌, length, get_or, map, nat_eq, ◌==◌, Option, Some, None, if◌then◌else◌}
 use Rattle.std.specs.List.{position_from, range_with_len, zip}
 use Rattle.im_values.specs.declared.schema.Column.{Column}
-use Rattle.im_values.specs.declared.value.Value.{Value}
-use Rattle.im_values.specs.declared.value.Value.TheVariants as value
+use Rattle.im_values.specs.declared.content.Content.{Content as Value}
+use Rattle.im_values.specs.declared.content.Content.TheVariants as value
 use Rattle.im_syntax.specs.declared.literal.Lit.{Lit}
 use Rattle.im_syntax.specs.declared.literal.Lit.TheVariants as lit
 use Rattle.im_syntax.specs.Condition.{CondOf}

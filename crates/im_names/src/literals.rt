@@ -13,10 +13,10 @@ pub fn value_of(alloc: Global, lit: &Lit) -> Result<Value, NoMemory>
     ensures { IfOk result (λ value. value ≡ spec.value_of lit.now) }
 {
     match lit {
-        Lit::Null => Ok(Value::Null),
-        Lit::Int(number) => Ok(Value::Int(*number)),
-        Lit::Text(text) if text.bytes().is_empty() => Ok(Value::Null),
-        Lit::Text(text) => Ok(Value::Text(text.copy(alloc)?)),
+        Lit::Null => Ok(Value::null()),
+        Lit::Int(number) => Ok(Value::int(*number)),
+        Lit::Text(text) if text.bytes().is_empty() => Ok(Value::null()),
+        Lit::Text(text) => Ok(Value::text(text.copy(alloc)?)),
     }
 }
 

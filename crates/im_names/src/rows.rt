@@ -75,11 +75,11 @@ fn taken(alloc: Global, tuple: &[Lit], source: Option<usize>) -> Result<Value, N
     ensures { IfOk result (λ value. value ≡ spec.taken tuple.now source) }
 {
     let Some(i) = source else {
-        return Ok(Value::Null);
+        return Ok(Value::null());
     };
     match tuple.get(i) {
         Some(lit) => value_of(alloc, lit),
-        None => Ok(Value::Null),
+        None => Ok(Value::null()),
     }
 }
 

@@ -4,8 +4,8 @@ use Rattle.std.specs.Prelude.{cond, not}
 use Rattle.std.specs.Ordering.{is_eq}
 use Rattle.std.proofs.lemmas.List.{length-map, get_or-map}
 use Rattle.std.proofs.lemmas.List.Sums.{sum_by-cons}
-use Rattle.im_values.specs.declared.value.Value.{Value}
-use Rattle.im_values.specs.declared.value.Value.TheVariants.{Null}
+use Rattle.im_values.specs.declared.content.Content.{Content as Value}
+use Rattle.im_values.specs.declared.content.Content.TheVariants.{Null}
 use Rattle.im_values.specs.Order.{is_null, order}
 use Rattle.im_codes.specs.Dictionary.{present}
 use Rattle.im_codepred.specs.declared.tally.Tally.{Tally}

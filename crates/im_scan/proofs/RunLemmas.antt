@@ -5,7 +5,7 @@ use Rattle.std.proofs.lemmas.List.Elements.{All-from_recursion}
 use Rattle.im_syntax.specs.declared.bound.Bound.{Bound}
 use Rattle.im_syntax.specs.BoundFits.{BoundFits, FilterFits, HasColumn}
 use Rattle.im_syntax.specs.Condition.{CondOf}
-use Rattle.im_values.specs.declared.value.Value.{Value}
+use Rattle.im_values.specs.declared.content.Content.{Content as Value}
 use Rattle.im_history.specs.Fetched.{run_from}
 use Rattle.im_history.specs.Rows.{Row}
 use Rattle.im_codepred.specs.Tallies.{chosen}

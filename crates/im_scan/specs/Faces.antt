@@ -1,6 +1,6 @@
 -- What a scan reads of an extent's column unit, and how it was served the extent.
 use Rattle.std.specs.Prelude.{◌≡◌, ℕ, true, false, List, length, Option, Some, None}
-use Rattle.im_values.specs.declared.value.Value.{Value}
+use Rattle.im_values.specs.declared.content.Content.{Content as Value}
 use Rattle.im_syntax.specs.Condition.{CondOf}
 use Rattle.im_syntax.specs.declared.bound.Bound.{Bound}
 use Rattle.im_history.specs.Rows.{Row}

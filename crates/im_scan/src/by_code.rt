@@ -3,8 +3,8 @@ ghost use Rattle.std.specs.List.{AllByRecursion};
 ghost use Rattle.std.specs.Option.{ForSome};
 ghost use Rattle.im_values.specs.Order.{is_null};
 ghost use Rattle.im_values.specs.Sizes.{dictionary};
-ghost use Rattle.im_values.specs.declared.value.Value.{Value};
-ghost use Rattle.im_values.specs.declared.value.Value.TheVariants.{Null};
+ghost use Rattle.im_values.specs.declared.content.Content.{Content as Value};
+ghost use Rattle.im_values.specs.declared.content.Content.TheVariants.{Null};
 ghost use Rattle.im_codes.specs.Dictionary.{coded};
 ghost use Rattle.im_codepred.specs.Tallies.{AreCounts, AreTallies, IsTallyFor, chosen};
 ghost use Rattle.im_group.specs.MadeGroups.{groups_in, group_of};
@@ -139,7 +139,7 @@ fn value_of(alloc: Global, dict: &Dict, code: u32) -> Result<Value, NoMemory>
     ensures { IfOk result (λ value. value ≡ slice_index_or (coded dict.now) code Null) }
 {
     if code == 0 {
-        return Ok(Value::Null);
+        return Ok(Value::null());
     }
     Ok(dict.value(code).copy(alloc)?)
 }

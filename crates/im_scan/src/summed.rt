@@ -1,8 +1,8 @@
 ghost use Rattle.std.specs.Prelude.{◌≡◌, IfOk, List, map, length, if◌then◌else◌};
 ghost use Rattle.std.specs.Bool.{OnTrue};
 ghost use Rattle.std.specs.Option.{ForSome, option_copied, unwrap_or};
-ghost use Rattle.im_values.specs.declared.value.Value.{Value};
-ghost use Rattle.im_values.specs.declared.value.Value.TheVariants.{Null};
+ghost use Rattle.im_values.specs.declared.content.Content.{Content as Value};
+ghost use Rattle.im_values.specs.declared.content.Content.TheVariants.{Null};
 ghost use Rattle.im_codepred.specs.Tallies.{IsTallyFor, chosen};
 ghost use Rattle.im_group.specs.MadeGroups.{kept_values, with_sums};
 ghost use Rattle.im_group.specs.Partials as group;
@@ -32,11 +32,11 @@ fn end_of(alloc: Global, asked: bool, end: Option<&Value>) -> Result<Value, NoMe
     ensures { IfOk result (λ value. value ≡ (if asked then unwrap_or (option_copied end.entry) Null else Null)) }
 {
     if !asked {
-        return Ok(Value::Null);
+        return Ok(Value::null());
     }
     match end {
         Some(value) => Ok(value.copy(alloc)?),
-        None => Ok(Value::Null),
+        None => Ok(Value::null()),
     }
 }
 

@@ -4,7 +4,7 @@ use Rattle.std.specs.List.{cons_option, find, list_any}
 use Rattle.std.specs.Option.{option_map}
 use Rattle.std.proofs.lemmas.List.{take-append-drop}
 use Rattle.im_values.specs.declared.limits.TheConstants.{MOST_ROWS}
-use Rattle.im_values.specs.declared.value.Value.{Value}
+use Rattle.im_values.specs.declared.content.Content.{Content as Value}
 use Rattle.im_history.specs.declared.cursors.TheConstants.{OWN_CURSOR}
 use Rattle.im_history.specs.declared.entry.Mode.{Mode}
 use Rattle.im_history.specs.declared.entry.Mode.TheVariants as mode

@@ -38,7 +38,7 @@ use Rattle.im_statements.specs.Outcomes.{Outcome}
 use Rattle.im_statements.specs.Scans.{mark_at, serve, serve_from}
 use Rattle.im_syntax.specs.declared.bound.Bound.{Bound}
 use Rattle.im_syntax.specs.Condition.{CondOf}
-use Rattle.im_values.specs.declared.value.Value.{Value}
+use Rattle.im_values.specs.declared.content.Content.{Content as Value}
 
 -- ---- errors
 

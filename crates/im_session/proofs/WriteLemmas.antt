@@ -4,7 +4,7 @@ use Rattle.std.proofs.lemmas.List.Elements.{All-nil, All-cons}
 use Rattle.std.specs.List.{AllAdjacentBelow, cons_option}
 use Rattle.std.specs.Option.{option_map}
 use Rattle.im_values.specs.declared.schema.Column.{Column}
-use Rattle.im_values.specs.declared.value.Value.{Value}
+use Rattle.im_values.specs.declared.content.Content.{Content as Value}
 use Rattle.im_values.specs.Fits.{fits}
 use Rattle.im_group.specs.Partials.{Parts, groups_of, keeps, kept, partial}
 use Rattle.std.specs.FinMap as map_of

@@ -6,7 +6,7 @@ use Rattle.std.specs.Option.{option_map, option_or}
 use Rattle.std.specs.Result.{IfOk}
 use Rattle.im_values.specs.declared.priority.Priority.{Priority}
 use Rattle.im_values.specs.declared.schema.Column.{Column}
-use Rattle.im_values.specs.declared.value.Value.{Value}
+use Rattle.im_values.specs.declared.content.Content.{Content as Value}
 use Rattle.im_history.specs.declared.change.Change.{Change}
 use Rattle.im_history.specs.declared.cursors.TheConstants.{OWN_CURSOR}
 use Rattle.im_history.specs.declared.entry.Mode.{Mode}

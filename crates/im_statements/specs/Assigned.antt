@@ -1,6 +1,6 @@
 -- Values that are assigned to columns of a row.
 use Rattle.std.specs.Prelude.{ℕ, List, fold, slice_set}
-use Rattle.im_values.specs.declared.value.Value.{Value}
+use Rattle.im_values.specs.declared.content.Content.{Content as Value}
 use Rattle.im_history.specs.Rows.{Row}
 
 -- each value in its column, in order

@@ -1,6 +1,6 @@
 -- Statements that write rows.
 use Rattle.std.specs.Prelude.{ℕ, true, List, [], ◌∷◌, length, map, filter as list_filter, Option, Some, None, if◌then◌else◌}
-use Rattle.im_values.specs.declared.value.Value.{Value}
+use Rattle.im_values.specs.declared.content.Content.{Content as Value}
 use Rattle.im_group.specs.Partials.{keeps}
 use Rattle.im_history.specs.declared.change.Change.{Change}
 use Rattle.im_history.specs.declared.entry.What.TheVariants.{Write}

@@ -1,8 +1,8 @@
 -- The tuples of an INSERT, and those of them that are kept as values.
 use Rattle.std.specs.Prelude.{ℕ, ◌≡◌, Bool, true, false, List, [], ◌∷◌, map}
 use Rattle.std.specs.List.{list_all}
-use Rattle.im_values.specs.declared.value.Value.{Value}
-use Rattle.im_values.specs.declared.value.Value.TheVariants as value
+use Rattle.im_values.specs.declared.content.Content.{Content as Value}
+use Rattle.im_values.specs.declared.content.Content.TheVariants as value
 use Rattle.im_syntax.specs.declared.literal.Lit.{Lit}
 use Rattle.im_syntax.specs.declared.literal.Lit.TheVariants as lit
 

@@ -2,7 +2,7 @@ ghost use Rattle.std.specs.Prelude.{◌≡◌, ◌==◌, IfOk, length};
 ghost use Rattle.im_syntax.specs.Choices as spec;
 ghost use Rattle.std.specs.List.Sorted.{IsSorted};
 ghost use Rattle.im_values.specs.Order as values;
-ghost use Rattle.im_values.specs.declared.value.Value.TheVariants.{Null};
+ghost use Rattle.im_values.specs.declared.content.Content.TheVariants.{Null};
 ghost use Rattle.im_syntax.specs.inner.Ordered.{IsInOrder};
 
 use im_values::{NoMemory, Value, copied, order};
@@ -19,7 +19,7 @@ pub struct Choices {
 
 impl Model for Choices {
     ghost use Rattle.std.specs.Prelude.{List};
-    ghost use Rattle.im_values.specs.declared.value.Value.{Value as AnyValue};
+    ghost use Rattle.im_values.specs.declared.content.Content.{Content as AnyValue};
     ghost use Rattle.im_syntax.specs.inner.Ordered.{IsSearchable};
 
     ghost Value = { List AnyValue };
@@ -35,7 +35,7 @@ impl Choices {
         ensures { IfOk result (λ choices. choices ≡ values.items) }
     {
         let ordered = in_order(alloc, values.as_slice())?;
-        let has_null = stands_in(ordered.as_slice(), &Value::Null);
+        let has_null = stands_in(ordered.as_slice(), &Value::null());
         Ok(Choices {
             values,
             ordered,

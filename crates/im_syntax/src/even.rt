@@ -4,7 +4,7 @@ ghost use Rattle.im_values.specs.Stretches.{cut};
 ghost use Rattle.im_syntax.specs.Tuples as spec;
 
 use crate::literal::Lit;
-use im_values::{List, NoMemory, Rows, Value};
+use im_values::{Content, List, NoMemory, Rows, Value};
 use std::alloc::Global;
 use std::marker::Model;
 
@@ -18,7 +18,7 @@ pub struct EvenTuples {
 
 impl Model for EvenTuples {
     ghost use Rattle.std.specs.Prelude.{List};
-    ghost use Rattle.im_values.specs.declared.value.Value.{Value as AnyValue};
+    ghost use Rattle.im_values.specs.declared.content.Content.{Content as AnyValue};
 
     ghost Value = { List (List AnyValue) };
 
@@ -33,10 +33,11 @@ impl Model for EvenTuples {
 fn lit_of(alloc: Global, value: &Value) -> Result<Lit, NoMemory>
     ensures { IfOk result (λ lit. lit ≡ spec.lit_of value.now) }
 {
-    match value {
-        Value::Null => Ok(Lit::Null),
-        Value::Int(number) => Ok(Lit::Int(*number)),
-        Value::Text(text) => Ok(Lit::Text(text.copy(alloc)?)),
+    let copy = value.copy(alloc)?;
+    match copy.into_content() {
+        Content::Null => Ok(Lit::Null),
+        Content::Int(number) => Ok(Lit::Int(number)),
+        Content::Text(text) => Ok(Lit::Text(text)),
     }
 }
 

@@ -1,8 +1,8 @@
 -- The records of an entry of the history: what happened, and each change that was written.
 use Rattle.std.specs.Prelude.{ℕ, Bool, List, [], ◌∷◌, Option, Some, None, map, flat_map, length, codes, decimal, if◌then◌else◌}
 use Rattle.std.specs.Fmt.{signed_decimal}
-use Rattle.im_values.specs.declared.value.Value.{Value}
-use Rattle.im_values.specs.declared.value.Value.TheVariants as values
+use Rattle.im_values.specs.declared.content.Content.{Content as Value}
+use Rattle.im_values.specs.declared.content.Content.TheVariants as values
 use Rattle.im_values.specs.declared.schema.Kind.{Kind}
 use Rattle.im_values.specs.declared.schema.Kind.TheVariants as kinds
 use Rattle.im_values.specs.declared.schema.Column.{Column}

@@ -9,7 +9,7 @@ ghost use Rattle.im_text.specs.inner.Pages.{IsBetween, IsInside, Adds, Ends};
 use crate::field::Field;
 use crate::page::Page;
 use im_history::{Changes, Entry, LentChange, Mode, Shape, What};
-use im_values::{Column, Kind, Name, NoMemory, Priority, Schema, Value};
+use im_values::{Column, Kind, Name, NoMemory, Priority, Schema, Seen, Value};
 use itoa::Buffer;
 
 /// The word for a table's priority in the column store, or for its leaving it.
@@ -132,10 +132,10 @@ fn put_value(page: &mut Page, value: &Value) -> Result<(), NoMemory>
     requires { IsInside page.old }
     ensures { OnOk result (Adds page.old page.new (44 ∷ field_text (spec.value_field value.now))) }
 {
-    match value {
-        Value::Int(number) => page.put(Buffer::new().format(*number).as_bytes()),
-        Value::Text(text) => page.put(text.bytes()),
-        Value::Null => page.put(b""),
+    match value.seen() {
+        Seen::Int(number) => page.put(Buffer::new().format(number).as_bytes()),
+        Seen::Text(text) => page.put(text),
+        Seen::Null => page.put(b""),
     }
 }
 

@@ -1,4 +1,4 @@
-ghost use Rattle.std.specs.Prelude.{◌≡◌, ◌++◌, [], IfOk, OnOk, OnErr};
+ghost use Rattle.std.specs.Prelude.{◌≡◌, ◌++◌, [], length, take, IfOk, OnOk, OnErr};
 ghost use Rattle.im_replies.specs.declared.body.Body.TheVariants.{Inserted};
 ghost use Rattle.im_text.specs.Passages.{passage_text};
 ghost use Rattle.im_text.specs.Replies.{reply_text};
@@ -15,9 +15,6 @@ use std::marker::Model;
 /// The most bytes of a text for which there is always room behind a piece.
 const SHORT: usize = 4096;
 
-/// Room for the record of rows that were inserted.
-const RECORD: usize = 80;
-
 /// The text of replies that waits to be written.
 ///
 /// Lines are numbered from 1. The text is bytes, since a text of a table may hold any. Memory for a piece of it is taken at
@@ -27,8 +24,6 @@ const RECORD: usize = 80;
 pub struct Waiting {
     page: Page,
     text: Vec<u8>,
-    /// The record of rows that were inserted, before it is put behind the text.
-    record: Vec<u8>,
     piece: usize,
 }
 
@@ -43,9 +38,11 @@ impl Model for Waiting {
     ghost invariant = { λ waiting. IsReady waiting.page };
 }
 
-/// Puts the record of rows that were inserted at the end of a text, by no page: none of its fields calls for quotes.
+/// Puts the record of rows that were inserted at the end of a text, by no page: none of its fields calls for quotes. Where there is
+/// no memory for all of it, a part of it may be there.
 fn put_inserted(text: &mut Vec<u8>, line: u64, rows: u64, first: u64) -> Result<(), NoMemory>
-    ensures { OnOk result (text.new.items ≡ text.old.items ++ reply_text line (Inserted rows first)) }
+    ensures behind { take (length text.old.items) text.new.items ≡ text.old.items }
+    ensures ok { OnOk result (text.new.items ≡ text.old.items ++ reply_text line (Inserted rows first)) }
 {
     let mut digits = Buffer::new();
     text.extend_from_slice(digits.format(line).as_bytes())?;
@@ -58,20 +55,16 @@ fn put_inserted(text: &mut Vec<u8>, line: u64, rows: u64, first: u64) -> Result<
 }
 
 /// The same, or nothing where there is no memory for all of it.
-fn put_inserted_behind(
-    text: &mut Vec<u8>,
-    line: u64,
-    rows: u64,
-    first: u64,
-    record: &mut Vec<u8>,
-) -> Result<(), NoMemory>
+fn put_inserted_behind(text: &mut Vec<u8>, line: u64, rows: u64, first: u64) -> Result<(), NoMemory>
     ensures ok { OnOk result (text.new.items ≡ text.old.items ++ reply_text line (Inserted rows first)) }
     ensures err { OnErr result (text.new.items ≡ text.old.items) }
 {
-    record.clear();
-    put_inserted(record, line, rows, first)?;
-    text.extend_from_slice(record.as_slice())?;
-    Ok(())
+    let start = text.len();
+    let put = put_inserted(text, line, rows, first);
+    if put.is_err() {
+        text.truncate(start);
+    }
+    put
 }
 
 /// Puts a passage at the end of a page, and its text behind what waits.
@@ -112,7 +105,6 @@ impl Waiting {
         Ok(Waiting {
             page: Page::over(Vec::with_capacity(alloc, room)?),
             text: Vec::with_capacity(alloc, room)?,
-            record: Vec::with_capacity(alloc, RECORD)?,
             piece,
         })
     }
@@ -143,7 +135,7 @@ impl Waiting {
     {
         match passage {
             Passage::Reply(line, Body::Inserted { rows, first }) => {
-                put_inserted_behind(&mut self.text, line, *rows, *first, &mut self.record)
+                put_inserted_behind(&mut self.text, line, *rows, *first)
             }
             _ => self.put_by_page(alloc, passage),
         }

@@ -8,8 +8,8 @@ use Rattle.std.proofs.lemmas.List.FromFn.{get_or-map-range_with_len, length-map-
 use Rattle.std.proofs.lemmas.List.Elements.{All-from_recursion, All-nil, All-push, All-set, filter_map-append, filter_more, recursion_from_All}
 use denote.Ref.{Bor}
 use mir.Val.{bool_byte}
-use Rattle.im_values.specs.declared.value.Value.{Value}
-use Rattle.im_values.specs.declared.value.Value.TheVariants.{Null}
+use Rattle.im_values.specs.declared.content.Content.{Content as Value}
+use Rattle.im_values.specs.declared.content.Content.TheVariants.{Null}
 use Rattle.im_column.specs.Forms.{IsShort}
 use Rattle.im_column.specs.Picks.{values_picked}
 use Rattle.im_history.specs.Fetched.{lent_row, lent_rows}

@@ -1,6 +1,6 @@
 ghost use Rattle.std.specs.Prelude.{◌≡◌, ◌+◌, ◌*◌, ◌^◌, ◌<◌, ◌≤◌, ◌++◌, ◌∷◌, All, IfOk, OnOk, length, map, get_or, true, None, Some, [], if◌then◌else◌, vec_len, vec_capacity};
 ghost use Rattle.std.specs.Arc.{arc_value};
-ghost use Rattle.im_values.specs.declared.value.Value.TheVariants.{Null};
+ghost use Rattle.im_values.specs.declared.content.Content.TheVariants.{Null};
 ghost use Rattle.std.specs.Vec.Iter.{into_iter_items};
 ghost use Rattle.im_unit.specs.inner.Kept.{HaveLength, IsPiece, Takes, lent_values, row_across, rows_across, rows_from, spread};
 
@@ -76,17 +76,14 @@ fn lend_piece<'a>(columns: &'a [Arc<Column>], first: u64, piece: &mut Vec<[&'a V
     }
 }
 
-/// Puts a copy of a value behind others. Most values are numbers, and a copy of a number is made at once.
+/// Puts a copy of a value behind others.
 fn push_copy(alloc: Global, values: &mut Vec<Value>, value: &Value) -> Result<(), NoMemory>
     requires room { vec_len values.old + 1 ≤ vec_capacity values.old }
     ensures items { OnOk result (values.new.items ≡ values.old.items ++ value.now ∷ []) }
     ensures len { OnOk result (vec_len values.new ≡ vec_len values.old + 1) }
     ensures capacity { vec_capacity values.new ≡ vec_capacity values.old }
 {
-    match value {
-        Value::Int(number) => values.push_reserved(Value::Int(*number)),
-        _ => values.push_reserved(value.copy(alloc)?),
-    }
+    values.push_reserved(value.copy(alloc)?);
     Ok(())
 }
 

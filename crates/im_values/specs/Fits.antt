@@ -3,8 +3,8 @@ use Rattle.std.specs.Prelude.{Bool, true, false, ◌&&◌, List, [], ◌∷◌, 
 use Rattle.im_values.specs.declared.schema.Kind.{Kind}
 use Rattle.im_values.specs.declared.schema.Kind.TheVariants as kind
 use Rattle.im_values.specs.declared.schema.Column.{Column}
-use Rattle.im_values.specs.declared.value.Value.{Value}
-use Rattle.im_values.specs.declared.value.Value.TheVariants.{Int, Text, Null}
+use Rattle.im_values.specs.declared.content.Content.{Content as Value}
+use Rattle.im_values.specs.declared.content.Content.TheVariants.{Int, Text, Null}
 
 -- NULL stands in each column, a number in one of numbers, a text in one of texts that are as long
 abbrev pub may_stand : Kind → Value → Bool

@@ -1,3 +1,4 @@
+pub mod Contents
 pub mod Fits
 pub mod Order
 pub mod Runs

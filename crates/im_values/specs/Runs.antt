@@ -4,7 +4,7 @@ use Rattle.std.specs.Arc.{arc_value}
 use Rattle.im_values.specs.declared.rows.Form.{Form}
 use Rattle.im_values.specs.declared.rows.Form.TheVariants.{Laid, Picked}
 use Rattle.im_values.specs.declared.rows.Picks.{Picks}
-use Rattle.im_values.specs.declared.value.Value.{Value}
+use Rattle.im_values.specs.declared.content.Content.{Content as Value}
 use Rattle.im_values.specs.Stretches.{cut}
 
 -- the rows at these places

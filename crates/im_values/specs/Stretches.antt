@@ -4,7 +4,7 @@ use Rattle.std.specs.List.{slice_range}
 use Rattle.std.specs.Arc.{arc_value}
 use Rattle.im_values.specs.declared.row.Form.{Form}
 use Rattle.im_values.specs.declared.row.Form.TheVariants.{Owned, Stretch}
-use Rattle.im_values.specs.declared.value.Value.{Value}
+use Rattle.im_values.specs.declared.content.Content.{Content as Value}
 
 -- the values
 abbrev pub values_of : Form → List Value

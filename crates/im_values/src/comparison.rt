@@ -2,7 +2,7 @@ ghost use Rattle.std.specs.Prelude.{◌≡◌};
 ghost use Rattle.im_values.specs.Order as spec;
 
 use crate::truth::Truth;
-use crate::value::Value;
+use crate::value::{Seen, Value};
 use std::cmp::Ordering;
 
 /// One of SQL's six comparisons.
@@ -44,8 +44,8 @@ pub fn order(a: &Value, b: &Value) -> Ordering
 pub fn compare(a: &Value, cmp: Cmp, b: &Value) -> Truth
     ensures { result ≡ spec.compare a.now cmp b.now }
 {
-    match (a, b) {
-        (Value::Null, _) | (_, Value::Null) => Truth::Unknown,
+    match (a.seen(), b.seen()) {
+        (Seen::Null, _) | (_, Seen::Null) => Truth::Unknown,
         _ if cmp.admits(order(a, b)) => Truth::Yes,
         _ => Truth::No,
     }

@@ -9,6 +9,7 @@
 #![tactic(auto)]
 
 mod comparison;
+mod content;
 pub mod limits;
 mod list;
 mod name;
@@ -22,6 +23,7 @@ mod truth;
 mod value;
 
 pub use comparison::{Cmp, compare, order};
+pub use content::Content;
 pub use list::List;
 pub use name::Name;
 pub use no_memory::NoMemory;
@@ -31,4 +33,4 @@ pub use rows::Rows;
 pub use schema::{Column, Kind, Schema, fits};
 pub use steps::Steps;
 pub use truth::Truth;
-pub use value::Value;
+pub use value::{Seen, Value};

@@ -1,4 +1,5 @@
 ghost use Rattle.std.specs.Prelude.{◌≡◌, ◌≤◌, IfOk, length};
+ghost use Rattle.im_values.specs.Text.{text_of, IsInPlace};
 
 use crate::no_memory::NoMemory;
 use std::alloc::Global;
@@ -8,11 +9,11 @@ use std::marker::Model;
 use std::sync::Arc;
 
 /// The most bytes that a text keeps in place, without taking memory.
-const IN_PLACE: usize = 14;
+pub(crate) const IN_PLACE: usize = 14;
 
 /// How the bytes of a text are kept.
 #[derive(Drop)]
-enum Form {
+pub(crate) enum Form {
     /// The first so many bytes of the array.
     Short(u8, [u8; IN_PLACE]),
     /// Bytes that copies of the text share.
@@ -63,6 +64,22 @@ impl Name {
         Ok(Name {
             form: Form::Long(Arc::new(alloc, Vec::from_slice(alloc, bytes)?)?),
         })
+    }
+
+    /// How the bytes are kept.
+    pub(crate) fn into_form(self) -> Form
+        ensures bytes { text_of result ≡ self }
+        ensures in_place { IsInPlace result }
+    {
+        self.form
+    }
+
+    /// The text of bytes that are kept so.
+    pub(crate) fn of_form(form: Form) -> Name
+        requires { IsInPlace form }
+        ensures { result ≡ text_of form }
+    {
+        Name { form }
     }
 
     /// The bytes, in order.

@@ -29,7 +29,7 @@ pub struct Row {
 
 impl Model for Row {
     ghost use Rattle.std.specs.Prelude.{List};
-    ghost use Rattle.im_values.specs.declared.value.Value.{Value as AnyValue};
+    ghost use Rattle.im_values.specs.declared.content.Content.{Content as AnyValue};
 
     ghost Value = { List AnyValue };
 

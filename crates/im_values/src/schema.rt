@@ -5,7 +5,7 @@ use crate::limits::MOST_COLUMNS;
 use crate::name::Name;
 use crate::no_memory::NoMemory;
 use crate::row::Row;
-use crate::value::Value;
+use crate::value::{Seen, Value};
 use std::alloc::Global;
 use std::marker::Model;
 use std::sync::Arc;
@@ -22,9 +22,9 @@ impl Kind {
     pub fn holds(self, value: &Value) -> bool
         ensures { result ≡ spec.may_stand self value.now }
     {
-        match (self, value) {
-            (_, Value::Null) | (Kind::Int, Value::Int(_)) => true,
-            (Kind::Text(limit), Value::Text(text)) => text.bytes().len() <= usize::from(limit),
+        match (self, value.seen()) {
+            (_, Seen::Null) | (Kind::Int, Seen::Int(_)) => true,
+            (Kind::Text(limit), Seen::Text(text)) => text.len() <= usize::from(limit),
             _ => false,
         }
     }

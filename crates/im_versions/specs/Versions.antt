@@ -2,7 +2,7 @@
 use Rattle.std.specs.Prelude.{ℕ, ◌-◌, ◌<◌, List, [], length, filter, nat_le, Option, slice_get, option_and_then}
 use Rattle.std.specs.List.{AllAdjacentBelow}
 use Rattle.std.specs.Option.{option_map}
-use Rattle.im_values.specs.declared.value.Value.{Value}
+use Rattle.im_values.specs.declared.content.Content.{Content as Value}
 use Rattle.im_versions.specs.declared.version.Version.{Version}
 
 -- a chain as contracts see it: its versions, oldest first, and how many more can be put on without memory

@@ -11,16 +11,16 @@ use im_core::Fetched;
 use im_history::{LentRow, Piece, Task, lent_values};
 use im_unit::ColumnUnit;
 use im_values::limits::MOST_COLUMNS;
-use im_values::{NoMemory, Rows, Value};
+use im_values::{NoMemory, Rows, Seen, Value};
 use std::alloc::Global;
 
 /// Whether a value is no text of more than 65,535 bytes.
 fn is_short(value: &Value) -> bool
     ensures { result ≡ nat_le (value_bytes value.now) 65538 }
 {
-    match value {
-        Value::Text(text) => text.bytes().len() <= 65_535,
-        Value::Int(_) | Value::Null => true,
+    match value.seen() {
+        Seen::Text(text) => text.len() <= 65_535,
+        Seen::Int(_) | Seen::Null => true,
     }
 }
 

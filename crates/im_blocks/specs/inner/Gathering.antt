@@ -1,7 +1,7 @@
 -- Rows that are gathered behind what was read before.
 use Rattle.std.specs.Prelude.{◌≡◌, ℕ, ◌+◌, ◌*◌, ◌^◌, ◌≤◌, List, [], ◌++◌, length, Option}
 use Rattle.im_values.specs.Stretches.{cut}
-use Rattle.im_values.specs.declared.value.Value.{Value}
+use Rattle.im_values.specs.declared.content.Content.{Content as Value}
 use Rattle.im_history.specs.Fetched.{run_from}
 use Rattle.im_blocks.specs.declared.gathered.Gathered.{Gathered}
 

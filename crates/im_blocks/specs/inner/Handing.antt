@@ -1,7 +1,7 @@
 -- The single steps by which changes come to their rows.
 use Rattle.std.specs.Prelude.{◌≡◌, ℕ, ◌+◌, ◌-◌, ◌<◌, ◌≤◌, ◌==◌, ◌⊎◌, Bool, true, false, List, [], ◌∷◌, ◌++◌, length, slice_get, Option, if◌then◌else◌}
 use Rattle.im_tables.specs.Table.{HasCell}
-use Rattle.im_values.specs.declared.value.Value.{Value}
+use Rattle.im_values.specs.declared.content.Content.{Content as Value}
 use Rattle.im_versions.specs.declared.version.Version.{Version}
 use Rattle.im_blocks.specs.Chains.{AllVersions, IsReady, newest_scn, versions_at}
 use Rattle.im_blocks.specs.Runs.{is_in}

@@ -1,7 +1,7 @@
 -- How an image is made of the newest rows.
 use Rattle.std.specs.Prelude.{◌≡◌, ℕ, ◌+◌, ◌*◌, ◌<◌, ◌≤◌, Bool, true, false, List, [], ◌∷◌, ◌++◌, length, get_or, slice_get, Option, Some}
 use Rattle.im_values.specs.Stretches.{cut}
-use Rattle.im_values.specs.declared.value.Value.{Value}
+use Rattle.im_values.specs.declared.content.Content.{Content as Value}
 use Rattle.im_versions.specs.Versions.{newest_row, row_at}
 use Rattle.im_blocks.specs.declared.drawing.Draft.{Draft}
 use Rattle.im_blocks.specs.declared.image.Image.{Image}

@@ -2,7 +2,7 @@
 use Rattle.std.specs.Prelude.{◌≡◌, ℕ, ◌+◌, ◌*◌, ◌/◌, ◌%◌, ◌<◌, ◌≤◌, true, false, List, length, get_or, slice_get, Option, Some, None}
 use Rattle.std.specs.List.{All}
 use Rattle.im_tables.specs.Table.{cell_at}
-use Rattle.im_values.specs.declared.value.Value.{Value}
+use Rattle.im_values.specs.declared.content.Content.{Content as Value}
 use Rattle.im_versions.specs.Versions.{row_at}
 use Rattle.im_blocks.specs.declared.image.Image.{Image}
 use Rattle.im_blocks.specs.declared.pages.Page.{Page}

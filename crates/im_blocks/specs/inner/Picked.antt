@@ -2,7 +2,7 @@
 use Rattle.std.specs.Prelude.{◌≡◌, ℕ, ◌+◌, ◌*◌, ◌<◌, List, [], ◌++◌, All, length, Option}
 use Rattle.im_values.specs.Runs.{picked}
 use Rattle.im_values.specs.Stretches.{cut}
-use Rattle.im_values.specs.declared.value.Value.{Value}
+use Rattle.im_values.specs.declared.content.Content.{Content as Value}
 use Rattle.im_history.specs.Fetched.{each_at}
 use Rattle.im_blocks.specs.declared.picking.Picking.{Picking}
 

@@ -1,7 +1,7 @@
 -- Rows at row numbers of their own that are gathered behind what was read before.
 use Rattle.std.specs.Prelude.{◌≡◌, ℕ, ◌*◌, List, [], ◌++◌, length, Option}
 use Rattle.im_values.specs.Stretches.{cut}
-use Rattle.im_values.specs.declared.value.Value.{Value}
+use Rattle.im_values.specs.declared.content.Content.{Content as Value}
 use Rattle.im_history.specs.Fetched.{each_at}
 use Rattle.im_blocks.specs.declared.scattered.Scattered.{Scattered}
 

@@ -1,6 +1,6 @@
 -- The rows of a run that is seen at an SCN.
 use Rattle.std.specs.Prelude.{◌≡◌, ℕ, ◌≤◌, List, Option, Some}
-use Rattle.im_values.specs.declared.value.Value.{Value}
+use Rattle.im_values.specs.declared.content.Content.{Content as Value}
 use Rattle.im_blocks.specs.declared.run.Run.{Run}
 use Rattle.im_blocks.specs.Runs.{rows_in}
 

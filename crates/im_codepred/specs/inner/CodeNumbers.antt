@@ -1,7 +1,7 @@
 -- Dictionaries of numbers that follow one another.
 use Rattle.std.specs.Prelude.{◌≡◌, ℕ, suc, ◌-◌, ◌^◌, ◌<◌, List, length, get_or, Option, Some, None, ℤ, pos, ◌+ℤ◌, ◌≤ℤ◌, ⊤}
-use Rattle.im_values.specs.declared.value.Value.{Value}
-use Rattle.im_values.specs.declared.value.Value.TheVariants.{Int, Null}
+use Rattle.im_values.specs.declared.content.Content.{Content as Value}
+use Rattle.im_values.specs.declared.content.Content.TheVariants.{Int, Null}
 use Rattle.im_codepred.specs.inner.Tallying.{number_at}
 
 -- each code from 1 on stands for the number that is one above that of the code before it; code 1 stands for this one

@@ -1,8 +1,8 @@
 -- Whole numbers between two others, and what is asked of many values.
 use Rattle.std.specs.Prelude.{◌≡◌, ℕ, ℤ, pos, negsuc, ◌≤ℤ◌, ◌^◌, ◌-◌, Bool, ◌&&◌, int_le, not, List, if◌then◌else◌}
 use Rattle.std.specs.Ordering.{is_eq}
-use Rattle.im_values.specs.declared.value.Value.{Value}
-use Rattle.im_values.specs.declared.value.Value.TheVariants.{Int}
+use Rattle.im_values.specs.declared.content.Content.{Content as Value}
+use Rattle.im_values.specs.declared.content.Content.TheVariants.{Int}
 use Rattle.im_values.specs.Order.{order}
 use Rattle.im_syntax.specs.BoundFits.{value_at}
 use Rattle.im_codepred.specs.declared.numbers.Numbers.{Numbers}

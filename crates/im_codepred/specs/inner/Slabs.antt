@@ -2,7 +2,7 @@
 use Rattle.std.specs.Prelude.{ℕ, ◌<◌, ◌^◌, Bool, List, [], length, map, get_or}
 use Rattle.std.specs.Arc.{arc_value}
 use Rattle.std.specs.List.{range_with_len}
-use Rattle.im_values.specs.declared.value.Value.{Value}
+use Rattle.im_values.specs.declared.content.Content.{Content as Value}
 use Rattle.im_syntax.specs.BoundFits.{value_at}
 use Rattle.im_codepred.specs.declared.slab.Slab.{Slab}
 use Rattle.im_codepred.specs.declared.slab.Slab.TheVariants as of

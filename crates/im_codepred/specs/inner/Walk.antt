@@ -1,6 +1,6 @@
 -- Runs while they are gone over.
 use Rattle.std.specs.Prelude.{◌≡◌, ℕ, ◌<◌, ◌≤◌, Bool, false, List, length, drop, fold, get_or}
-use Rattle.im_values.specs.declared.value.Value.{Value}
+use Rattle.im_values.specs.declared.content.Content.{Content as Value}
 use Rattle.im_codepred.specs.Tallies.{chosen}
 use Rattle.im_codepred.specs.inner.Tallying.{FoundOf, taken, nothing}
 use Rattle.im_codes.specs.declared.run.Run.{Run}

@@ -1,6 +1,6 @@
 -- Values under numbers, before they have codes.
 use Rattle.std.specs.Prelude.{◌≡◌, ℕ, ◌^◌, ◌<◌, ◌≤◌, List, [], ◌∷◌, ◌++◌, ◌⊎◌, All, Contains, length, take, slice_index_or}
-use Rattle.im_values.specs.declared.value.Value.{Value}
+use Rattle.im_values.specs.declared.content.Content.{Content as Value}
 use Rattle.im_codes.specs.Dictionary.{StandAt}
 
 -- each value that was seen is one of these

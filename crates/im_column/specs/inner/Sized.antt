@@ -2,7 +2,7 @@
 use Rattle.std.specs.Prelude.{◌≡◌, ℕ, ℤ, pos, neg_ℤ, ◌*◌, ◌-◌, ◌^◌, ◌<◌, ◌≤ℤ◌, false, List, All, count_by, length, slice_index_or}
 use Rattle.std.specs.List.Sorted.{IsStrictlySortedBy}
 use Rattle.std.specs.declared.cmp.Ordering.TheVariants.{Less}
-use Rattle.im_values.specs.declared.value.Value.{Value}
+use Rattle.im_values.specs.declared.content.Content.{Content as Value}
 use Rattle.im_values.specs.Order.{order, is_null}
 use Rattle.im_values.specs.Sizes.{Plain, Coded, Runs, shape_of, width_for, column_bytes, plain_bytes, coded_bytes, runs_bytes}
 use Rattle.im_codes.specs.Dictionary.{coded, values_at}

@@ -1,7 +1,7 @@
 -- Rows that the bits of words choose, and groups that take them.
 use Rattle.std.specs.Prelude.{◌≡◌, ℕ, ◌/◌, ◌%◌, ◌<◌, ◌^◌, ◌*◌, ◌==◌, Bool, List, [], ◌∷◌, length, take, drop, fold, filter, if◌then◌else◌}
 use Rattle.std.specs.List.{AllByRecursion}
-use Rattle.im_values.specs.declared.value.Value.{Value}
+use Rattle.im_values.specs.declared.content.Content.{Content as Value}
 use Rattle.im_group.specs.declared.asked.Asked.{Asked}
 use Rattle.im_group.specs.Tallies.{Tallied}
 use Rattle.im_group.specs.Partials.{key_of}

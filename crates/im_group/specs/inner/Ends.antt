@@ -1,7 +1,7 @@
 -- The ends of a text as one number.
 use Rattle.std.specs.Prelude.{◌≡◌, ℕ, ◌+◌, ◌-◌, ◌*◌, ◌/◌, ◌^◌, nat_le, List, [], ◌∷◌, length, slice_index, if◌then◌else◌}
-use Rattle.im_values.specs.declared.value.Value.{Value}
-use Rattle.im_values.specs.declared.value.Value.TheVariants.{Int, Text, Null}
+use Rattle.im_values.specs.declared.content.Content.{Content as Value}
+use Rattle.im_values.specs.declared.content.Content.TheVariants.{Int, Text, Null}
 use Rattle.im_group.specs.declared.same.Sought.{Sought}
 
 -- four bytes from a place on, the first of which is the lowest

@@ -1,7 +1,7 @@
 -- What a query asks of counts that say more.
 use Rattle.std.specs.Prelude.{List, map, get_or, if◌then◌else◌}
-use Rattle.im_values.specs.declared.value.Value.{Value}
-use Rattle.im_values.specs.declared.value.Value.TheVariants.{Null}
+use Rattle.im_values.specs.declared.content.Content.{Content as Value}
+use Rattle.im_values.specs.declared.content.Content.TheVariants.{Null}
 use Rattle.im_group.specs.declared.asked.Asked.{Asked}
 use Rattle.im_group.specs.Sums.{SumsOf, no_sums}
 use Rattle.im_group.specs.Tallies.{Tallied}

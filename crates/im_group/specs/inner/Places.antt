@@ -1,8 +1,8 @@
 -- Where columns stand in the keys of groups.
 use Rattle.std.specs.Prelude.{◌≡◌, ℕ, List, Option, None, Some, drop, get_or}
 use Rattle.std.specs.Option.{ForSome}
-use Rattle.im_values.specs.declared.value.Value.{Value}
-use Rattle.im_values.specs.declared.value.Value.TheVariants as value
+use Rattle.im_values.specs.declared.content.Content.{Content as Value}
+use Rattle.im_values.specs.declared.content.Content.TheVariants as value
 use Rattle.im_group.specs.Answers.{key_value}
 
 -- the first value of a column in any key, from a place on, is that at this place

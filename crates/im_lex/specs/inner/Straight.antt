@@ -2,7 +2,7 @@
 use Rattle.std.specs.Prelude.{◌≡◌, ℕ, ◌+◌, ◌*◌, ◌≤◌, Bool, true, false, List, [], ◌∷◌, ◌++◌, length, take, drop, map}
 use Rattle.std.specs.List.{list_all}
 use Rattle.im_readers.specs.Grammar.{spell_joined, GoodJoined}
-use Rattle.im_values.specs.declared.value.Value.{Value}
+use Rattle.im_values.specs.declared.content.Content.{Content as Value}
 use Rattle.im_values.specs.Stretches.{cut}
 use Rattle.im_syntax.specs.declared.keyword.Keyword.TheVariants as key
 use Rattle.im_syntax.specs.declared.token.Token.{Token}

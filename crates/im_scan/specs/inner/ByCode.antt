@@ -1,7 +1,7 @@
 -- A unit that a query is answered from by the codes of the column that it is grouped by.
 use Rattle.std.specs.Prelude.{◌≡◌, ◌==◌, ℕ, Bool, true, List, [], ◌∷◌, Contains, map, slice_index_or, if◌then◌else◌}
 use Rattle.std.specs.List.{AllByRecursion}
-use Rattle.im_values.specs.declared.value.Value.{Value}
+use Rattle.im_values.specs.declared.content.Content.{Content as Value}
 use Rattle.im_syntax.specs.declared.bound.Bound.{Bound}
 use Rattle.im_history.specs.Rows.{Row}
 use Rattle.im_codepred.specs.declared.tally.Tally.{Tally}

@@ -2,7 +2,7 @@
 use Rattle.std.specs.Prelude.{◌≡◌, ℕ, ◌<◌, ◌≤◌, ◌+◌, true, false, List, [], ◌∷◌, Option, Some}
 use Rattle.std.specs.List.{AllByRecursion}
 use Rattle.im_values.specs.declared.schema.Column.{Column}
-use Rattle.im_values.specs.declared.value.Value.{Value}
+use Rattle.im_values.specs.declared.content.Content.{Content as Value}
 use Rattle.im_values.specs.Fits.{fits}
 use Rattle.im_history.specs.declared.refused.Why.{Why}
 use Rattle.im_history.specs.declared.refused.Why.TheVariants as why

@@ -2,8 +2,8 @@
 use Rattle.std.specs.Prelude.{◌≡◌, ℕ, ◌+◌, ◌*◌, ◌/◌, ◌^◌, ◌<◌, Bool, true, false, List, [], ◌∷◌, length, map, take, get_or, count_by, Option, Some, None}
 use Rattle.std.specs.List.{All, range_with_len}
 use denote.Ref.{Bor}
-use Rattle.im_values.specs.declared.value.Value.{Value}
-use Rattle.im_values.specs.declared.value.Value.TheVariants.{Null}
+use Rattle.im_values.specs.declared.content.Content.{Content as Value}
+use Rattle.im_values.specs.declared.content.Content.TheVariants.{Null}
 use Rattle.im_values.specs.Sizes.{column_bytes}
 use Rattle.im_column.specs.Forms.{AreLent, IsShort}
 use Rattle.im_history.specs.Rows.{Row}

@@ -2,7 +2,7 @@
 use Rattle.std.specs.Prelude.{◌≡◌, ℕ, ◌<◌, List, [], ◌++◌, get_or, length, map, Option}
 use Rattle.std.specs.List.{All, filter_map, range_with_len}
 use Rattle.std.specs.Option.{ForSome, option_map}
-use Rattle.im_values.specs.declared.value.Value.{Value}
+use Rattle.im_values.specs.declared.content.Content.{Content as Value}
 use Rattle.im_column.specs.Picks.{values_picked}
 use Rattle.im_history.specs.Rows.{Row}
 use Rattle.im_unit.specs.Holding.{present_rows, values_in}

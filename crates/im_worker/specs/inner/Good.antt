@@ -1,7 +1,7 @@
 -- Which rows a unit takes: of so many values each, without a text that is too long.
 use Rattle.std.specs.Prelude.{◌≡◌, ℕ, ◌+◌, ◌-◌, ◌*◌, ◌==◌, ◌&&◌, ◌++◌, Bool, true, nat_le, List, [], ◌∷◌, length, map, Option, Some, None}
 use Rattle.std.specs.List.{range_with_len}
-use Rattle.im_values.specs.declared.value.Value.{Value}
+use Rattle.im_values.specs.declared.content.Content.{Content as Value}
 use Rattle.im_values.specs.Sizes.{value_bytes}
 use Rattle.im_history.specs.declared.task.Task.{Task}
 use Rattle.im_history.specs.Rows.{Row}

@@ -1,5 +1,5 @@
 use Rattle.std.proofs.Common.{◌≡◌, List, ◌+◌, length, subst, arith}
-use Rattle.im_values.specs.declared.value.Value.{Value}
+use Rattle.im_values.specs.declared.content.Content.{Content as Value}
 use Rattle.im_codes.specs.Dictionary.{coded}
 use Rattle.im_codepred.specs.Tallies.{chosen, AreCounts}
 use Rattle.im_codepred.proofs.CountLemmas.{counts-shown}

@@ -1,6 +1,6 @@
 use Rattle.std.proofs.Common.{◌<◌, ◌≤◌, false, map, length, ap, sym, ◌∙◌, arith}
 use Rattle.std.proofs.lemmas.List.{length-map, get_or-map, get_or_read, take_all}
-use Rattle.im_values.specs.declared.value.Value.TheVariants.{Null}
+use Rattle.im_values.specs.declared.content.Content.TheVariants.{Null}
 use Rattle.im_lanes.specs.Masks.{word_of}
 use Rattle.im_lanes.proofs.ForCallers.{push-bit, word_of-few}
 use Rattle.im_codepred.specs.inner.Numbers.{passes}

@@ -1,6 +1,6 @@
 use Rattle.std.proofs.Common.{List, ◌*◌, ◌^◌, ◌<◌, length, take, drop, fold, get_or, sym, subst, ap, ◌∙◌, arith, length-take}
 use Rattle.std.specs.Int.{div_ceil}
-use Rattle.im_values.specs.declared.value.Value.{Value}
+use Rattle.im_values.specs.declared.content.Content.{Content as Value}
 use Rattle.im_codepred.specs.inner.Tallying.{at_bits, with_value}
 use Rattle.im_codepred.proofs.BitsLemmas.{word-read, word-few, left-share, left-done, length-at_bits}
 use Rattle.im_codepred.proofs.FoundLemmas.{gathered-grows}

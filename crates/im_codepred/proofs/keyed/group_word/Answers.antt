@@ -3,7 +3,7 @@ use mir.Syntax.{w64}
 use Rattle.std.specs.Int.{trailing_zeros}
 use Rattle.std.proofs.lemmas.Nat.Bits.{bit_at-trailing_zeros}
 use Rattle.std.proofs.lemmas.List.{get_or_default}
-use Rattle.im_values.specs.declared.value.Value.TheVariants.{Null}
+use Rattle.im_values.specs.declared.content.Content.TheVariants.{Null}
 use Rattle.im_codes.specs.Dictionary.{lent}
 use Rattle.im_codepred.specs.inner.Tallying.{TotalsOf, at_bits, keyed, no_totals, with_pair, IsLeft}
 use Rattle.im_codepred.proofs.BitsLemmas.{left-all, left-next, left-none, bit-inside, length-at_bits}

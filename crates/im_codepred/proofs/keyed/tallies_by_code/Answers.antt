@@ -1,5 +1,5 @@
 use Rattle.std.proofs.Common.{◌≡◌, List, ◌+◌, length, subst, refl, arith}
-use Rattle.im_values.specs.declared.value.Value.{Value}
+use Rattle.im_values.specs.declared.content.Content.{Content as Value}
 use Rattle.im_codes.specs.Dictionary.{coded}
 use Rattle.im_codepred.specs.Tallies.{AreTallies}
 use Rattle.im_codepred.proofs.KeyedLemmas.{groups-shown}

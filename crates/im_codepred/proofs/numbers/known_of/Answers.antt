@@ -1,5 +1,5 @@
 use Rattle.std.proofs.Common.{Bool, sym, ap, ◌∙◌}
-use Rattle.im_values.specs.declared.value.Value.{Value}
+use Rattle.im_values.specs.declared.content.Content.{Content as Value}
 use Rattle.im_values.specs.Order.{compare}
 use Rattle.im_codepred.specs.declared.asked.Wanted.TheVariants.{Held}
 use Rattle.im_codepred.specs.Asked.{met, is_met}

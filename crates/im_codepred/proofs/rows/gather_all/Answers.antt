@@ -1,6 +1,6 @@
 use Rattle.std.proofs.Common.{◌+◌, ◌<◌, length, take, drop, get_or, ap, sym, ◌∙◌, arith, length-take}
 use Rattle.std.proofs.lemmas.List.Sums.{fold_more}
-use Rattle.im_values.specs.declared.value.Value.TheVariants.{Null}
+use Rattle.im_values.specs.declared.content.Content.TheVariants.{Null}
 use Rattle.im_codepred.specs.inner.Slabs.{column_of}
 use Rattle.im_codepred.specs.inner.Tallying.{with_value}
 use Rattle.im_codepred.proofs.FoundLemmas.{gathered-grows}

@@ -1,7 +1,7 @@
 use Rattle.std.proofs.Common.{drop, ap, arith, length-take}
 use mir.Syntax.{w64}
 use Rattle.std.proofs.lemmas.Nat.Bits.{bit_at-trailing_zeros}
-use Rattle.im_values.specs.declared.value.Value.TheVariants.{Null}
+use Rattle.im_values.specs.declared.content.Content.TheVariants.{Null}
 use Rattle.im_codepred.specs.inner.Slabs.{column_of}
 use Rattle.im_codepred.specs.inner.Tallying.{at_bits, with_value}
 use Rattle.im_codepred.proofs.BitsLemmas.{left-next, left-none, bit-inside, length-at_bits}

@@ -1,6 +1,6 @@
 use Rattle.std.proofs.Common.{◌≡◌, [], ◌∷◌, ◌++◌, Bool, List, map, sym, ap, ◌∙◌, arith}
 use Rattle.std.proofs.lemmas.List.{length-map}
-use Rattle.im_values.specs.declared.value.Value.{Value}
+use Rattle.im_values.specs.declared.content.Content.{Content as Value}
 use Rattle.im_eval.specs.Holds.{truth_of}
 use Rattle.im_lanes.specs.Masks.{words_of}
 use Rattle.im_lanes.proofs.ForCallers.{words-whole, words-hold}

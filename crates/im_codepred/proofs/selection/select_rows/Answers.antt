@@ -1,5 +1,5 @@
 use Rattle.std.proofs.Common.{Bool, List, sym, ◌∙◌}
-use Rattle.im_values.specs.declared.value.Value.{Value}
+use Rattle.im_values.specs.declared.content.Content.{Content as Value}
 use Rattle.im_eval.specs.Holds.{truth_of}
 use Rattle.im_codepred.specs.declared.asked.Wanted.TheVariants.{Held}
 use Rattle.im_codepred.specs.Asked.{met}

@@ -1,7 +1,7 @@
 use Rattle.std.proofs.Common.{[], Bool, List, ◌≡◌, ◌<◌, ◌≤◌, false, length, map, get_or, ap, sym, ◌∙◌, arith}
 use Rattle.std.proofs.lemmas.List.{length-map, get_or-map, take_all}
 use Rattle.std.proofs.lemmas.Option.{get_or_from_slice_get}
-use Rattle.im_values.specs.declared.value.Value.{Value}
+use Rattle.im_values.specs.declared.content.Content.{Content as Value}
 use Rattle.im_eval.specs.Holds.{truth_of}
 use Rattle.im_lanes.specs.Masks.{word_of}
 use Rattle.im_lanes.proofs.ForCallers.{push-bit, word_of-few}

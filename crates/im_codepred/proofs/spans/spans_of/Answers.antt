@@ -1,5 +1,5 @@
 use Rattle.std.proofs.Common.{ap, sym, ◌∙◌, get_or}
-use Rattle.im_values.specs.declared.value.Value.TheVariants.{Null}
+use Rattle.im_values.specs.declared.content.Content.TheVariants.{Null}
 use Rattle.im_codes.specs.Dictionary.{coded}
 use Rattle.im_codepred.specs.Asked.{is_met}
 use Rattle.im_codepred.specs.inner.Spans.{holds_at}

@@ -1,5 +1,5 @@
 use Rattle.std.proofs.Common.{List, fold, ap, ◌∙◌}
-use Rattle.im_values.specs.declared.value.Value.{Value}
+use Rattle.im_values.specs.declared.content.Content.{Content as Value}
 use Rattle.im_codepred.specs.Tallies.{chosen}
 use Rattle.im_codepred.specs.inner.Tallying.{taken, nothing}
 use Rattle.im_codepred.proofs.TallyLemmas.{codes-tally, found-inside}

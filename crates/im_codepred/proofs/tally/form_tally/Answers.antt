@@ -1,5 +1,5 @@
 use Rattle.std.proofs.Common.{List, subst}
-use Rattle.im_values.specs.declared.value.Value.{Value}
+use Rattle.im_values.specs.declared.content.Content.{Content as Value}
 use Rattle.im_codepred.specs.Tallies.{chosen, IsTallyOf}
 use Rattle.im_codepred.proofs.TallyLemmas.{values-tally}
 use Rattle.im_codepred.proofs.tally.form_tally.Goals as goal

@@ -1,5 +1,5 @@
 use Rattle.std.proofs.Common.{List, subst, sym, ◌∙◌}
-use Rattle.im_values.specs.declared.value.Value.{Value}
+use Rattle.im_values.specs.declared.content.Content.{Content as Value}
 use Rattle.im_codepred.specs.Tallies.{IsTallyOf}
 use Rattle.im_codepred.proofs.WholeLemmas.{chosen-whole}
 use Rattle.im_codepred.proofs.tally.tally_of.Goals as goal

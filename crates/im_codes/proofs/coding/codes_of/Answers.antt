@@ -1,6 +1,6 @@
 use Rattle.std.proofs.Common.{◌<◌, ◌≤◌, length, Contains, sym, arith, ◌∙◌}
 use Rattle.im_codes.specs.Dictionary.{lent, coded}
-use Rattle.im_values.specs.declared.value.Value.TheVariants.{Null}
+use Rattle.im_values.specs.declared.content.Content.TheVariants.{Null}
 use Rattle.im_codes.proofs.NumberingLemmas.{stand-more, stand-none, stand-all, got-inside, got-is, lent-at, length-lent, coded-held}
 use Rattle.im_codes.proofs.coding.codes_of.Goals as goal
 

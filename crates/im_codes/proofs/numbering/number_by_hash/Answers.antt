@@ -1,6 +1,6 @@
 use denote.Ref.{Bor}
 use Rattle.im_values.specs.contracts.value.ValuePartialEq.TheImpl as value_eq
-use Rattle.im_values.specs.declared.value.Value.{Value}
+use Rattle.im_values.specs.declared.content.Content.{Content as Value}
 use Rattle.im_codes.proofs.NumberingLemmas.{adds-hashed, same_equal}
 use Rattle.im_codes.proofs.numbering.number_by_hash.Goals as goal
 

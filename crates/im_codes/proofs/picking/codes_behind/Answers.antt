@@ -1,5 +1,5 @@
 use Rattle.std.proofs.Common.{◌<◌, length, sym, arith}
-use Rattle.im_values.specs.declared.value.Value.TheVariants.{Null}
+use Rattle.im_values.specs.declared.content.Content.TheVariants.{Null}
 use Rattle.im_codes.specs.Dictionary.{lent, coded, values_at}
 use Rattle.im_codes.proofs.NumberingLemmas.{got-inside, got-is, lent-at, length-lent}
 use Rattle.im_codes.proofs.PickLemmas.{stand-base, stand-behind, stand-end}

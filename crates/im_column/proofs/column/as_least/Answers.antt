@@ -1,6 +1,6 @@
 use Rattle.std.proofs.Common.{◌≤◌, ◌<◌, List, min, ap, subst, arith}
 use Rattle.std.specs.Prelude.{IfOk}
-use Rattle.im_values.specs.declared.value.Value.{Value}
+use Rattle.im_values.specs.declared.content.Content.{Content as Value}
 use Rattle.im_values.specs.Sizes.{plain_bytes}
 use Rattle.im_codes.specs.Dictionary.{coded, lent, values_at}
 use Rattle.im_codes.proofs.ForCallers.{dictionary-is, length-codes}

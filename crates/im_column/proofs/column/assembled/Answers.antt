@@ -11,4 +11,4 @@ invariant_of-result c =
     let kept =
     assembled (values_of c.args.counted.kept) c.args.counted.kept c.args.counted.bytes c.args.bounds c.args.sum (to_z w128 (of_z w128 c.args.sum))
     c.requires.counted c.requires.bounds c.requires.sum (to_z-of_z w128 c.args.sum c.ranges.sum) c.requires.few in
-    (kept.0, kept.1, kept.2, refl)
+    (kept.0, kept.1, kept.2, c.null.ensures)

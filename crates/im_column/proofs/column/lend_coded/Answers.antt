@@ -1,6 +1,6 @@
 use Rattle.std.proofs.Common.{sym, get_or}
 use Rattle.std.proofs.lemmas.Option.{get_or_from_slice_get}
-use Rattle.im_values.specs.declared.value.Value.TheVariants.{Null}
+use Rattle.im_values.specs.declared.content.Content.TheVariants.{Null}
 use Rattle.im_codes.specs.Dictionary.{coded}
 use Rattle.im_column.proofs.LendLemmas.{lent_to-more}
 use Rattle.im_column.proofs.column.lend_coded.Goals as goal

@@ -1,5 +1,5 @@
 use Rattle.std.proofs.Common.{◌+◌, get_or}
-use Rattle.im_values.specs.declared.value.Value.TheVariants.{Null}
+use Rattle.im_values.specs.declared.content.Content.TheVariants.{Null}
 use Rattle.im_column.proofs.LendLemmas.{AreLentTo}
 use Rattle.im_column.proofs.column.lend_whole.Given as goal
 

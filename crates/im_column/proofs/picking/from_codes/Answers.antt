@@ -1,5 +1,5 @@
 use Rattle.std.proofs.Common.{List, count_by, refl, ap, ◌∙◌}
-use Rattle.im_values.specs.declared.value.Value.{Value}
+use Rattle.im_values.specs.declared.content.Content.{Content as Value}
 use Rattle.im_values.specs.Order.{is_null}
 use Rattle.im_values.specs.Sizes.{plain_bytes}
 use Rattle.im_codes.specs.Dictionary.{coded, values_at}

@@ -1,6 +1,6 @@
 use Rattle.std.proofs.Common.{◌≡◌, List, All, subst, sym, ap, ◌∙◌}
 use Rattle.std.specs.Prelude.{IfOk, IfSome}
-use Rattle.im_values.specs.declared.value.Value.{Value}
+use Rattle.im_values.specs.declared.content.Content.{Content as Value}
 use Rattle.im_codes.specs.Dictionary.{coded, lent, values_at}
 use Rattle.im_column.specs.Forms.{IsShort}
 use Rattle.im_column.specs.Picks.{values_picked}

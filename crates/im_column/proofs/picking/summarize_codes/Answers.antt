@@ -1,7 +1,7 @@
 use Rattle.std.proofs.Common.{◌<◌, length, get_or, subst, sym, refl, arith}
 use Rattle.std.proofs.lemmas.Int.{ints}
 use Rattle.std.proofs.lemmas.List.{length-map}
-use Rattle.im_values.specs.declared.value.Value.TheVariants.{Null}
+use Rattle.im_values.specs.declared.content.Content.TheVariants.{Null}
 use Rattle.im_values.specs.Order.{is_null}
 use Rattle.im_codes.specs.Dictionary.{coded, values_at}
 use Rattle.im_column.specs.Forms.{IsShort}
@@ -15,7 +15,7 @@ loop-i-init c = record {
   within = record { low = omega (arith, ints); high = omega (arith, ints) };
   nulls = omega arith;
   few = omega arith;
-  null = refl;
+  null = c.null-null.ensures;
 }
 
 pub with_value-summary-requires-clause-short : goal.with_value-summary-requires-clause-short
@@ -42,5 +42,5 @@ loop-i-preserved c =
       within = says.within;
       nulls = rw says.nulls (null-step old.nulls c.loop-i.i (is_null value) c.loop-i.invariant.nulls);
       few = says.few;
-      null = refl;
+      null = c.null-null.ensures;
     }

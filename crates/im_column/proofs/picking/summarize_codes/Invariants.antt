@@ -1,5 +1,5 @@
 use Rattle.std.proofs.Common.{◌≡◌, ◌*◌, ◌≤◌, take}
-use Rattle.im_values.specs.declared.value.Value.TheVariants.{Null}
+use Rattle.im_values.specs.declared.content.Content.TheVariants.{Null}
 use Rattle.im_codes.specs.Dictionary.{coded, values_at}
 use Rattle.im_column.specs.inner.Sized.{IsSummary, IsWithin}
 use Rattle.im_column.proofs.picking.summarize_codes.Given as goal

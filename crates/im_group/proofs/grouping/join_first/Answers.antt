@@ -1,7 +1,7 @@
 use Rattle.std.proofs.Common.{[], Bool, sym, ap, subst, ◌∙◌}
 use Rattle.std.specs.Global.{Vec}
 use Rattle.std.specs.Cmp.Lexicographic.{pointwise}
-use Rattle.im_values.specs.declared.value.Value.{Value}
+use Rattle.im_values.specs.declared.content.Content.{Content as Value}
 use Rattle.im_group.specs.Tallies.{CanJoin, all_joined}
 use Rattle.im_group.specs.MadeGroups.{with_sums}
 use Rattle.im_group.specs.Partials.{keyed, with_tallies}

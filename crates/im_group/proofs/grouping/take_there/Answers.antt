@@ -2,7 +2,7 @@ use Rattle.std.proofs.Common.{Bool, sym, ap, subst, ◌∙◌}
 use Rattle.std.specs.Global.{Vec}
 use Rattle.std.proofs.lemmas.Result.{on_ok_weaker}
 use Rattle.std.specs.Cmp.Lexicographic.{pointwise}
-use Rattle.im_values.specs.declared.value.Value.{Value}
+use Rattle.im_values.specs.declared.content.Content.{Content as Value}
 use Rattle.im_group.specs.Tallies.{row_taken, HasRoom}
 use Rattle.im_group.specs.Partials.{key_of, keyed}
 use Rattle.im_group.specs.inner.Steps.{placed, so_far}

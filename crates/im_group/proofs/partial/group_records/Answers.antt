@@ -1,6 +1,6 @@
 use Rattle.std.proofs.Common.{◌≡◌, ℕ, refl, [], ◌∷◌, List, Vec, Global, length, map, ap, sym, ◌++◌, ◌∙◌, subst}
 use Rattle.std.specs.Cmp.Lexicographic.{pointwise}
-use Rattle.im_values.specs.declared.value.Value.{Value}
+use Rattle.im_values.specs.declared.content.Content.{Content as Value}
 use Rattle.im_syntax.specs.declared.item.ItemOf.{ItemOf}
 use Rattle.im_group.specs.declared.asked.Asked.{Asked}
 use Rattle.im_group.specs.Tallies.{Tallied, asked_in}

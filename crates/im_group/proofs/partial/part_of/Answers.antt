@@ -1,6 +1,6 @@
 use Rattle.std.proofs.Common.{[], ◌∷◌, ◌++◌, List, ℕ, take, sym, ap, subst, ◌∙◌, arith}
 use denote.Ref.{Bor}
-use Rattle.im_values.specs.declared.value.Value.{Value}
+use Rattle.im_values.specs.declared.content.Content.{Content as Value}
 use Rattle.im_syntax.specs.BoundFits.{BoundFits}
 use Rattle.im_group.specs.Partials.{lent_rows, partial}
 use Rattle.im_group.proofs.GroupSteps.{fits-at, lent-push, few_lent}

@@ -1,5 +1,5 @@
 use Rattle.std.proofs.Common.{◌≡◌, ◌++◌, List, Vec, Global, length, map, sym, ap, subst, ◌∙◌}
-use Rattle.im_values.specs.declared.value.Value.{Value}
+use Rattle.im_values.specs.declared.content.Content.{Content as Value}
 use Rattle.im_group.specs.declared.cell.Cell.{Cell}
 use Rattle.im_group.specs.Tallies.{Tallied}
 use Rattle.im_group.specs.Answers.{group_cell}

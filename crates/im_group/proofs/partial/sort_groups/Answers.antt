@@ -1,7 +1,7 @@
 use Rattle.std.proofs.Common.{Bool, Vec, Global, is_lt, rules, of_calls}
 use Rattle.std.proofs.lemmas.Fn.{always_returns_same}
 use Rattle.std.proofs.lemmas.List.Sorted.{ranks_by}
-use Rattle.im_values.specs.declared.value.Value.{Value}
+use Rattle.im_values.specs.declared.content.Content.{Content as Value}
 use Rattle.im_group.specs.Tallies.{Tallied}
 use Rattle.im_group.specs.inner.Holding.{entry_order}
 use Rattle.im_group.proofs.KeySort.{by_key_total}

@@ -1,5 +1,5 @@
 use Rattle.std.proofs.Common.{◌≡◌, ◌∷◌, [], ◌++◌, refl, arith, rules}
-use Rattle.im_values.specs.declared.value.Value.TheVariants as value
+use Rattle.im_values.specs.declared.content.Content.TheVariants as value
 use Rattle.im_syntax.specs.declared.token.Token.TheVariants as token
 use Rattle.im_lex.proofs.Rounds.{token_room}
 use Rattle.im_lex.proofs.StraightLaws.{value_reads}

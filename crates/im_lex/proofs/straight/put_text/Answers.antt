@@ -24,4 +24,4 @@ returns c =
     let found : text_found (text_of (drop (c.args.at + 1) c.args.line.now)) ≡ Lexed (token.Text c.in-Some.text) c.in-Some.more =
     ap (λ (bs : List ℕ). text_found (text_of bs)) (sym c.behind.ensures) ∙ sym c.in_ok-text.ensures ∙ c.in-Some.ensures.token in
     text_reads c.args.line.now c.args.at c.in-Some.text c.in-Some.more c.args.values.now.items c.push.new.self.items c.requires.within c.requires.quote
-    found c.in-Some.ensures.some c.in_ok-push.ensures.items
+    found c.in-Some.ensures.some (rw c.text-2.ensures at c.in_ok-push.ensures.items)

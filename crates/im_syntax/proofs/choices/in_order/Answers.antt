@@ -1,7 +1,7 @@
 use Rattle.std.proofs.Common.{is_lt, rules, of_calls}
 use Rattle.std.proofs.lemmas.Fn.{always_returns_same}
 use Rattle.std.proofs.lemmas.List.Sorted.{ranks_by}
-use Rattle.im_values.specs.declared.value.Value.{Value}
+use Rattle.im_values.specs.declared.content.Content.{Content as Value}
 use Rattle.im_values.specs.Order.{order}
 use Rattle.im_values.proofs.ForCallers.{order_total}
 use Rattle.im_syntax.proofs.ChoicesLemmas.{in-order}

@@ -1,6 +1,6 @@
 use Rattle.std.proofs.Common.{rules, of_calls, ◌∙◌}
 use Rattle.std.proofs.lemmas.Fn.{always_returns_same}
-use Rattle.im_values.specs.declared.value.Value.{Value}
+use Rattle.im_values.specs.declared.content.Content.{Content as Value}
 use Rattle.im_values.specs.Order.{order}
 use Rattle.im_syntax.proofs.ChoicesLemmas.{searched}
 use Rattle.im_syntax.proofs.choices.stands_in.Goals as goal

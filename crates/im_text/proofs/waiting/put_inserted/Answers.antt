@@ -2,8 +2,8 @@ use Rattle.std.proofs.Common.{◌++◌, ◌∙◌, List, ℕ, sym, ap}
 use Rattle.im_text.proofs.Inserted.{inserted_text, by_pieces}
 use Rattle.im_text.proofs.waiting.put_inserted.Goals as goal
 
-pub returns : goal.returns
-returns c =
+pub returns-clause-ok : goal.returns-clause-ok
+returns-clause-ok c =
     let line = c.as_bytes.ensures.value ∙ c.format.ensures.text in
     let rows = c.as_bytes-2.ensures.value ∙ c.format-2.ensures.text in
     let first = c.as_bytes-3.ensures.value ∙ c.format-3.ensures.text in

@@ -1,7 +1,7 @@
 use Rattle.std.proofs.Common.{ap, length, arith}
 use Rattle.std.proofs.lemmas.List.{length-map}
 use denote.Ref.{Bor}
-use Rattle.im_values.specs.declared.value.Value.{Value}
+use Rattle.im_values.specs.declared.content.Content.{Content as Value}
 use Rattle.im_unit.specs.inner.Kept.{lent}
 use Rattle.im_unit.proofs.BuildLemmas.{short-in, few-in}
 use Rattle.im_unit.proofs.building.column_of.Goals as goal

@@ -1,6 +1,6 @@
 use Rattle.std.proofs.Common.{◌≡◌, ℕ, ◌+◌, ◌<◌, [], length, map, get_or}
 use Rattle.std.specs.Arc.{arc_value}
-use Rattle.im_values.specs.declared.value.Value.TheVariants.{Null}
+use Rattle.im_values.specs.declared.content.Content.TheVariants.{Null}
 use Rattle.im_column.specs.Forms.{AreLent}
 use Rattle.im_unit.specs.inner.Kept.{lent_values}
 use Rattle.im_unit.proofs.reading.lend_piece.Given as goal

@@ -1,7 +1,7 @@
 use Rattle.std.proofs.Common.{◌∙◌, sym, ap, length, get_or, arith}
 use Rattle.std.specs.Arc.{arc_value}
 use Rattle.std.proofs.lemmas.Option.{get_or_from_slice_get}
-use Rattle.im_values.specs.declared.value.Value.TheVariants.{Null}
+use Rattle.im_values.specs.declared.content.Content.TheVariants.{Null}
 use Rattle.im_unit.proofs.ReadLemmas.{across-more, long-at}
 use Rattle.im_unit.proofs.reading.push_row.Goals as goal
 

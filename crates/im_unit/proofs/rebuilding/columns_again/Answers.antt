@@ -2,8 +2,8 @@ use Rattle.std.proofs.Common.{◌≡◌, ◌∙◌, [], List, All, length, map, 
 use Rattle.std.specs.Arc.{arc_value}
 use Rattle.std.proofs.lemmas.List.{length-map}
 use denote.Ref.{Bor}
-use Rattle.im_values.specs.declared.value.Value.{Value}
-use Rattle.im_values.specs.declared.value.Value.TheVariants.{Null}
+use Rattle.im_values.specs.declared.content.Content.{Content as Value}
+use Rattle.im_values.specs.declared.content.Content.TheVariants.{Null}
 use Rattle.im_column.specs.Forms.{IsShort}
 use Rattle.im_column.specs.Picks.{values_picked}
 use Rattle.im_history.specs.Rows.{Row}

@@ -5,7 +5,7 @@ use Rattle.im_versions.specs.declared.version.Version.{Version}
 use Rattle.im_blocks.specs.declared.touched.Touched.{Touched}
 use Rattle.im_blocks.specs.declared.slot.Slot.TheVariants.{InChain}
 use Rattle.im_blocks.specs.Chains.{AllVersions, IsReady, newest_scn, slot_at, versions_at}
-use Rattle.im_values.specs.declared.value.Value.{Value}
+use Rattle.im_values.specs.declared.content.Content.{Content as Value}
 use Rattle.im_blocks.specs.inner.Handing.{HasTaken}
 use Rattle.im_blocks.specs.inner.Puts.{IsOneLonger}
 use Rattle.im_blocks.proofs.Places.{got}

@@ -1,5 +1,5 @@
 use Rattle.std.proofs.Common.{◌∷◌, ◌++◌, [], List, length, sym, ap, ◌∙◌, subst, arith, All}
-use Rattle.im_values.specs.declared.value.Value.{Value}
+use Rattle.im_values.specs.declared.content.Content.{Content as Value}
 use Rattle.im_blocks.specs.declared.ready.Ready.TheVariants.{Run}
 use Rattle.im_blocks.specs.Chains.{AllVersions}
 use Rattle.im_blocks.specs.Readied.{HasPlace, IsFree}

@@ -2,7 +2,7 @@ use Rattle.std.proofs.Common.{ap, arith}
 use mir.Syntax.{w64}
 use Rattle.std.proofs.lemmas.Nat.Bits.{bit_at-trailing_zeros}
 use Rattle.std.proofs.lemmas.List.{get_or_read}
-use Rattle.im_values.specs.declared.value.Value.TheVariants.{Null}
+use Rattle.im_values.specs.declared.content.Content.TheVariants.{Null}
 use Rattle.im_codepred.specs.inner.Tallying.{at_bits, with_value}
 use Rattle.im_codepred.proofs.BitsLemmas.{left-next, left-none, bit-inside, length-at_bits}
 use Rattle.im_codepred.proofs.FoundLemmas.{gathered-grows}

@@ -1,6 +1,6 @@
 use Rattle.std.proofs.Common.{◌<◌, Bool, List, map, sym, subst, ap, ◌∙◌}
 use Rattle.std.specs.Arc.{arc_value}
-use Rattle.im_values.specs.declared.value.Value.{Value}
+use Rattle.im_values.specs.declared.content.Content.{Content as Value}
 use Rattle.im_syntax.specs.BoundFits.{HasColumn, value_at}
 use Rattle.im_codepred.specs.declared.slab.Slab.{Slab}
 use Rattle.im_codepred.specs.Asked.{is_met}

@@ -1,6 +1,6 @@
 use Rattle.std.proofs.Common.{◌++◌, ◌∙◌, List, length, map, Some, sym, ap, arith}
 use Rattle.std.specs.Arc.{arc_value}
-use Rattle.im_values.specs.declared.value.Value.{Value}
+use Rattle.im_values.specs.declared.content.Content.{Content as Value}
 use Rattle.im_history.specs.Units.{Content}
 use Rattle.im_unit.specs.Holding.{row_of, spot_of}
 use Rattle.im_unit.specs.inner.Kept.{row_across}
