@@ -39,16 +39,30 @@ pub fn generated_sizes_are()
     ensures commit { sizes.PER_COMMIT ≡ 50000 }
 {}
 
-/// The region of an order.
-fn region(order: u64) -> &'static str
-    ensures { result.now ≡ spec.region order }
+/// What stands between the number and the amount of an order: its region.
+fn between(order: u64) -> &'static [u8]
+    ensures { result.now ≡ inner.between order }
 {
     match order % 4 {
-        0 => "NORTH",
-        1 => "EAST",
-        2 => "SOUTH",
-        _ => "WEST",
+        0 => b", 'NORTH', ",
+        1 => b", 'EAST', ",
+        2 => b", 'SOUTH', ",
+        _ => b", 'WEST', ",
     }
+}
+
+/// Puts the row of an order, but for the bracket before it.
+fn put_behind_bracket(script: &mut Vec<u8>, seed: u32, order: u64) -> Result<(), NoMemory>
+    requires { order ≤ 2 ^ 32 }
+    ensures { OnOk result (script.new.items ≡ script.old.items ++ inner.order_rest seed order) }
+{
+    let mut digits = Buffer::new();
+    let amount = (37 * order + u64::from(seed)) % 1000;
+    script.extend_from_slice(digits.format(order).as_bytes())?;
+    script.extend_from_slice(between(order))?;
+    script.extend_from_slice(digits.format(amount).as_bytes())?;
+    script.push(b')')?;
+    Ok(())
 }
 
 /// Puts the row of an order.
@@ -56,16 +70,8 @@ fn put_order(script: &mut Vec<u8>, seed: u32, order: u64) -> Result<(), NoMemory
     requires { order ≤ 2 ^ 32 }
     ensures { OnOk result (script.new.items ≡ script.old.items ++ spec.order_row seed order) }
 {
-    let mut digits = Buffer::new();
-    let amount = (37 * order + u64::from(seed)) % 1000;
     script.push(b'(')?;
-    script.extend_from_slice(digits.format(order).as_bytes())?;
-    script.extend_from_slice(b", '")?;
-    script.extend_from_slice(region(order).as_bytes())?;
-    script.extend_from_slice(b"', ")?;
-    script.extend_from_slice(digits.format(amount).as_bytes())?;
-    script.push(b')')?;
-    Ok(())
+    put_behind_bracket(script, seed, order)
 }
 
 /// Puts the row of an order behind another one.
@@ -73,8 +79,8 @@ fn put_further(script: &mut Vec<u8>, seed: u32, order: u64) -> Result<(), NoMemo
     requires { order ≤ 2 ^ 32 }
     ensures { OnOk result (script.new.items ≡ script.old.items ++ inner.further_row seed order) }
 {
-    script.extend_from_slice(b", ")?;
-    put_order(script, seed, order)
+    script.extend_from_slice(b", (")?;
+    put_behind_bracket(script, seed, order)
 }
 
 /// Puts the rows of so many orders behind another one.

@@ -1,7 +1,15 @@
 -- The texts that are put one behind another for the orders of a generated script.
-use Rattle.std.specs.Prelude.{ℕ, List, ◌++◌, map, flat_map, codes}
+use Rattle.std.specs.Prelude.{ℕ, List, ◌++◌, map, flat_map, codes, decimal}
 use Rattle.std.specs.List.{range_with_len}
-use Rattle.im_script.specs.Generated.{order_row, insert_line, pieces, transaction, order_lines, ended, text_of}
+use Rattle.im_script.specs.Generated.{amount, region, order_row, insert_line, pieces, transaction, order_lines, ended, text_of}
+
+-- what stands between the number of an order and its amount
+abbrev pub between : ℕ → List ℕ
+between order = codes ", '" ++ region order ++ codes "', "
+
+-- the row of an order, but for the bracket before it
+abbrev pub order_rest : ℕ → ℕ → List ℕ
+order_rest seed order = decimal order ++ between order ++ decimal (amount seed order) ++ codes ")"
 
 -- the row of an order behind another one
 abbrev pub further_row : ℕ → ℕ → List ℕ
