@@ -3,4 +3,5 @@ mod DictLemmas
 mod NumberingLemmas
 mod SetLemmas
 mod PickLemmas
+mod WholeLemmas
 pub mod ForCallers

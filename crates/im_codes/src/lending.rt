@@ -1,5 +1,5 @@
 ghost use Rattle.std.specs.Prelude.{◌≡◌, ◌+◌, ◌<◌, ◌++◌, ◌∷◌, [], IfOk, OnOk, vec_len, vec_capacity};
-ghost use Rattle.im_codes.specs.Dictionary.{lent};
+ghost use Rattle.im_codes.specs.Dictionary.{lent, whole};
 
 use im_values::{NoMemory, Value};
 use std::alloc::Global;
@@ -35,4 +35,15 @@ pub fn copy_values(alloc: Global, values: &[&Value]) -> Result<Vec<Value>, NoMem
         put_copy(alloc, *value, &mut copies)?;
     }
     Ok(copies)
+}
+
+/// Whole numbers, as values.
+pub fn whole_values(alloc: Global, numbers: &[i64]) -> Result<Vec<Value>, NoMemory>
+    ensures { IfOk result (λ values. values.items ≡ whole numbers.now) }
+{
+    let mut values = Vec::with_capacity(alloc, numbers.len())?;
+    for number in numbers {
+        values.push_reserved(Value::int(*number));
+    }
+    Ok(values)
 }

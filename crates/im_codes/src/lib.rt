@@ -12,6 +12,7 @@ mod coding;
 mod dict;
 mod lending;
 mod numbering;
+mod numbers;
 mod picking;
 mod range;
 mod run;
@@ -19,6 +20,7 @@ mod runs;
 
 pub use coding::Coding;
 pub use dict::Dict;
-pub use lending::{copy_values, lend_values};
+pub use lending::{copy_values, lend_values, whole_values};
+pub use numbers::numbers_rise;
 pub use run::Run;
 pub use runs::Runs;
