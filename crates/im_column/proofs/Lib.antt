@@ -3,3 +3,4 @@ mod SummaryLemmas
 mod ColumnLemmas
 mod LendLemmas
 mod PickLemmas
+mod NumberLemmas

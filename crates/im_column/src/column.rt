@@ -288,7 +288,7 @@ pub fn bounds_from(alloc: Global, rising: &[Value], nulls: u64) -> Result<Bounds
 }
 
 /// The values one beside another, where that takes the least bytes.
-fn as_plain(values: Vec<Value>, plain: u64) -> Counted
+pub fn as_plain(values: Vec<Value>, plain: u64) -> Counted
     requires shape { shape_of values.items ≡ spec.Plain }
     requires plain { plain ≡ column_bytes values.items }
     ensures { IsCountedFor values.items result.kept result.bytes }

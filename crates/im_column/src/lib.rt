@@ -14,6 +14,7 @@
 
 mod column;
 mod form;
+mod numbers;
 mod picking;
 mod sizes;
 mod summary;

@@ -8,6 +8,7 @@ ghost use Rattle.im_column.specs.inner.Sized.{IsSummary};
 
 use crate::column::{Column, as_codes, assembled, bounds_from, value_of};
 use crate::form::Kept;
+use crate::numbers::numbers_picked;
 use crate::sizes::{coded_bytes, runs_bytes};
 use crate::summary::{Summary, with_value};
 use im_bits::{Bits, ROOM};
@@ -48,6 +49,9 @@ impl Column {
     {
         if let Some(column) = picked_by_codes(alloc, old, fresh, places)? {
             return Ok(column);
+        }
+        if let Some(numbers) = numbers_picked(alloc, old, fresh, places)? {
+            return Column::of_numbers(alloc, numbers.as_slice());
         }
         let values = lent_picked(alloc, old, fresh, places)?;
         let column = Column::build_lent(alloc, values.as_slice())?;
@@ -111,7 +115,7 @@ fn lent_picked<'a>(
 }
 
 /// Packed codes, one beside another.
-fn unpacked(alloc: Global, bits: &Bits) -> Result<Vec<u32>, NoMemory>
+pub fn unpacked(alloc: Global, bits: &Bits) -> Result<Vec<u32>, NoMemory>
     ensures { IfOk result (λ codes. codes.items ≡ bits.now.codes) }
 {
     let mut codes = Vec::with_capacity(alloc, bits.len() as usize)?;

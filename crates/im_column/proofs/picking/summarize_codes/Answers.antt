@@ -1,4 +1,4 @@
-use Rattle.std.proofs.Common.{◌<◌, length, get_or, subst, sym, refl, arith}
+use Rattle.std.proofs.Common.{◌<◌, length, get_or, subst, sym, arith}
 use Rattle.std.proofs.lemmas.Int.{ints}
 use Rattle.std.proofs.lemmas.List.{length-map}
 use Rattle.im_values.specs.declared.content.Content.TheVariants.{Null}

@@ -14,6 +14,6 @@ pub build_lent-requires-clause-short : goal.build_lent-requires-clause-short
 build_lent-requires-clause-short c =
     let old = c.args.old.now in
     let fresh = c.args.fresh.now in
-    rw (c.as_slice.ensures.value, c.in_ok-values.ensures)
+    rw (c.as_slice-2.ensures.value, c.in_ok-values.ensures)
     (short-picked old (lent fresh) c.args.places.now c.requires.short_old c.requires.short_fresh
     (λ k d within. omega (arith, c.requires.places k d within, length-fresh fresh)))
