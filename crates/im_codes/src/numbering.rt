@@ -60,11 +60,28 @@ fn place_among(seen: &[&Value], value: &Value) -> Option<usize>
     None
 }
 
-/// The number of a value, which is put behind those seen where it is new.
-fn number_by_list<'a>(seen: &mut Vec<&'a Value>, value: &'a Value) -> Result<u32, NoMemory>
+/// Whether a value stands at a place of those seen.
+fn stands_at(seen: &[&Value], place: usize, value: &Value) -> bool
+    ensures { OnTrue result (slice_get (lent seen.now) place ≡ Some value.now) }
+{
+    if place >= seen.len() {
+        return false;
+    }
+    is_same(seen[place], value)
+}
+
+/// The number of a value, which is put behind those seen where it is new. The one that is likely is tried first.
+fn number_by_list<'a>(
+    seen: &mut Vec<&'a Value>,
+    value: &'a Value,
+    likely: u32,
+) -> Result<u32, NoMemory>
     requires { length seen.old.items < 2 ^ 31 }
     ensures { IfOk result (Adds (lent seen.old.items) (lent seen.new.items) value.now) }
 {
+    if stands_at(seen.as_slice(), likely as usize, value) {
+        return Ok(likely);
+    }
     if let Some(place) = place_among(seen.as_slice(), value) {
         return Ok(place as u32);
     }
@@ -82,6 +99,14 @@ fn number_by_hash<'a>(seen: &mut IndexSet<&'a Value>, value: &'a Value) -> Resul
     Ok(place as u32)
 }
 
+/// The number that stood as far back as values were seen so far, which comes again where values come in turn or many times each.
+fn likely_after(numbers: &[u32], seen: usize) -> u32 {
+    if seen == 0 || seen > numbers.len() {
+        return 0;
+    }
+    numbers[numbers.len() - seen]
+}
+
 /// The values in the order in which they first stand, or none where there are too many to look through.
 fn number_few<'a>(alloc: Global, values: &[&'a Value]) -> Result<Option<Numbering<'a>>, NoMemory>
     requires { length values.now < 2 ^ 31 }
@@ -90,7 +115,8 @@ fn number_few<'a>(alloc: Global, values: &[&'a Value]) -> Result<Option<Numberin
     let mut seen = Vec::with_capacity(alloc, FEW + 1)?;
     let mut numbers = Vec::with_capacity(alloc, values.len())?;
     for value in values {
-        numbers.push_reserved(number_by_list(&mut seen, *value)?);
+        let likely = likely_after(numbers.as_slice(), seen.len());
+        numbers.push_reserved(number_by_list(&mut seen, *value, likely)?);
         if seen.len() > FEW {
             return Ok(None);
         }
