@@ -1,5 +1,5 @@
-ghost use Rattle.std.specs.Prelude.{◌≡◌, ◌+◌, ◌<◌, ◌≤◌, ◌++◌, ◌∷◌, [], IfOk, get_or, length, map, vec_len, vec_capacity};
-ghost use Rattle.im_values.specs.declared.content.Content.TheVariants.{Null};
+ghost use Rattle.std.specs.Prelude.{◌≡◌, ◌+◌, ◌<◌, ◌≤◌, ◌++◌, ◌∷◌, [], IfOk, IfSome, get_or, length, map, vec_len, vec_capacity};
+ghost use Rattle.im_values.specs.declared.content.Content.TheVariants.{Int, Null};
 ghost use Rattle.std.specs.Arc.{arc_value};
 ghost use Rattle.std.specs.List.{range_with_len};
 ghost use Rattle.std.specs.Option.{option_copied};
@@ -8,7 +8,7 @@ ghost use Rattle.im_unit.specs.inner.Kept.{AreRows, lent, lent_values};
 
 use im_column::Column;
 use im_history::lent_values;
-use im_values::{NoMemory, Row, Value};
+use im_values::{NoMemory, Row, Seen, Value};
 use std::alloc::Global;
 use std::sync::Arc;
 
@@ -79,6 +79,39 @@ pub fn values_lent<'a>(
     Ok(values)
 }
 
+/// The whole number of a row in one column, where it is one.
+#[inline(always)]
+fn number_in(row: &[Value], column: usize) -> Option<i64>
+    requires { column < length row.now }
+    ensures { IfSome result (λ number. get_or row.now column Null ≡ Int number) }
+{
+    match value_in(row, column).seen() {
+        Seen::Int(number) => Some(number),
+        Seen::Text(_) | Seen::Null => None,
+    }
+}
+
+/// The values of rows in one column, where all are whole numbers.
+fn numbers_in(
+    alloc: Global,
+    rows: &[&[Value]],
+    column: usize,
+    width: usize,
+) -> Result<Option<Vec<i64>>, NoMemory>
+    requires rows { AreRows width (lent rows.now) }
+    requires inside { column < width }
+    ensures { IfOk result (λ found. IfSome found (λ numbers. map (λ number. Int number) numbers.items ≡ values_in column (lent rows.now))) }
+{
+    let mut numbers = Vec::with_capacity(alloc, rows.len())?;
+    for i in 0..rows.len() {
+        let Some(number) = number_in(rows[i], column) else {
+            return Ok(None);
+        };
+        numbers.push_reserved(number);
+    }
+    Ok(Some(numbers))
+}
+
 /// One column of rows.
 fn column_of(
     alloc: Global,
@@ -90,6 +123,9 @@ fn column_of(
     requires inside { column < width }
     ensures { IfOk result (λ built. arc_value built ≡ values_in column (lent rows.now)) }
 {
+    if let Some(numbers) = numbers_in(alloc, rows, column, width)? {
+        return Ok(Arc::new(alloc, Column::of_numbers(alloc, numbers.as_slice())?)?);
+    }
     let values = values_lent(alloc, rows, column, width)?;
     Ok(Arc::new(alloc, Column::build_lent(alloc, values.as_slice())?)?)
 }

@@ -10,8 +10,8 @@ pub build_lent-requires-clause-few : goal.build_lent-requires-clause-few
 build_lent-requires-clause-few c =
     let few = few-in c.args.width (lent c.args.rows.now) c.args.column c.requires.rows in
     let values = c.in_ok-values.values.items in
-    rw c.as_slice.ensures.value (omega (arith, few, ap length c.in_ok-values.ensures, length-map values (λ (value : Bor Value). value.now)))
+    rw c.as_slice-2.ensures.value (omega (arith, few, ap length c.in_ok-values.ensures, length-map values (λ (value : Bor Value). value.now)))
 
 pub build_lent-requires-clause-short : goal.build_lent-requires-clause-short
 build_lent-requires-clause-short c =
-    rw (c.as_slice.ensures.value, c.in_ok-values.ensures) (short-in c.args.width (lent c.args.rows.now) c.args.column c.requires.rows c.requires.inside)
+    rw (c.as_slice-2.ensures.value, c.in_ok-values.ensures) (short-in c.args.width (lent c.args.rows.now) c.args.column c.requires.rows c.requires.inside)
