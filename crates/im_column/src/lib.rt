@@ -4,8 +4,8 @@
 //! one beside another, codes of a dictionary, or runs of codes. Which one that is follows from the values alone, by the
 //! sizes of `im_values/specs/Sizes.antt`, and so do [`Column::bytes`], the sum and the [`Bounds`], which are those of `im_index`.
 //!
-//! [`Column::build_lent`] makes one of values that stay where they are. [`Column::picked`] makes a column of values of an old one
-//! and fresh ones, and keeps the dictionary where it can.
+//! [`Column::build_lent`] makes one of values that stay where they are, and [`Column::of_numbers`] one of whole numbers alone, in
+//! less time. [`Column::picked`] makes a column of values of an old one and fresh ones, and keeps the dictionary where it can.
 //!
 //! A column never changes, and costs nothing to share behind an `Arc` of its user's.
 //!
