@@ -221,7 +221,7 @@ lesser-again a k = by (eqb a 0 || nat_lt (suc k) a) refl
     by true e = same (eqb (suc k) 0 || nat_lt (suc k) (suc k))
     by false e = ap (λ b. cond b (suc k) a) e
 
-same-found : (v v' : ℕ) (s s' : ℤ) (l l' g g' : ℕ) → v ≡ v' → s ≡ s' → l ≡ l' → g ≡ g' → let f : FoundOf = record { values = v; sum = s; least = l; greatest = g } in
+pub same-found : (v v' : ℕ) (s s' : ℤ) (l l' g g' : ℕ) → v ≡ v' → s ≡ s' → l ≡ l' → g ≡ g' → let f : FoundOf = record { values = v; sum = s; least = l; greatest = g } in
     f ≡ record { values = v'; sum = s'; least = l'; greatest = g' }
 same-found v v' s s' l l' g g' p q r u = rw (p, q, r, u) refl
 
@@ -229,12 +229,12 @@ one-times : (n : ℤ) → n ≡ times_of 1 n
 unfolding times_of
 one-times n = sym (suc_ℤ-*ℤ (pos 0) n ∙ (ap (λ z. z +ℤ n) (zero-*ℤ n) ∙ +ℤ_idl n))
 
-once-more : (s n : ℤ) (count : ℕ) → (s +ℤ n) +ℤ times_of count n ≡ s +ℤ times_of (suc count) n
+pub once-more : (s n : ℤ) (count : ℕ) → (s +ℤ n) +ℤ times_of count n ≡ s +ℤ times_of (suc count) n
 unfolding times_of
 once-more s n count = rw (suc_ℤ-*ℤ (pos count) n) (omega (arith, ints))
 
 -- a code from 1 on is taken
-taken-some : (dict : List Value) (found : FoundOf) (k : ℕ) → taken dict found (suc k) ≡ record {
+pub taken-some : (dict : List Value) (found : FoundOf) (k : ℕ) → taken dict found (suc k) ≡ record {
   values = found.values + 1;
   sum = found.sum +ℤ number_at dict (suc k);
   least = lesser_code found.least (suc k);

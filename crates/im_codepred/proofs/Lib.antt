@@ -11,3 +11,5 @@ mod CodeNumberLemmas
 mod CountLemmas
 mod KeyedLemmas
 mod PairLemmas
+mod RangedLemmas
+mod SpanTallyLemmas

@@ -65,6 +65,11 @@ pub record IsTallyFor (ends : Bool) (vs : List Value) (tally : Tally) : Type 0 w
   pub greatest : ends ≡ true → option_copied tally.greatest ≡ some_of (greatest vs)
   pub within : IsWithin tally.values tally.sum
 
+-- the same of the chosen values of a column, none of which is NULL
+pub record IsTallyOfAll (mask : List Bool) (column : List Value) (all : Tally) : Type 0 where
+  pub tally : IsTallyOf (chosen mask column) all
+  pub values : all.values ≡ count_by (λ chosen. chosen) mask
+
 -- how many of these values are one
 abbrev pub count_of : Value → List Value → ℕ
 count_of value vs = count_by (λ v. is_eq (order v value)) vs

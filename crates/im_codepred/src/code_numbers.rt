@@ -41,6 +41,13 @@ impl<'a> CodeNumbers<'a> {
         }
     }
 
+    /// The number of code 1, where the values are numbers that follow one another.
+    pub fn first(&self) -> Option<i64>
+        ensures { IsFirst self.now result }
+    {
+        self.first
+    }
+
     /// The number that a code from 1 on stands for.
     #[inline(always)]
     pub fn at(&self, code: u32) -> i64

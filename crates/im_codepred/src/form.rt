@@ -53,7 +53,7 @@ pub fn column_mask(
 }
 
 /// The column of a number.
-fn column_of(columns: &[Arc<Column>], column: u32) -> &Column
+pub fn column_of(columns: &[Arc<Column>], column: u32) -> &Column
     requires { column < length columns.now }
     ensures { result.now ≡ get_or (map arc_value columns.now) column result.now }
 {

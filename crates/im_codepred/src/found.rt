@@ -1,10 +1,15 @@
-ghost use Rattle.std.specs.Prelude.{◌≡◌, false, pos, ◌*ℤ◌, ◌+◌, ◌*◌, ◌^◌, ◌<◌, ◌≤◌, ℕ, All, fold, length, take, drop, option_copied, slice_index_or};
+ghost use Rattle.std.specs.Prelude.{◌≡◌, false, pos, ◌+ℤ◌, ◌*ℤ◌, ◌+◌, ◌*◌, ◌^◌, ◌<◌, ◌≤◌, ℕ, All, count_by, fold, length, map, take, drop, option_copied, slice_index_or};
 ghost use Rattle.im_values.specs.declared.content.Content.TheVariants.{Null};
 ghost use Rattle.im_codes.specs.Dictionary.{coded, IsDictionary};
+ghost use Rattle.im_lanes.specs.Masks.{is_within};
+ghost use Rattle.im_codepred.specs.inner.CodeNumbers.{AreFrom};
+ghost use Rattle.im_codepred.specs.inner.Ranged.{AreThere, IsSpanBelow};
 ghost use Rattle.im_codepred.specs.Tallies.{IsWithin, chosen, some_of};
 ghost use Rattle.im_codepred.specs.inner.Tallying.{at_bits, lesser_code, nothing, taken, taken_for, taken_run, totals_of, times_of, with_run, IsInside, Shows};
 
 use crate::code_numbers::{CodeNumbers, number_at};
+use crate::ranged::codes_within;
+use crate::spans::Span;
 use crate::tally::Tally;
 use im_bits::{Bits, ROOM};
 use im_codes::Runs;
@@ -204,6 +209,34 @@ pub fn found_in(numbers: &CodeNumbers, bits: &Bits, mask: &Mask) -> Found
         }
     }
     found
+}
+
+/// What is found among the packed codes of a range, where the numbers follow one another from the first on, and each code is there.
+///
+/// So the ends are those of the range, and the codes alone are added up.
+pub fn found_within(numbers: &CodeNumbers, first: i64, bits: &Bits, span: Span) -> Found
+    requires span { IsSpanBelow (length (coded numbers.now)) span }
+    requires first { AreFrom numbers.now first }
+    requires there { AreThere numbers.now bits.now.codes }
+    ensures found { result ≡ fold (taken numbers.now) nothing (chosen (map (is_within span.low span.end) bits.now.codes) bits.now.codes) }
+    ensures all { result.values ≡ count_by (λ chosen. chosen) (map (is_within span.low span.end) bits.now.codes) }
+{
+    let within = codes_within(bits, span.low, span.end);
+    Found {
+        values: within.count,
+        sum: total(within.count, numbers.at(span.low), within.sum),
+        least: span.low,
+        greatest: span.end - 1,
+    }
+}
+
+/// A number so many times, and what is above it.
+fn total(count: u64, number: i64, above: u64) -> i128
+    requires count { count < 2 ^ 31 }
+    requires above { above < 2 ^ 47 }
+    ensures { result ≡ times_of count number +ℤ pos above }
+{
+    times(count, number) + i128::from(above)
 }
 
 /// What is found among the chosen of runs of codes. A run costs a step for each word of the mask that it lies in.

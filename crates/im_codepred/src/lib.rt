@@ -8,7 +8,8 @@
 //!
 //! [`tally_of`] of a column and [`tally_rows`] of a column of a run say what the values at the positions of a mask come to: how
 //! many there are, their sum, the least and the greatest; [`counts_by_code`] says how many of the positions have each code of a
-//! column, and [`tallies_by_code`] what the values of another column come to at those that have it.
+//! column, and [`tallies_by_code`] what the values of another column come to at those that have it. [`tally_where`] says what a
+//! column comes to where a condition of that column alone is true: of codes in a range it makes no mask.
 //!
 //! Start with `specs/Asked.antt` and `asked.rt`, then `form.rt`, `rows.rt` and `selection.rt`; of tallies with `specs/Tallies.antt`.
 #![tactic(auto)]
@@ -21,8 +22,10 @@ mod form;
 mod found;
 mod found_by_key;
 mod gathered;
+mod in_range;
 mod keyed;
 mod numbers;
+mod ranged;
 mod rows;
 mod selection;
 mod slab;
@@ -32,6 +35,7 @@ mod tally;
 pub use asked::{Asked, Wanted, asks};
 pub use counts::counts_by_code;
 pub use form::mask_of;
+pub use in_range::tally_where;
 pub use keyed::tallies_by_code;
 pub use rows::tally_rows;
 pub use selection::{select, select_rows};

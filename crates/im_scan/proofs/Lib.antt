@@ -5,6 +5,7 @@ mod FitLemmas
 mod PartLemmas
 mod PinLemmas
 mod PrunedLemmas
+mod RangeLemmas
 pub mod ForCallers
 pub mod MergeLemmas
 mod NextLemmas

@@ -4,10 +4,11 @@ ghost use Rattle.std.specs.List.{AllByRecursion};
 ghost use Rattle.std.specs.Option.{ForSome};
 ghost use Rattle.im_history.specs.Rows.{present};
 ghost use Rattle.im_group.specs.Partials as group;
+ghost use Rattle.im_group.specs.Partials.{keeps};
 ghost use Rattle.im_unit.specs.Holding.{count_present};
 ghost use Rattle.im_scan.specs.Parts.{MayAsk};
 ghost use Rattle.im_scan.specs.inner.Lying.{LieIn};
-ghost use Rattle.im_scan.specs.inner.Left.{IsPartOfChosen};
+ghost use Rattle.im_scan.specs.inner.Left.{IsPartOfChosen, is_left, spots_where};
 ghost use Rattle.im_scan.specs.inner.Pieces.{HasRoomFor, numbered_all};
 ghost use Rattle.im_scan.specs.inner.Steps.{GoesOnBy};
 ghost use Rattle.im_scan.specs.inner.Walk.{lent_beside, standing};
@@ -15,6 +16,7 @@ ghost use Rattle.im_scan.specs.inner.Walk.{lent_beside, standing};
 use crate::beside::RowsBeside;
 use crate::by_code::{coded, coded_key};
 use crate::in_place::take_pieces;
+use crate::in_range::part_in_range;
 use crate::left::{are_between, left_spots};
 use crate::parts::take_row;
 use crate::summed::{takes_together, together};
@@ -88,6 +90,25 @@ fn take_beside(
     }
 }
 
+/// The part of what is left of a unit beside rows, made of its columns. None where they do not answer the query.
+fn unit_part(
+    alloc: Global,
+    asking: &Asking<'_>,
+    unit: &ColumnUnit,
+    beside: &[LentRow<'_>],
+    count: u64,
+) -> Result<Option<Partial>, NoMemory>
+    requires { AllByRecursion (MayAsk asking.now) unit.now.rows }
+    ensures { IfOk result (λ part. ForSome part
+        (IsPartOfChosen asking.now unit.now (spots_where (is_left (unit.now.first + count) beside.now) (keeps asking.now.filter) unit.now.first unit.now.rows))) }
+{
+    if let Some(part) = part_in_range(alloc, asking, unit, beside, count)? {
+        return Ok(Some(part));
+    }
+    let spots = left_spots(alloc, unit, &asking.bound().filter, beside, count)?;
+    chosen_part(alloc, asking, unit, &spots)
+}
+
 /// What so many row numbers from the first of a unit on give to a query that is grouped: what is left of the unit, by its columns, and
 /// then the rows beside it.
 fn left_part(
@@ -109,8 +130,7 @@ fn left_part(
     if !are_between(beside.rows, first, first + count) {
         return Ok(None);
     }
-    let spots = left_spots(alloc, unit, &asking.bound().filter, beside.rows, count)?;
-    let Some(mut part) = chosen_part(alloc, asking, unit, &spots)? else {
+    let Some(mut part) = unit_part(alloc, asking, unit, beside.rows, count)? else {
         return Ok(None);
     };
     take_beside(alloc, asking, beside, &mut part)?;

@@ -18,6 +18,7 @@ mod by_columns;
 mod every_row;
 mod faces;
 mod in_place;
+mod in_range;
 mod kept;
 mod laws;
 mod left;
