@@ -116,7 +116,7 @@ fn ended(
 fn make_room(values: &mut Vec<Value>, taken: usize, left: usize) -> Result<(), NoMemory>
     ensures { OnOk result (values.new.items ≡ values.old.items) }
 {
-    if taken == 0 {
+    if taken == 0 || left < taken {
         return Ok(());
     }
     let room = values.len().saturating_mul(left / taken);
@@ -124,18 +124,13 @@ fn make_room(values: &mut Vec<Value>, taken: usize, left: usize) -> Result<(), N
     Ok(())
 }
 
-/// How many values the tuple at the front of the bytes has, at most as many as a table has columns. It is a guess: a comma or a
-/// parenthesis in a text counts too.
-fn guess_width(bytes: &[u8]) -> usize {
-    let mut values: usize = 1;
-    for byte in bytes {
-        match *byte {
-            b',' => values = values.saturating_add(1),
-            b')' => return values.min(MOST_COLUMNS),
-            _ => {}
-        }
-    }
-    values.min(MOST_COLUMNS)
+/// How many bytes a value takes in a line, about, with the comma behind it.
+const BYTES_A_VALUE: usize = 5;
+
+/// How many values the tuple at the front of so many bytes has: at least one, and at most as many as a table has columns. It is a
+/// guess by the number of bytes alone, since a look at each takes longer than what a wrong guess costs.
+fn guess_width(bytes: usize) -> usize {
+    (bytes / BYTES_A_VALUE).max(1).min(MOST_COLUMNS)
 }
 
 /// No values yet, and room for those of the tuple at a place.
@@ -143,7 +138,7 @@ fn no_values(alloc: Global, line: &[u8], at: usize) -> Result<Vec<Value>, NoMemo
     requires { at ≤ length line.now }
     ensures { IfOk result (λ values. values.items ≡ []) }
 {
-    Ok(Vec::with_capacity(alloc, guess_width(behind(line, at)))?)
+    Ok(Vec::with_capacity(alloc, guess_width(line.len() - at))?)
 }
 
 /// The tuples from a place on, where they are of one length and the line ends behind them.
