@@ -20,7 +20,6 @@ use Rattle.im_names.specs.Literals.{value_of, stored}
 use Rattle.im_names.specs.Rows.{stored_fault, tuple_fault, count_fault, source, taken, row_of, rows_of, insert_fault}
 use Rattle.im_names.specs.inner.FittingLiterals.{literal_fits}
 use Rattle.im_names.proofs.Fitting.{fits_stored}
-use Rattle.im_names.specs.declared.resolved.Resolved.TheVariants as resolved
 use Rattle.im_names.proofs.TargetLemmas.{source_inside, drop_at}
 
 -- ---- one value
@@ -143,11 +142,11 @@ all_stops p xs i x is fails so_far =
     let here : list_all p (drop i xs) ≡ false = rw (drop_at xs i x is, fails) refl in
     sym here ∙ so_far
 
-pub even_passes : (table : ℕ) (columns : List Column) (names : List (List ℕ)) (tuples rows : List (List Value)) → length names ≡ 0
+pub even_passes : (columns : List Column) (names : List (List ℕ)) (tuples rows : List (List Value)) → length names ≡ 0
     → list_all (λ row. fits row columns) tuples ≡ true → AreProper tuples → rows ≡ tuples
-    → Passes (insert_fault columns names (written tuples)) (resolved.Insert table rows ≡ resolved.Insert table (rows_of columns names (written tuples)))
-even_passes table columns [] tuples rows none fit proper is = record {
+    → Passes (insert_fault columns names (written tuples)) (rows ≡ rows_of columns names (written tuples))
+even_passes columns [] tuples rows none fit proper is = record {
   free = even_faultless columns tuples fit;
-  is = ap (resolved.Insert table) (is ∙ sym (even_rows columns tuples fit proper));
+  is = is ∙ sym (even_rows columns tuples fit proper);
 }
-even_passes table columns (n ∷ ns) tuples rows none fit proper is = absurd (omega (arith, none))
+even_passes columns (n ∷ ns) tuples rows none fit proper is = absurd (omega (arith, none))

@@ -24,7 +24,7 @@ use im_history::{Look, Mode, Priority, SharedTable};
 use im_syntax::{
     Bound, ColumnPart, Cond, EvenTuples, Lit, MemoryPart, Query, Stmt, Tuples, TuplesForm,
 };
-use im_values::{List, Name, Schema};
+use im_values::{List, Name, Rows, Schema};
 use std::alloc::Global;
 
 fn resolve_query(alloc: Global, tables: &[SharedTable], query: &Query) -> Result<Bound, NameFault>
@@ -71,60 +71,56 @@ fn resolve_memory(
 
 fn bind_insert(
     alloc: Global,
-    table: u32,
     schema: &Schema,
     names: &[Name],
     tuples: &[List<Lit>],
-) -> Result<Resolved, NameFault>
-    ensures ok { IfOk result (λ r. Passes
+) -> Result<Rows, NameFault>
+    ensures ok { IfOk result (λ rows. Passes
         (insert_fault schema.now names.now tuples.now)
-        (r ≡ resolved.Insert table (all_rows schema.now names.now tuples.now))) }
+        (rows ≡ all_rows schema.now names.now tuples.now)) }
     ensures err { IfErr result (IsCause (insert_fault schema.now names.now tuples.now)) }
 {
     check_listed(alloc, schema, names)?;
     let targets = Targets::of(alloc, schema, names)?;
     check_counts(tuples, targets.count())?;
-    let rows = rows_of(alloc, schema, &targets, tuples)?;
-    Ok(Resolved::Insert { table, rows })
+    rows_of(alloc, schema, &targets, tuples)
 }
 
 /// Tuples that are kept as values are the rows as they are, where all columns are meant and every value may stand in its own. What
 /// is wrong with others is told of them as they are written.
 fn bind_even(
     alloc: Global,
-    table: u32,
     schema: &Schema,
     names: &[Name],
     tuples: &EvenTuples,
-) -> Result<Resolved, NameFault>
-    ensures ok { IfOk result (λ r. Passes
+) -> Result<Rows, NameFault>
+    ensures ok { IfOk result (λ rows. Passes
         (insert_fault schema.now names.now (written tuples.now))
-        (r ≡ resolved.Insert table (all_rows schema.now names.now (written tuples.now)))) }
+        (rows ≡ all_rows schema.now names.now (written tuples.now))) }
     ensures err { IfErr result (IsCause (insert_fault schema.now names.now (written tuples.now))) }
 {
     if names.is_empty() && all_fit(tuples, schema) {
         let rows = tuples.rows()?;
-        return Ok(Resolved::Insert { table, rows });
+        return Ok(rows);
     }
     let tuples = tuples.to_list(alloc)?;
-    bind_insert(alloc, table, schema, names, tuples.as_slice())
+    bind_insert(alloc, schema, names, tuples.as_slice())
 }
 
 fn bind_tuples(
     alloc: Global,
-    table: u32,
     schema: &Schema,
     names: &[Name],
     tuples: &Tuples,
-) -> Result<Resolved, NameFault>
-    ensures ok { IfOk result (λ r. Passes
+) -> Result<Rows, NameFault>
+    ensures ok { IfOk result (λ rows. Passes
         (insert_fault schema.now names.now tuples.now)
-        (r ≡ resolved.Insert table (all_rows schema.now names.now tuples.now))) }
+        (rows ≡ all_rows schema.now names.now tuples.now)) }
     ensures err { IfErr result (IsCause (insert_fault schema.now names.now tuples.now)) }
 {
     match tuples.form() {
-        TuplesForm::Even(tuples) => bind_even(alloc, table, schema, names, tuples),
-        TuplesForm::Listed(tuples) => bind_insert(alloc, table, schema, names, tuples.items()),
+        TuplesForm::Even(tuples) => bind_even(alloc, schema, names, tuples),
+        TuplesForm::Listed(tuples) => bind_insert(alloc, schema, names, tuples.items()),
     }
 }
 
@@ -138,8 +134,9 @@ fn resolve_insert(
     ensures ok { IfOk result (λ r. resolution tables.now (form.Insert name.now names.now tuples.now) ≡ Ok r) }
     ensures err { IfErr result (IsErr (resolution tables.now (form.Insert name.now names.now tuples.now))) }
 {
-    let (number, schema) = table_called(alloc, tables, name)?;
-    bind_tuples(alloc, number, schema, names, tuples)
+    let (table, schema) = table_called(alloc, tables, name)?;
+    let rows = bind_tuples(alloc, schema, names, tuples)?;
+    Ok(Resolved::Insert { table, rows })
 }
 
 fn bind_update(
