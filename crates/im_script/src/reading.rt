@@ -57,6 +57,9 @@ fn statement(alloc: Global, side: Side, number: u32, before: usize, line: &[u8])
 }
 
 /// What the statement part of a session's line says. Most are an INSERT, which is read straight from its bytes where it can be.
+///
+/// It stands by itself, and what calls it does not: so a statement, which is long, is copied less often on its way into its line.
+#[inline(never)]
 fn session_statement(alloc: Global, number: u32, before: usize, line: &[u8]) -> LineKind
     requires within { before ≤ length line.now }
     requires short { length line.now < 2 ^ 32 }
@@ -69,6 +72,8 @@ fn session_statement(alloc: Global, number: u32, before: usize, line: &[u8]) -> 
     }
 }
 
+/// The kind of a line of a form.
+#[inline(always)]
 fn kind_of_form(alloc: Global, form: Form, line: &[u8]) -> LineKind
     requires { form ≡ forms.form_of line.now }
     ensures { lines_are.HasKind form line.now result }
@@ -86,6 +91,7 @@ fn kind_of_form(alloc: Global, form: Form, line: &[u8]) -> LineKind
 /// The line of these bytes, with its number.
 ///
 /// A line for which memory ran out has the kind NoMemory.
+#[inline(always)]
 pub fn line_of(alloc: Global, number: u64, line: &[u8]) -> Line
     // It is the line of its bytes.
     ensures is { lines_are.IsLine number line.now result }
