@@ -1,5 +1,5 @@
 -- Tuples that are kept as values and fit the columns have no fault, and are their rows.
-use Rattle.std.proofs.Common.{◌≡◌, ℕ, zero, suc, ◌+◌, ◌<◌, Bool, true, false, ◌&&◌, List, [], ◌∷◌, length, get_or, drop, map, Option, Some, None, refl, sym, ap, ◌∙◌, arith, add-one}
+use Rattle.std.proofs.Common.{◌≡◌, ℕ, zero, suc, ◌+◌, Bool, true, false, List, [], ◌∷◌, length, get_or, drop, map, Some, None, refl, sym, ap, ◌∙◌, arith}
 use Rattle.std.proofs.lemmas.Bool.Decides.{nat_tests}
 use Rattle.std.proofs.lemmas.List.{length-map}
 use Rattle.std.proofs.lemmas.List.FromFn.{length-range_with_len}
@@ -11,7 +11,6 @@ use Rattle.im_values.specs.declared.schema.Kind.TheVariants as kind
 use Rattle.im_values.specs.declared.content.Content.{Content as Value}
 use Rattle.im_values.specs.declared.content.Content.TheVariants as value
 use Rattle.im_values.specs.Fits.{may_stand, fits}
-use Rattle.im_syntax.specs.declared.literal.Lit.{Lit}
 use Rattle.im_syntax.specs.declared.literal.Lit.TheVariants as lit
 use Rattle.im_syntax.specs.Tuples.{lit_of, written, is_proper, AreProper}
 use Rattle.im_syntax.proofs.EvenLemmas.{both}

@@ -20,7 +20,6 @@ use Rattle.im_names.specs.Literals.{value_of, is_other, compared, is_textual, su
 use Rattle.im_names.specs.Conditions.{behind, term_names, conj_names, cond_names, term_values, conj_values, cond_values, term_map, conj_map, cond_map, value_fault, values_fault, where_names, where_values, filter_of}
 use Rattle.im_syntax.specs.declared.item.ItemOf.{ItemOf}
 use Rattle.im_syntax.specs.declared.item.ItemOf.TheVariants as item
-use Rattle.im_syntax.specs.Functions.{adds}
 use Rattle.im_syntax.specs.declared.query.KeyPart.{KeyPart}
 use Rattle.im_syntax.specs.declared.query.ListPart.{ListPart}
 use Rattle.im_syntax.specs.declared.query.ListPart.TheVariants as list
