@@ -19,7 +19,7 @@ use Rattle.im_history.proofs.HeldLaws.{held-within}
 use Rattle.im_history.proofs.UnitLaws.{held-nil}
 use Rattle.im_plan.specs.Goes.{After}
 use Rattle.im_reach.specs.Sides.{Added, AreOthers, Found, Known, StoreSide, speaks}
-use Rattle.im_worker.specs.inner.Good.{content_built, content_from, nones}
+use Rattle.im_worker.specs.inner.Built.{content_built, content_from, nones}
 use Rattle.im_worker.specs.inner.Rests.{Went}
 use Rattle.im_worker.specs.inner.Standing.{Stands}
 use Rattle.im_worker.proofs.BeginLemmas.{just-of, stands-read}

@@ -7,7 +7,7 @@ ghost use Rattle.im_history.specs.Legal.{IsLawful};
 ghost use Rattle.im_reach.specs.Sides.{sole};
 ghost use Rattle.im_session.specs.Sessions.{Agrees};
 ghost use Rattle.im_unit.specs.Holding.{AreShort, HaveWidth};
-ghost use Rattle.im_worker.specs.inner.Good.{content_from};
+ghost use Rattle.im_worker.specs.inner.Built.{content_from};
 ghost use Rattle.im_worker.specs.inner.Standing.{Stands};
 
 use crate::lines::{play, play_each};

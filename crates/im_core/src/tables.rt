@@ -1,6 +1,7 @@
-ghost use Rattle.std.specs.Prelude.{◌≡◌, ◌+◌, ◌<◌, length, false, None, IfOk, IfErr, OnOk, OnErr};
+ghost use Rattle.std.specs.Prelude.{◌≡◌, ◌+◌, ◌<◌, ◌≤◌, length, false, None, IfOk, IfErr, OnOk, OnErr};
 ghost use Rattle.im_history.specs.declared.entry.What.TheVariants as what;
 ghost use Rattle.im_history.specs.Commits.{scn};
+ghost use Rattle.im_history.specs.Legal.{AreNarrow, text_limit};
 ghost use Rattle.im_history.specs.Refusals.{create_refusal};
 ghost use Rattle.im_history.specs.Tables.{tables};
 ghost use Rattle.im_history.specs.Transactions.{is_open};
@@ -11,7 +12,7 @@ use crate::answers::Made;
 use crate::store::{Core, owed};
 use im_history::{Entry, Refused, Shape, TableInfo, UnitLike, What, Who, Why};
 use im_values::limits::NUMBERS;
-use im_values::{Name, NoMemory, Schema};
+use im_values::{Kind, Name, NoMemory, Schema};
 use std::alloc::Global;
 
 impl<U: UnitLike> Core<U> {
@@ -64,6 +65,7 @@ impl<U: UnitLike> Core<U> {
         ensures err { OnErr result (self.new ≡ self.old) }
     {
         let shape = shape.known();
+        known_widths(&schema);
         let table = table_info(self.alloc, &name, &schema, shape)?;
         let catalog = self.catalog.with(self.alloc, table)?;
         self.history
@@ -84,6 +86,27 @@ impl<U: UnitLike> Core<U> {
             },
         });
         Ok(made)
+    }
+}
+
+/// No text of a column is longer than 65,535 bytes.
+fn known_width(kind: Kind)
+    ensures { text_limit kind ≤ 65535 }
+{
+    match kind {
+        Kind::Int => (),
+        Kind::Text(limit) => {
+            let _ = usize::from(limit);
+        }
+    }
+}
+
+/// Nor is one of any of these columns.
+fn known_widths(schema: &Schema)
+    ensures { AreNarrow schema.now }
+{
+    for column in schema.columns() {
+        known_width(column.kind);
     }
 }
 

@@ -1,10 +1,16 @@
 -- In a legal history all that was put into a table fits it.
-use Rattle.std.proofs.Common.{◌≡◌, ℕ, zero, suc, ◌+◌, ◌==◌, ◌&&◌, Bool, true, false, IsTrue, if◌then◌else◌, List, [], ◌∷◌, ◌++◌, take, filter, All, Option, Some, None, slice_get, refl, sym, ap, subst, ◌∙◌, ⊎_elim, arith}
+use Rattle.std.proofs.Common.{◌≡◌, ℕ, zero, suc, ◌+◌, ◌≤◌, length, ◌==◌, ◌&&◌, Bool, true, false, IsTrue, if◌then◌else◌, List, [], ◌∷◌, ◌++◌, take, filter, All, Option, Some, None, slice_get, refl, sym, ap, subst, ◌∙◌, ⊎_elim, arith}
 use Rattle.std.specs.List.{fold, flat_map}
+use Rattle.std.proofs.lemmas.Bool.{false≢true}
 use Rattle.std.proofs.lemmas.Bool.Decides.{nat_tests}
 use Rattle.std.proofs.lemmas.List.Elements.{All-nil, All-cons, All-head, All-tail, All-append, All-weaker, All-take, All-filter}
+use Rattle.im_values.specs.declared.content.Content.{Content as Value}
+use Rattle.im_values.specs.declared.content.Content.TheVariants.{Int, Text, Null}
 use Rattle.im_values.specs.declared.schema.Column.{Column}
-use Rattle.im_values.specs.Fits.{fits}
+use Rattle.im_values.specs.declared.schema.Kind.{Kind}
+use Rattle.im_values.specs.declared.schema.Kind.TheVariants as kind
+use Rattle.im_values.specs.Fits.{fits, may_stand}
+use Rattle.im_values.specs.Sizes.{value_bytes}
 use Rattle.im_history.specs.declared.change.Change.{Change}
 use Rattle.im_history.specs.declared.entry.Entry.{Entry}
 use Rattle.im_values.specs.declared.priority.Priority.{Priority}
@@ -14,7 +20,7 @@ use Rattle.im_history.specs.declared.limits.Limits.{Limits}
 use Rattle.im_history.specs.declared.look.TableInfo.{TableInfo}
 use Rattle.im_history.specs.Commits.{commits, committed_by}
 use Rattle.im_history.specs.History.{History, replay}
-use Rattle.im_history.specs.Legal.{IsAllowed, IsInsert, IsLegal, IsRewrite, put_from, row_fits}
+use Rattle.im_history.specs.Legal.{AreNarrow, IsAllowed, IsInsert, IsLegal, IsRewrite, put_from, row_fits, text_limit}
 use Rattle.im_history.specs.Rows.{Row, changes_until, own_changes, row_after, rows, seen, snapshot}
 use Rattle.im_history.specs.Tables.{created, table_at, tables, with_memory}
 use Rattle.im_history.specs.Transactions.{pending, pending_after}
@@ -207,3 +213,34 @@ seen-fits limits h who table rid made row legal is found =
     (committed-fit limits h table (snapshot h who) rid made legal is)
     (All-filter (λ change. change.table == table) (Fits h) (pending h who) ((all_fits limits h legal).waiting who)))
     found
+
+-- a value that may stand in a column counts for at most three bytes more than the column's longest text
+stands-short : (k : Kind) (value : Value) → may_stand k value ≡ true → text_limit k ≤ 65535 → value_bytes value ≤ 65538
+stands-short kind.Int (Int n) stands narrow = omega arith
+stands-short kind.Int (Text t) stands narrow = absurd (false≢true stands)
+stands-short kind.Int Null stands narrow = omega arith
+stands-short (kind.Text limit) (Int n) stands narrow = absurd (false≢true stands)
+stands-short (kind.Text limit) (Text t) stands narrow =
+    let within : length t ≤ limit = grind (arith, nat_tests, stands) in omega (arith, within, narrow)
+stands-short (kind.Text limit) Null stands narrow = omega arith
+
+both : (a b : Bool) → (a && b) ≡ true → (a ≡ true) × (b ≡ true)
+both true true is = (refl, refl)
+both true false is = absurd (false≢true is)
+both false b is = absurd (false≢true is)
+
+-- a row that fits columns that are narrow has a value for each, and none is a long text
+pub fits-length : (row : Row) (schema : List Column) → fits row schema ≡ true → length row ≡ length schema
+fits-length [] [] fit = refl
+fits-length [] (column ∷ columns) fit = absurd (false≢true fit)
+fits-length (value ∷ values) [] fit = absurd (false≢true fit)
+fits-length (value ∷ values) (column ∷ columns) fit =
+    ap suc (fits-length values columns (both (may_stand column.kind value) (fits values columns) fit).1)
+
+pub fits-short : (row : Row) (schema : List Column) → fits row schema ≡ true → AreNarrow schema → All (λ value. value_bytes value ≤ 65538) row
+fits-short [] [] fit narrow = All-nil (λ value. value_bytes value ≤ 65538)
+fits-short [] (column ∷ columns) fit narrow = absurd (false≢true fit)
+fits-short (value ∷ values) [] fit narrow = absurd (false≢true fit)
+fits-short (value ∷ values) (column ∷ columns) fit narrow =
+    let parts = both (may_stand column.kind value) (fits values columns) fit in
+    All-cons (λ value. value_bytes value ≤ 65538) value values (stands-short column.kind value parts.0 narrow.0) (fits-short values columns parts.1 narrow.1)

@@ -1,8 +1,10 @@
 -- Which histories a store may have: each entry is allowed after those before it.
 use Rattle.std.specs.Prelude.{◌≡◌, ℕ, ◌+◌, ◌<◌, ◌≤◌, ◌⊎◌, true, false, IsTrue, Bool, List, [], ◌∷◌, ◌++◌, length, All, fold, Option, Some, None, is_some}
-use Rattle.std.specs.List.{AllAdjacentBelow}
+use Rattle.std.specs.List.{AllAdjacentBelow, AllByRecursion}
 use Rattle.im_values.specs.declared.limits.TheConstants.{MOST_CHANGES, MOST_COLUMNS, MOST_WEIGHT, NUMBERS}
 use Rattle.im_values.specs.declared.schema.Column.{Column}
+use Rattle.im_values.specs.declared.schema.Kind.{Kind}
+use Rattle.im_values.specs.declared.schema.Kind.TheVariants as kind
 use Rattle.im_values.specs.Fits.{fits}
 use Rattle.im_history.specs.declared.change.Change.{Change}
 use Rattle.im_history.specs.declared.entry.Entry.{Entry}
@@ -25,12 +27,22 @@ use Rattle.im_history.specs.Transactions.{is_open, pending}
 use Rattle.im_history.specs.Units.{builds, held_at, unit}
 use Rattle.im_history.specs.Views.{seen_by}
 
+-- how many bytes the texts of a kind of column have at most
+abbrev pub text_limit : Kind → ℕ
+text_limit kind.Int = 0
+text_limit (kind.Text limit) = limit
+
+-- no column takes a text of more than 65,535 bytes
+abbrev pub AreNarrow : List Column → Type 0
+AreNarrow schema = AllByRecursion (λ column. text_limit column.kind ≤ 65535) schema
+
 -- a table may be created: the session has no open transaction, nothing refuses it, and it has one column
--- at least and not too many, and a shape in range
+-- at least and not too many, none of texts that are too long, and a shape in range
 pub record MayCreate (history : History) (who : ℕ) (name : List ℕ) (schema : List Column) (grid : Grid) : Type 0 where
   pub idle : is_open history who ≡ false
   pub allowed : create_refusal history name ≡ None
   pub columns : (1 ≤ length schema) × (length schema ≤ MOST_COLUMNS)
+  pub narrow : AreNarrow schema
   pub shape : IsInRange grid.block × IsInRange grid.extent
 
 -- a table of this number exists

@@ -19,7 +19,7 @@ use Rattle.im_history.specs.Views.{per_at}
 use Rattle.im_history.proofs.HeldLaws.{held-within, task_content-is}
 use Rattle.im_unit.specs.Rebuilt.{RiseWithin, rebuilt, row_or_fetched}
 use Rattle.im_unit.proofs.ForCallers.{length-rebuilt, row-rebuilt}
-use Rattle.im_worker.specs.inner.Good.{IsBeside}
+use Rattle.im_worker.specs.inner.Built.{IsBeside}
 
 -- ---- what is fetched rises
 

@@ -4,7 +4,7 @@ pub mod CountLemmas
 pub mod EndLemmas
 pub mod EvictLemmas
 pub mod ForCallers
-pub mod GoodLemmas
+pub mod FitLemmas
 pub mod HoldingLaws
 pub mod JudgingLaws
 pub mod RestLemmas

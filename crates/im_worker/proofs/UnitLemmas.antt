@@ -30,7 +30,7 @@ use Rattle.im_history.proofs.UnitLaws.{is_plain}
 use Rattle.im_reach.specs.Sides.{Found, Known, speaks}
 use Rattle.im_worker.proofs.RestLemmas.{went-found}
 use Rattle.im_worker.specs.inner.Beginning.{IsGiven, IsJust}
-use Rattle.im_worker.specs.inner.Good.{IsBeside, content_built, content_from, nones}
+use Rattle.im_worker.specs.inner.Built.{IsBeside, content_built, content_from, nones}
 use Rattle.im_worker.specs.inner.Rests.{Went}
 use Rattle.im_worker.proofs.BuiltLemmas.{built-mended, is-beside, task_content-own}
 use Rattle.im_worker.proofs.HoldingLaws.{are_numbered, killed-task, killed-who, other_number, same_number}
@@ -342,6 +342,11 @@ content-found who task old new P lent fetched content mine just lawful found len
     ∙ (ap (λ (s : Known). content_built task (task_lent s.log task) (task_fetched s.log task)) (sym found.now)
     ∙ content-built who task old new mine just (went-found old new P found) lawful.legal))
 
+-- the build is the worker's own still, where the reading found it
+pub own-found : (who : ℕ) (task : Task) (old new : Known) (P : History → Type 0) → speaks old.side who ≡ true → IsJust who task old
+    → IsLegal new.limits new.log → Found old new P → IsOwn new.log who task
+own-found who task old new P mine just legal found = own-given (given-went who task old new mine just (went-found old new P found) legal)
+
 -- and a unit that was lent is such that it can be made anew
 pub beside-found : (who : ℕ) (task : Task) (old new : Known) (P : History → Type 0) (lent : Option Content) (fetched : List (ℕ × Option Row))
     → speaks old.side who ≡ true → IsJust who task old → IsLawful new.limits new.log → (found : Found old new P)
@@ -350,5 +355,4 @@ beside-found who task old new P lent fetched mine just lawful found lent_is read
     subst (IsBeside task lent) (sym read)
     (subst (λ (unit : Option Content). IsBeside task unit (task_fetched found.at task)) (sym lent_is)
     (subst (λ (s : Known). IsBeside task (task_lent s.log task) (task_fetched s.log task)) found.now
-    (is-beside new.limits new.log who task lawful.legal
-    (own-given (given-went who task old new mine just (went-found old new P found) lawful.legal)))))
+    (is-beside new.limits new.log who task lawful.legal (own-found who task old new P mine just lawful.legal found))))

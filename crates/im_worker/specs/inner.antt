@@ -1,5 +1,5 @@
 pub mod Beginning
-pub mod Good
+pub mod Built
 pub mod Rests
 pub mod Running
 pub mod Standing

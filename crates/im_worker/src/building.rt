@@ -7,7 +7,7 @@ ghost use Rattle.im_history.specs.Units.{task_content};
 ghost use Rattle.im_reach.specs.Sides.{speaks};
 ghost use Rattle.im_worker.specs.Reads.{IsCounted};
 ghost use Rattle.im_worker.specs.inner.Beginning.{IsBegun, IsJust};
-ghost use Rattle.im_worker.specs.inner.Good.{IsBeside, content_built, content_from};
+ghost use Rattle.im_worker.specs.inner.Built.{AreTaken, IsBeside, content_built, content_from};
 ghost use Rattle.im_worker.specs.inner.Rests.{Went};
 ghost use Rattle.im_worker.specs.inner.Standing.{Stands};
 
@@ -45,6 +45,7 @@ pub enum Beginning {
 
 /// The unit of a build that no unit was lent to, of the rows that were fetched for it.
 fn unit_anew(alloc: Global, task: &Task, fetched: &Fetched) -> Result<ColumnUnit, NoMemory>
+    requires taken { AreTaken task.now fetched.now }
     ensures { IfOk result (λ unit. unit ≡ content_from task.now fetched.now) }
 {
     let rows = padded(alloc, fetched, task.per)?;
@@ -55,6 +56,7 @@ fn unit_anew(alloc: Global, task: &Task, fetched: &Fetched) -> Result<ColumnUnit
 /// fetched rows alone.
 fn unit_from(alloc: Global, task: &Task, pin: Pin<ColumnUnit>) -> Result<Arc<ColumnUnit>, NoMemory>
     requires beside { IsBeside task.now (option_map arc_value pin.unit) pin.fetched }
+    requires taken { AreTaken task.now pin.fetched }
     ensures { IfOk result (λ unit. unit.value ≡ content_built task.now (option_map arc_value pin.unit) pin.fetched) }
 {
     let Pin {

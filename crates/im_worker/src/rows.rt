@@ -1,71 +1,16 @@
 ghost use Rattle.std.specs.Prelude.{◌≡◌, ◌+◌, ◌-◌, ◌*◌, ◌<◌, ◌≤◌, ◌^◌, ◌++◌, map, length, nat_le, IfOk, OnOk, IfSome, Some};
-ghost use Rattle.std.specs.Option.{option_copied};
-ghost use Rattle.im_history.specs.Fetched.{HasNumbers, in_piece, lent_rows};
-ghost use Rattle.im_unit.specs.Holding.{lent_slots};
+ghost use Rattle.im_history.specs.Fetched.{HasNumbers, in_piece};
+ghost use Rattle.im_unit.specs.Holding.{AreShort, HaveWidth, lent_slots};
 ghost use Rattle.im_unit.specs.Rebuilt.{RiseWithin, fetched_rows, rebuilt};
 ghost use Rattle.im_values.specs.declared.limits.TheConstants.{MOST_COLUMNS};
-ghost use Rattle.im_values.specs.Sizes.{value_bytes};
-ghost use Rattle.im_worker.specs.inner.Good as spec;
+ghost use Rattle.im_worker.specs.inner.Built as spec;
 
 use im_core::Fetched;
-use im_history::{LentRow, Piece, Task, lent_values};
+use im_history::{Piece, Task, lent_values};
 use im_unit::ColumnUnit;
 use im_values::limits::MOST_COLUMNS;
-use im_values::{NoMemory, Rows, Seen, Value};
+use im_values::{NoMemory, Rows, Value};
 use std::alloc::Global;
-
-/// Whether a value is no text of more than 65,535 bytes.
-fn is_short(value: &Value) -> bool
-    ensures { result ≡ nat_le (value_bytes value.now) 65538 }
-{
-    match value.seen() {
-        Seen::Text(text) => text.len() <= 65_535,
-        Seen::Int(_) | Seen::Null => true,
-    }
-}
-
-/// Whether no value is a text of more than 65,535 bytes.
-fn all_short(values: &[Value]) -> bool
-    ensures { result ≡ spec.all_short values.now }
-{
-    let mut short = true;
-    for value in values {
-        short = short && is_short(value);
-    }
-    short
-}
-
-/// Whether a row, where there is one, is one that a unit of so many columns takes.
-fn is_good(row: Option<&[Value]>, columns: u32) -> bool
-    ensures { result ≡ spec.is_good columns (option_copied row.entry) }
-{
-    match row {
-        Some(values) => values.len() == columns as usize && all_short(values),
-        None => true,
-    }
-}
-
-/// Whether all rows are such.
-fn all_good(rows: &[Option<&[Value]>], columns: u32) -> bool
-    ensures { result ≡ spec.all_good columns (lent_slots rows.now) }
-{
-    let mut good = true;
-    for row in rows {
-        good = good && is_good(*row, columns);
-    }
-    good
-}
-
-/// Whether all rows that are lent are such.
-fn all_lent_good(rows: &[LentRow<'_>], columns: u32) -> bool
-    ensures { result ≡ spec.all_good columns (fetched_rows (lent_rows rows.now)) }
-{
-    let mut good = true;
-    for row in rows {
-        good = good && is_good(row.1, columns);
-    }
-    good
-}
 
 /// The first row number of a build's extent, where a unit of so many rows from there on can be made.
 fn first_of(task: &Task, rows: usize) -> Option<u64>
@@ -83,13 +28,15 @@ fn first_of(task: &Task, rows: usize) -> Option<u64>
     }
 }
 
-/// The unit of a build whose extent has these rows. Where they are more or wider than those of any unit, which are not, it
-/// counts as out of memory.
+/// The unit of a build whose extent has these rows. Where they are more than those of any unit, which does not come, it counts as
+/// out of memory.
 pub fn unit_of_rows(
     alloc: Global,
     task: &Task,
     rows: &[Option<&[Value]>],
 ) -> Result<ColumnUnit, NoMemory>
+    requires width { HaveWidth task.now.columns (lent_slots rows.now) }
+    requires short { AreShort (lent_slots rows.now) }
     ensures { IfOk result (λ unit. unit ≡ record {
       scn = task.now.scn;
       first = task.now.extent * task.now.per;
@@ -100,14 +47,10 @@ pub fn unit_of_rows(
     let Some(first) = first_of(task, rows.len()) else {
         return Err(NoMemory);
     };
-    if !all_good(rows, task.columns) {
-        return Err(NoMemory);
-    }
     ColumnUnit::build_lent(alloc, task.scn, first, task.columns, rows)
 }
 
-/// The unit of a build, made anew of the one that was lent to it and of the rows that were fetched beside that. Where one of these is
-/// none that a unit of so many columns takes, which does not come, it counts as out of memory.
+/// The unit of a build, made anew of the one that was lent to it and of the rows that were fetched beside that.
 pub fn unit_again(
     alloc: Global,
     task: &Task,
@@ -116,14 +59,11 @@ pub fn unit_again(
 ) -> Result<ColumnUnit, NoMemory>
     requires columns { old.now.columns ≡ task.now.columns }
     requires rise { RiseWithin old.now.first (old.now.first + length old.now.rows) fetched.now }
+    requires taken { spec.AreTaken task.now fetched.now }
     ensures { IfOk result (λ unit. unit ≡ rebuilt old.now task.now.scn fetched.now) }
 {
     let lent = fetched.lent(alloc)?;
-    let rows = lent.as_slice();
-    if !all_lent_good(rows, task.columns) {
-        return Err(NoMemory);
-    }
-    ColumnUnit::rebuild(alloc, old, task.scn, rows)
+    ColumnUnit::rebuild(alloc, old, task.scn, lent.as_slice())
 }
 
 /// Puts the rows of a run behind others, lent.

@@ -1,6 +1,7 @@
 use Rattle.std.proofs.Common.{◌≡◌, ap, sym, ◌∙◌}
 use Rattle.std.specs.Arc.{arc_value}
 use Rattle.std.specs.Option.{option_map}
+use Rattle.im_worker.proofs.FitLemmas.{taken-found}
 use Rattle.im_worker.proofs.UnitLemmas.{beside-found, content-found, own-just}
 use Rattle.im_worker.proofs.building.unit_of.Goals as goal
 
@@ -14,6 +15,9 @@ unit_from-requires g c =
       beside =
           beside-found c.args.who c.args.task.now (g.H.Reach.known c.args.reach.now) (g.H.Reach.known c.read_task.new.self) _
           (option_map arc_value c.in-Ok.pin.unit) c.in-Ok.pin.fetched c.requires.speaks c.requires.just c.in-Ok.ensures.lawful found found.fact.1 found.fact.2;
+      taken =
+          taken-found c.args.who c.args.task.now (g.H.Reach.known c.args.reach.now) (g.H.Reach.known c.read_task.new.self) _
+          c.in-Ok.pin.fetched c.requires.speaks c.requires.just c.in-Ok.ensures.lawful found found.fact.2;
     }
 
 pub returns-in-Ok-unit_from-clause-unit : goal.returns-in-Ok-unit_from-clause-unit

@@ -3,7 +3,7 @@ use Rattle.std.specs.Option.{option_copied}
 use Rattle.std.proofs.lemmas.List.{map_push}
 use Rattle.im_history.specs.Rows.{Row}
 use Rattle.im_unit.specs.Holding.{lent_slots}
-use Rattle.im_worker.specs.inner.Good.{nones}
+use Rattle.im_worker.specs.inner.Built.{nones}
 use Rattle.im_worker.proofs.UnitLemmas.{nones_more, nones_none}
 use Rattle.im_worker.proofs.rows.pad.Goals as goal
 

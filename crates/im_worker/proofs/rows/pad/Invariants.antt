@@ -1,6 +1,6 @@
 use Rattle.std.proofs.Common.{◌≡◌, ◌++◌}
 use Rattle.im_unit.specs.Holding.{lent_slots}
-use Rattle.im_worker.specs.inner.Good.{nones}
+use Rattle.im_worker.specs.inner.Built.{nones}
 use Rattle.im_worker.proofs.rows.pad.Given as goal
 
 abbrev pub invariant-loop : goal.invariant-loop

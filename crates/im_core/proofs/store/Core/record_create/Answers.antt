@@ -21,6 +21,7 @@ invariant_of-self-2 g c =
       idle = idle;
       allowed = allowed;
       columns = subst (λ (columns : List Column). (1 ≤ length columns) × (length columns ≤ MOST_COLUMNS)) c.schema.view_is c.schema.invariant;
+      narrow = c.known_widths.ensures;
       shape = rw c.known-shape.ensures.same (c.known-shape.ensures.block, c.known-shape.ensures.extent);
     } in
     Holds-made _ _ c.self.inside.history _ _ c.args.who c.args.name c.args.schema c.known-shape.result _ _ _ c.self.invariant
