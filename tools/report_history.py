@@ -42,10 +42,14 @@ class Record:
 class Table:
     def __init__(self, number, name, block, extent, columns, place):
         self.number, self.name, self.columns, self.place = number, name, columns, place
+        self.defaults, self.added = [None] * len(columns), []  # at which places the last of the columns were added
         self.block, self.extent_rows, self.priority, self.opened = block, block * extent, None, False
         self.given = [(0, 0)]  # from which place on so many row numbers are given
         self.versions = {}  # of a row number: the SCNs of the commits that touched it, and the rows that they left
         self.holders = {}  # of a row number: who had a change pending, from which place, to which
+
+    def columns_at(self, place):
+        return self.columns[: len(self.columns) - sum(1 for added in self.added if added >= place)]
 
     def row_at(self, rid, scn):
         scns, rows = self.versions.get(rid, ((), ()))
@@ -69,13 +73,14 @@ class View:
 
     def __init__(self, table, scn, given, own):
         self.table, self.scn, self.own, self.given, self.served = table, scn, own, given, 0
+        self.columns, self.defaults = list(table.columns), list(table.defaults)
         self.extents = -(-given // table.extent_rows)
 
     def rows(self):
         for rid in range(self.given):
             row = self.own[rid] if rid in self.own else self.table.row_at(rid, self.scn)
             if row is not None:
-                yield rid, dict(zip([name for name, _ in self.table.columns], row))
+                yield rid, dict(zip([name for name, _ in self.columns], widened(row, self.defaults)))
 
 
 class Build:
@@ -83,11 +88,16 @@ class Build:
 
     def __init__(self, table, e, scn, who):
         self.table, self.e, self.scn, self.who, self.killed, self.ended, self.stale = table, e, scn, who, None, False, set()
-        rows = [row for row in (table.row_at(rid, scn) for rid in table.extent(e)) if row is not None]
+        rows = [widened(row, table.defaults) for row in (table.row_at(rid, scn) for rid in table.extent(e)) if row is not None]
         columns = {name: [row[at] for row in rows] for at, (name, _) in enumerate(table.columns)}
         self.count = len(rows)
         self.bytes = 8 * -(-table.extent_rows // 64) + sum(column_bytes(values) for values in columns.values())
         self.bounds = {name: bounds_of(values) for name, values in columns.items()}
+
+
+def widened(row, defaults):
+    """A row with the defaults of the columns that its table got since."""
+    return row + tuple(defaults[len(row) :])
 
 
 def bounds_of(values):
@@ -169,7 +179,7 @@ class Store:
         states.append((place + 1, len(states), state))
         self.next.append(self.next_build())
 
-    LENGTHS = {"memory": [3], "begin": [2], "open": [3], "shut": [2], "write": [2], "commit": [1], "rollback": [1], "build": [5],
+    LENGTHS = {"add": [5], "memory": [3], "begin": [2], "open": [3], "shut": [2], "write": [2], "commit": [1], "rollback": [1], "build": [5],
                "switch": [2], "cancel": [3], "trickle": [2], "evict": [3], "leave": [1]}
 
     def table_of(self, record, at):
@@ -182,6 +192,18 @@ class Store:
         if max(record.whole(5), record.whole(6)) > 64:
             record.wrong("a block has at most 64 rows, and an extent at most 64 blocks")
         self.tables.append(Table(len(self.tables) + 1, entry.what[1], record.whole(5, 1), record.whole(6, 1), columns, place))
+        self.scn[-1] += 1
+
+    def add_add(self, entry, place, session):
+        record, table, name = entry.record, self.table_of(entry.record, 4), entry.what[2]
+        if session.begun is not None:
+            record.wrong("a transaction of number %d is open since place %d" % (entry.who, session.begun))
+        if name in dict(table.columns) or len(table.columns) >= 16:
+            record.wrong("table %d has such a column, or 16" % table.number)
+        size = record.whole(6)
+        table.columns.append((name, size))
+        table.defaults.append(value_of(record, entry.what[4], size))
+        table.added.append(place)
         self.scn[-1] += 1
 
     def add_memory(self, entry, place, session):
@@ -329,6 +351,13 @@ class Store:
             if tasks:
                 return min(tasks)[1:] + (trickle,)
         return None
+
+
+def value_of(record, field, size):
+    """The value of a field in a column of texts of at most so many bytes, or of numbers where that is 0."""
+    if size == 0 and field and not re.fullmatch("0|-?[1-9][0-9]{0,18}", field) or size and len(field) > size:
+        record.wrong("'%s' is no value of its column" % field)
+    return None if field == "" else field if size else int(field)
 
 
 def weight(row):

@@ -6,7 +6,7 @@ the entries that its statement makes, at the places that are printed, and holds 
 from report_history import Wrong, weight
 from report_queries import Bad, answer, excluded, keeps, text
 
-CHANGES, WEIGHT, TABLES, CURSORS = 65536, 536870912, 64, 8
+CHANGES, WEIGHT, TABLES, CURSORS, COLUMNS = 65536, 536870912, 64, 8, 16
 
 
 class Refused(Exception):
@@ -83,6 +83,7 @@ class Player:
             records = [["error", "01", "syntax", line.what.args[0]]]
         else:
             try:
+                self.refuse_altered(line, turns)
                 place, records = self.STATEMENTS[line.what[0]](self, line, turns)
             except Refused as refused:
                 place, records = self.now(line, turns), [["error"] + list(refused.args)]
@@ -129,6 +130,25 @@ class Player:
             turns.take(0, self.why(line), "cancel", entries[-1].what[1], 0)
         return made
 
+    def refuse_altered(self, line, turns):
+        """A line of a race is refused for a column that its table got behind the look, where its reply says so and it may be."""
+        if not line.raced or line.reply[0].fields[1:4] != ["error", "22", "table-altered"] or line.what[0] not in self.SEEING:
+            return
+        now = self.now(line, turns)
+        table = self.tables(now).get(line.what[1])
+        added = [place for place in table.added if place < now] if table else []
+        if not added or added[-1] < turns.least or self.store.entries[added[-1]].who == line.who:
+            line.wrong("no column came behind its look")
+        if not any(self.is_bound(line.what, place) for place in [turns.least] + added if turns.least <= place):
+            line.wrong("it is refused for its names at each look that it may have had")
+        raise Refused("22", "table-altered", table.number, added[-1])
+
+    def is_bound(self, what, place):
+        try:
+            return bool(self.bound(what, place))
+        except Refused:
+            return False
+
     # ---- names and kinds
 
     def tables(self, place):
@@ -139,7 +159,7 @@ class Player:
         if what[1] not in self.tables(place):
             raise Refused("03", "unknown-table", what[1])
         table = self.tables(place)[what[1]]
-        columns, uses = dict(table.columns), what[-1]
+        columns, uses = dict(table.columns_at(place)), what[-1]
         self.names(uses, columns)
         if what[0] == "INSERT":
             order = what[2] or list(columns)
@@ -208,9 +228,9 @@ class Player:
     def insert(self, line, turns):
         now, what = self.now(line, turns), line.what
         table = self.bound(what, now)
-        names, first = [name for name, _ in table.columns], self.store.given(table, now)
+        names, first = [name for name, _ in table.columns_at(now)], self.store.given(table, now)
         order = what[2] or names
-        rows = [tuple(dict(zip(order, row)).get(name) for name in names) for row in what[3]]
+        rows = [tuple(dict(zip(order, row)).get(name, default) for name, default in zip(names, table.defaults)) for row in what[3]]
         changes = [(table.number, first + at, row) for at, row in enumerate(rows)]
         self.refuse_write(line, now, changes)
         return self.write(line, turns, changes), [["inserted", len(rows), first]]
@@ -224,7 +244,7 @@ class Player:
         view = self.store.views[place]
         for e in range(view.extents):
             self.serve(line, turns, view, condition, e)
-        names = [name for name, _ in table.columns]
+        names = [name for name, _ in view.columns]
         changed = [(rid, dict(row, **settings) if settings else None) for rid, row in view.rows() if keeps(condition, row)]
         changes = [(table.number, rid, row and tuple(row[name] for name in names)) for rid, row in changed]
         if changes:
@@ -259,7 +279,7 @@ class Player:
         return [e] + how
 
     def answered(self, what, view):
-        rows = answer(what, view.table.columns, [row for _, row in view.rows()])
+        rows = answer(what, view.columns, [row for _, row in view.rows()])
         return [["answer", view.scn, len(rows)]] + [["row"] + row for row in rows]
 
     def query(self, line, turns):
@@ -305,6 +325,8 @@ class Player:
         if self.store.at(line.who, turns.least)[0] is not None:
             turns.take(line.who, self.why(line), "commit")
         now, what = self.now(line, turns), line.what
+        if what[0] == "ALTER" and what[2] == "add":
+            return self.add_column(line, turns, now)
         if what[0] == "ALTER":
             table = self.bound(what, now)
             return turns.take(line.who, self.why(line), "memory", table.number, what[2]), [["altered", table.number]]
@@ -320,6 +342,19 @@ class Player:
         if memory:
             turns.take(line.who, self.why(line), "memory", number, memory)
         return place, [["created", number, self.store.scn[place + 1]]]
+
+    def add_column(self, line, turns, now):
+        _, name, _, (column, size), default, _ = line.what
+        if name not in self.tables(now):
+            raise Refused("03", "unknown-table", name)
+        table = self.tables(now)[name]
+        if column in dict(table.columns_at(now)):
+            raise Refused("03", "repeated-column", column)
+        self.kind(("fit", column, default, True), {column: size})
+        if len(table.columns_at(now)) >= COLUMNS:
+            raise Refused("21", "too-many-columns", COLUMNS)
+        place = turns.take(line.who, self.why(line), "add", table.number, column, size, text(default))
+        return place, [["altered", table.number]]
 
     def transaction(self, line, turns):
         begun, word = self.store.at(line.who, turns.least)[0], line.what[0]
@@ -395,6 +430,7 @@ class Player:
         whats = [entry.what for entry in self.store.entries[:place]]
         return sum(int(what[1]) for what in whats if what[0] == "trickle") - sum(int(what[4]) for what in whats if what[0] == "build")
 
+    SEEING = {"INSERT", "UPDATE", "DELETE", "SELECT", "EXPLAIN", "OPEN"}
     STATEMENTS = {"CREATE": define, "ALTER": define, "INSERT": insert, "UPDATE": rewrite, "DELETE": rewrite, "SELECT": query, "EXPLAIN": query,
                   "OPEN": query, "STEP": cursor, "FETCH": cursor, "CLOSE": cursor, "SET": transaction, "COMMIT": transaction,
                   "ROLLBACK": transaction, "RUN": background, "BEGIN": background, "SWITCH": background, "CANCEL": background,

@@ -7,10 +7,10 @@ strings with one character a byte. A statement is a tuple: its first word, what 
 import collections
 import re
 
-KEYWORDS = frozenset("""ALTER AND ASC BEGIN BETWEEN BLOCK BY CANCEL CLOSE COMMIT COMMITTED COUNT CREATE CRITICAL DELETE DESC EVICT EXPLAIN
-    EXTENT FETCH FOR FROM GROUP HIGH IN INMEMORY INSERT INTEGER INTO IS ISOLATION LEVEL LOW MAX MEDIUM MEMCOMPRESS MIN NO NONE NOT NULL
-    NUMBER ONLY OPEN OR ORDER PRIORITY QUERY READ ROLLBACK RUN SELECT SERIALIZABLE SET STEP SUM SWITCH TABLE TRANSACTION TRICKLE UPDATE
-    VALUES VARCHAR2 WHERE""".split())
+KEYWORDS = frozenset("""ADD ALTER AND ASC BEGIN BETWEEN BLOCK BY CANCEL CLOSE COMMIT COMMITTED COUNT CREATE CRITICAL DEFAULT DELETE DESC
+    EVICT EXPLAIN EXTENT FETCH FOR FROM GROUP HIGH IN INMEMORY INSERT INTEGER INTO IS ISOLATION LEVEL LOW MAX MEDIUM MEMCOMPRESS MIN NO NONE
+    NOT NULL NUMBER ONLY OPEN OR ORDER PRIORITY QUERY READ ROLLBACK RUN SELECT SERIALIZABLE SET STEP SUM SWITCH TABLE TRANSACTION TRICKLE
+    UPDATE VALUES VARCHAR2 WHERE""".split())
 TOKEN = re.compile(r"""(?P<blank>[ \t\r]+|--.*)|(?P<word>[A-Za-z][A-Za-z0-9_$#]*)|(?P<number>-?[0-9]+)|(?P<text>'(?:[^']|'')*'(?!'))
     |(?P<sign><>|!=|<=|>=|[(),*=<>])|(?P<end>;)""", re.X | re.S)
 
@@ -117,12 +117,7 @@ class Parser:
         name, columns = self.name(), []
         self.need("(")
         while True:
-            column = self.column("created")
-            kind = self.need("NUMBER", "INTEGER", "VARCHAR2")
-            size = self.in_parentheses(lambda: self.number(1, 255)) if kind == "VARCHAR2" else [0]
-            if len(size) > 1:
-                self.fail()
-            columns.append((column, size[0]))
+            columns.append(self.sized())
             if self.has(")"):
                 break
             if len(columns) == 16:
@@ -132,6 +127,15 @@ class Parser:
         extent = self.number(1, 64) if self.has("EXTENT") else 64
         return name, columns, block, extent, self.memory() if self.has("INMEMORY") else None
 
+    def sized(self):
+        column = self.column("created")
+        if self.need("NUMBER", "INTEGER", "VARCHAR2") != "VARCHAR2":
+            return column, 0
+        self.need("(")
+        size = self.number(1, 255)
+        self.need(")")
+        return column, size
+
     def memory(self):
         if self.has("MEMCOMPRESS"):
             [self.need(word) for word in ("FOR", "QUERY", "LOW")]
@@ -140,10 +144,20 @@ class Parser:
     def alter(self):
         self.need("TABLE")
         name = self.name()
-        if self.need("NO", "INMEMORY") == "INMEMORY":
+        word = self.need("ADD", "INMEMORY", "NO")
+        if word == "ADD":
+            return (name, "add") + self.added()
+        if word == "INMEMORY":
             return name, self.memory()
         self.need("INMEMORY")
         return name, "off"
+
+    def added(self):
+        self.need("(")
+        column = self.sized()
+        default = self.value() if self.has("DEFAULT") else None
+        self.need(")")
+        return column, default
 
     def insert(self):
         self.need("INTO")
@@ -321,6 +335,8 @@ def excluded(condition, bounds):
 def term_excluded(term, bounds):
     test, column = term[:2]
     if test in ("not", "inner"):
+        return False
+    if column not in bounds:
         return False
     least, most, nulls, count = bounds[column]
     if test in ("NULL", "NOT NULL"):

@@ -68,10 +68,12 @@ fn is_spelled_again(alloc: Global, text: &str) -> Result<bool, Fail> {
 }
 
 /// A statement of each kind, with each part that it may have. Its tokens have blanks between them.
-const STATEMENTS: [&str; 23] = [
+const STATEMENTS: [&str; 25] = [
     "CREATE TABLE T ( K NUMBER , M INTEGER , N VARCHAR2 ( 2 ) ) BLOCK 2 EXTENT 3 INMEMORY MEMCOMPRESS FOR QUERY LOW PRIORITY HIGH",
     "ALTER TABLE T INMEMORY PRIORITY NONE",
     "ALTER TABLE T NO INMEMORY",
+    "ALTER TABLE T ADD ( N VARCHAR2 ( 3 ) DEFAULT 'it''s' )",
+    "ALTER TABLE T ADD ( K NUMBER )",
     "INSERT INTO T ( K , N ) VALUES ( -1 , 'it''s' ) , ( NULL , '' )",
     "UPDATE T SET K = 1 , N = NULL WHERE NOT ( K IN ( 1 , 2 ) OR K IS NOT NULL ) AND N NOT BETWEEN 'a' AND 'b'",
     "DELETE FROM T",

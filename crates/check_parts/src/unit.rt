@@ -1,14 +1,13 @@
 ghost use Rattle.std.specs.Prelude.{◌≡◌, ◌+◌, ◌<◌, ◌≤◌, All, length, IfOk, OnOk};
 ghost use Rattle.std.specs.Option.{ForSome};
 ghost use Rattle.im_column.specs.Forms.{IsShort};
-ghost use Rattle.im_history.specs.Fetched.{lent_rows};
 ghost use Rattle.im_unit.specs.Holding.{AreShort, HaveWidth};
 ghost use Rattle.im_unit.specs.Rebuilt.{RiseWithin, fetched_rows};
 ghost use Rattle.check_parts.specs.Fetching.{AreFetched};
 
 use crate::column::shape_of;
 use im_column::Column;
-use im_history::{LentRow, UnitLike, lent_values};
+use im_history::{LentRow, UnitLike, wide_values};
 use im_unit::ColumnUnit;
 use im_values::{Name, NoMemory, Row, Seen, Value};
 use std::alloc::Global;
@@ -168,11 +167,11 @@ fn put_changed<'a>(
     requires place { place < EXTENT }
     requires width { ForSome row.now (λ values. length values ≡ 3) }
     requires short { ForSome row.now (λ values. All IsShort values) }
-    requires before { AreFetched (lent_rows fetched.old.items) place }
-    ensures { OnOk result (AreFetched (lent_rows fetched.new.items) (place + 1)) }
+    requires before { AreFetched fetched.old.items place }
+    ensures { OnOk result (AreFetched fetched.new.items (place + 1)) }
 {
     if is_changed(place, step) {
-        fetched.push((1000 + place, lent_values(row)))?;
+        fetched.push((1000 + place, wide_values(row, &[])))?;
     }
     Ok(())
 }
@@ -182,7 +181,7 @@ fn fetched_of(alloc: Global, step: u64, rows: &[Option<Row>]) -> Result<Vec<Lent
     requires width { HaveWidth 3 rows.now }
     requires short { AreShort rows.now }
     requires many { length rows.now ≡ EXTENT }
-    ensures { IfOk result (λ fetched. AreFetched (lent_rows fetched.items) EXTENT) }
+    ensures { IfOk result (λ fetched. AreFetched fetched.items EXTENT) }
 {
     let mut fetched = Vec::new(alloc);
     for i in 0..rows.len() {

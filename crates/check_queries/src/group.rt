@@ -10,7 +10,7 @@ ghost use Rattle.check_queries.specs.Sample.{HasCounts};
 
 use im_group::{Asking, Cell, Counted, Partial, Sums};
 use im_syntax::{Bound, Function, Item};
-use im_values::{List, NoMemory, Row, Value};
+use im_values::{List, NoMemory, Row, RowValues, Value};
 use std::alloc::Global;
 use std::test::Fail;
 
@@ -110,7 +110,8 @@ fn part_of_kept(
 {
     let asking = Asking::of(alloc, bound)?;
     let mut part = Partial::of_rows(alloc, bound, front)?;
-    part.take_kept(alloc, &asking, 1, lent.values())?;
+    let values = RowValues::of(lent.values());
+    part.take_kept(alloc, &asking, 1, &values)?;
     part.take_made(alloc, &asking, 2, made)?;
     Ok(part)
 }

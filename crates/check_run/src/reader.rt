@@ -6,9 +6,10 @@
 //! - before the race CREATE TABLE, INSERT and COMMIT alone
 //! - in the race also UPDATE and DELETE with one condition `COLUMN = N`, sums and counts of a whole table by SELECT or by a cursor that
 //!   is opened there, COMMIT and ROLLBACK
+//! - in the race also ALTER TABLE that adds a column of numbers, to tables that are only read in it from there on
 //! - no EVICT, no TRICKLE, and no place in the column store that is left or of the priority `none`: it refuses a report of these
 //!
-//! It passes over the values of errors and whether they are due, the columns and the shape of a table that is created, which of those
+//! It passes over the values of errors and whether they are due, the columns and the shape of a table that is created, the name of a column that is added, which of those
 //! builds that may begin comes first, whether units fit into the area, and how many turns a worker has.
 mod answers;
 mod entry;

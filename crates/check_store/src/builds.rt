@@ -11,7 +11,7 @@ ghost use Rattle.im_worker.specs.inner.Built.{content_from};
 ghost use Rattle.im_worker.specs.inner.Standing.{Stands};
 
 use crate::lines::{play, play_each};
-use im_core::{Core, Fetched, Offer, Switched};
+use im_core::{Core, Offer, ShownRows, Switched};
 use im_edge::{OpenGate, Outside};
 use im_group::Cell;
 use im_history::{Limits, Task};
@@ -63,7 +63,7 @@ fn has_one_number(row: &Option<Row>) -> bool
 }
 
 /// The rows that were fetched, without their numbers, where each is of one number.
-fn rows_of(alloc: Global, fetched: Fetched) -> Result<Vec<Option<Row>>, NoMemory>
+fn rows_of(alloc: Global, fetched: ShownRows) -> Result<Vec<Option<Row>>, NoMemory>
     ensures rows { IfOk result (λ rows. rows.items ≡ map (λ found. found.1) fetched) }
     ensures width { IfOk result (λ rows. HaveWidth 1 rows.items) }
     ensures short { IfOk result (λ rows. AreShort rows.items) }
@@ -80,7 +80,7 @@ fn rows_of(alloc: Global, fetched: Fetched) -> Result<Vec<Option<Row>>, NoMemory
 
 /// The unit of a build of extent 0, of four row numbers at most and one column, from what was read for it where no unit was lent.
 /// Where it is of another shape, or out of memory, there is none.
-fn unit_of(alloc: Global, task: &Task, fetched: Fetched) -> Result<Arc<ColumnUnit>, NoMemory>
+fn unit_of(alloc: Global, task: &Task, fetched: ShownRows) -> Result<Arc<ColumnUnit>, NoMemory>
     ensures { IfOk result (λ unit. unit.value ≡ content_from task.now fetched) }
 {
     let rows = rows_of(alloc, fetched)?;
@@ -221,13 +221,40 @@ const BEFORE: [&str; 4] = [
     "1> OPEN 1 FOR SELECT SUM(K) FROM T",
 ];
 
-/// What comes between the beginning of the build and its reading, at SCN 3.
-const BETWEEN: [&str; 2] = ["1> UPDATE T SET K = 30 WHERE K = 10", "1> COMMIT"];
+/// What comes between the beginning of the build and its reading, at SCN 3, and what is asked behind that.
+#[derive(Clone, Copy)]
+struct Between<'a> {
+    /// The lines.
+    lines: &'a [&'a str],
+    /// The query.
+    query: &'a str,
+    /// How many rows of its answer the blocks serve.
+    stale: u64,
+    /// What it is answered.
+    number: i128,
+}
 
-/// Whether the unit, which has the older row, serves a scan at SCN 3 but for that row, and the cursor at SCN 2 with it.
+/// A row is changed.
+const CHANGED: Between<'static> = Between {
+    lines: &["1> UPDATE T SET K = 30 WHERE K = 10", "1> COMMIT"],
+    query: "1> SELECT SUM(K) FROM T",
+    stale: 1,
+    number: 50,
+};
+
+/// The table gets a column.
+const WIDENED: Between<'static> = Between {
+    lines: &["1> ALTER TABLE T ADD (N NUMBER DEFAULT 5)"],
+    query: "1> SELECT SUM(N) FROM T",
+    stale: 0,
+    number: 10,
+};
+
+/// Whether the unit, which is of SCN 2, serves a scan at SCN 3, but for the row that was changed, and the cursor at SCN 2 with it.
 fn serves_both<R: Threads + Wait + Sync, H: Reach<ColumnUnit>, L: Ledger>(
     outside: &Outside<R, OpenGate>,
     store: &mut H,
+    between: Between<'_>,
     steps: &mut Steps<L>,
 ) -> bool
     requires sole { (H.known store.old).side ≡ sole }
@@ -236,18 +263,12 @@ fn serves_both<R: Threads + Wait + Sync, H: Reach<ColumnUnit>, L: Ledger>(
     let mut session = Session::new(outside.alloc, 1);
     drop(play_each(outside, store, &mut session, &BEFORE, steps));
     look_on(outside, store);
-    let Some(used) = build_behind(outside, store, &mut session, &BETWEEN, steps) else {
+    let Some(used) = build_behind(outside, store, &mut session, between.lines, steps) else {
         return false;
     };
-    let present = play(
-        outside,
-        store,
-        &mut session,
-        "1> SELECT SUM(K) FROM T",
-        steps,
-    );
+    let present = play(outside, store, &mut session, between.query, steps);
     let past = play(outside, store, &mut session, "1> FETCH 1", steps);
-    used > 0 && says(&present, 3, 1, 50) && says(&past, 2, 0, 30)
+    used > 0 && says(&present, 3, between.stale, between.number) && says(&past, 2, 0, 30)
 }
 
 /// Builds the unit that comes next, under a number that holds no build.
@@ -278,7 +299,7 @@ fn is_of(row: &Option<Row>, number: i64) -> bool {
 }
 
 /// Whether the rows that were fetched are of these numbers.
-fn are_of(alloc: Global, fetched: Fetched, numbers: &[i64]) -> bool {
+fn are_of(alloc: Global, fetched: ShownRows, numbers: &[i64]) -> bool {
     let Ok(rows) = fetched.into_rows(alloc) else {
         return false;
     };
@@ -457,12 +478,21 @@ fn overtakes<R: Threads + Wait + Sync, H: Reach<ColumnUnit>, L: Ledger>(
     ends_late(outside, store, task, killed, steps)
 }
 
-/// One of the two over a store that nothing has happened in.
+/// What happens to a build.
+#[derive(Clone, Copy)]
+enum Course<'a> {
+    /// It is read behind these lines.
+    Late(Between<'a>),
+    /// Another one overtakes it.
+    Overtaken,
+}
+
+/// One of these courses over a store that nothing has happened in.
 fn holds_anew<R: Threads + Wait + Sync, L: Ledger>(
     rt: &R,
     alloc: Global,
     blank: Blank,
-    overtaken: bool,
+    course: Course<'_>,
 ) -> bool
     requires name { blank.name ≡ L.name }
     requires parts { blank.parts ≡ L.parts }
@@ -483,29 +513,34 @@ fn holds_anew<R: Threads + Wait + Sync, L: Ledger>(
         rt,
         gate: &OpenGate,
     };
-    let holds = if overtaken {
-        overtakes(&outside, &mut store, &mut steps)
-    } else {
-        serves_both(&outside, &mut store, &mut steps)
+    let holds = match course {
+        Course::Late(between) => serves_both(&outside, &mut store, between, &mut steps),
+        Course::Overtaken => overtakes(&outside, &mut store, &mut steps),
     };
     drop(store);
     holds
 }
 
-fn holds<R: Threads + Wait + Sync>(rt: &R, alloc: Global, overtaken: bool) -> bool {
-    holds_anew::<R, Brand>(rt, alloc, Blank::new(1), overtaken)
+fn holds<R: Threads + Wait + Sync>(rt: &R, alloc: Global, course: Course<'_>) -> bool {
+    holds_anew::<R, Brand>(rt, alloc, Blank::new(1), course)
 }
 
 #[test]
 fn a_row_committed_before_a_build_is_read_is_stale_in_its_unit(
     rt: HostRuntime,
 ) -> Result<(), Fail> {
-    assert!(rt; holds(&rt, rt.alloc(), false));
+    assert!(rt; holds(&rt, rt.alloc(), Course::Late(CHANGED)));
+    Ok(())
+}
+
+#[test]
+fn a_unit_and_a_cursor_from_before_a_column_serve_behind_it(rt: HostRuntime) -> Result<(), Fail> {
+    assert!(rt; holds(&rt, rt.alloc(), Course::Late(WIDENED)));
     Ok(())
 }
 
 #[test]
 fn a_build_that_was_overtaken_is_made_of_the_rows_of_its_scn(rt: HostRuntime) -> Result<(), Fail> {
-    assert!(rt; holds(&rt, rt.alloc(), true));
+    assert!(rt; holds(&rt, rt.alloc(), Course::Overtaken));
     Ok(())
 }

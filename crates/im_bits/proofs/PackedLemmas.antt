@@ -1,9 +1,9 @@
 -- Words and the codes in them.
-use Rattle.std.proofs.Common.{◌≡◌, ℕ, zero, suc, ◌+◌, ◌*◌, ◌/◌, ◌%◌, ◌^◌, ◌<◌, ◌≤◌, List, [], ◌∷◌, ◌++◌, length, drop, get_or, slice_index, All, ⊎_elim, sym, refl, ap, ◌∙◌, arith, pow_pos, pow-add, mul_assoc, add_comm, add-mul, suc-mul, zero-mul, div-one, take, bit_or, le_trans, mul-le-mul_right, div-mul-le_self, length-take, length-take-le, get_or-drop, get_or-take, div-add-mod'}
+use Rattle.std.proofs.Common.{◌≡◌, ℕ, zero, suc, ◌+◌, ◌*◌, ◌/◌, ◌%◌, ◌^◌, ◌<◌, ◌≤◌, List, [], ◌∷◌, ◌++◌, length, drop, get_or, slice_index, All, ⊎_elim, sym, refl, ap, ◌∙◌, arith, pow_pos, pow-add, mul_assoc, add_comm, add-mul, suc-mul, zero-mul, div-one, take, bit_or, le_trans, mul-le-mul_right, div-mul-le_self, length-take, length-take-le, replicate, get_or-drop, get_or-take, div-add-mod'}
 use Rattle.std.specs.Int.{div_ceil}
 use Rattle.std.proofs.lemmas.Grind.{div_ceil_times}
 use Rattle.std.proofs.Math.Nat.{zero-div, zero-mod}
-use Rattle.std.proofs.lemmas.List.{same_lists, get_or_default, get_or_past, get_or_read, take_more, take_all}
+use Rattle.std.proofs.lemmas.List.{length-replicate, get_or-replicate, same_lists, get_or_default, get_or_past, get_or_read, take_more, take_all}
 use Rattle.std.proofs.lemmas.Bool.{cases_lt}
 use Rattle.std.proofs.lemmas.Bool.Decides.{nat_tests}
 use Rattle.std.proofs.lemmas.List.Elements.{All-head, All-tail, All-take, All-drop}
@@ -220,3 +220,17 @@ words_of-all width codes k count words is past so_far = so_far ∙ take_all k (w
 -- where there is a word, a code has bits
 pub some-bits : (n width k : ℕ) → k < words_for n width → 0 < width
 some-bits n width k inside = grind (arith, nat_tests)
+
+-- codes of no bits are 0, and fill no word
+pub codes_in-zeros : (n : ℕ) → codes_in 0 [] n ≡ replicate n 0
+codes_in-zeros n =
+    same_lists _ _ (length-codes_in 0 [] n ∙ sym (length-replicate n 0)) (λ k d inside.
+    let here : k < n = omega (arith, inside, length-codes_in 0 [] n) in
+    get_or-codes_in 0 [] n k d here ∙ (zero_code k ∙ sym (get_or-replicate n k 0 d here)))
+  where
+    zero_code : (k : ℕ) → code_in 0 [] k ≡ 0
+    zero_code k = rw (zero-div (2 ^ (k % codes_per_word 0 * 0))) (zero-mod (2 ^ 0))
+
+pub words_of-zeros : (codes : List ℕ) → words_of 0 codes ≡ []
+unfolding words_of
+words_of-zeros codes = refl

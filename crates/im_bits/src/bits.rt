@@ -1,4 +1,4 @@
-ghost use Rattle.std.specs.Prelude.{◌≡◌, ◌==◌, ◌+◌, ◌*◌, ◌/◌, ◌%◌, ◌^◌, ◌<◌, ◌≤◌, All, IfOk, length, min, take, drop, slice_index};
+ghost use Rattle.std.specs.Prelude.{◌≡◌, ◌==◌, ◌+◌, ◌*◌, ◌/◌, ◌%◌, ◌^◌, ◌<◌, ◌≤◌, All, IfOk, length, min, take, drop, replicate, slice_index};
 ghost use Rattle.im_bits.specs.Packed.{codes_per_word, word_of, words_of, share_of, HasBlockFrom, HasCodesFrom, IsHeld};
 ghost use Rattle.im_bits.specs.inner.Unpacking.{HasCodesOf, HasFields};
 
@@ -47,6 +47,18 @@ impl Bits {
             width,
             len: codes.len() as u64,
         })
+    }
+
+    /// So many codes that are all 0, of no bits each. It takes no memory.
+    pub fn zeros(alloc: Global, len: u64) -> Bits
+        requires { len < 2 ^ 31 }
+        ensures { result ≡ record { width = 0; codes = replicate len 0 } }
+    {
+        Bits {
+            words: Vec::new(alloc),
+            width: 0,
+            len,
+        }
     }
 
     /// The code at a place, from 0.

@@ -2,13 +2,14 @@
 use Rattle.std.proofs.Common.{◌≡◌, ℕ, ◌+◌, ◌-◌, ◌<◌, ◌≤◌, Bool, true, false, List, [], ◌∷◌, ◌++◌, map, take, Option, None, if◌then◌else◌, refl, sym, ap, ◌∙◌, arith, append-nil}
 use Rattle.std.specs.List.{fold, flat_map, range_with_len}
 use Rattle.im_tables.proofs.ForCallers.{cell_at-nil}
+use Rattle.im_values.specs.declared.content.Content.{Content as Value}
 use Rattle.im_values.specs.declared.schema.Column.{Column}
 use Rattle.im_versions.specs.declared.version.Version.{Version}
 use Rattle.im_versions.specs.Versions.{row_at}
 use Rattle.im_history.specs.declared.change.Change.{Change}
 use Rattle.im_history.specs.declared.entry.Entry.{Entry}
 use Rattle.im_history.specs.declared.entry.What.{What}
-use Rattle.im_history.specs.declared.entry.What.TheVariants.{Create, Commit}
+use Rattle.im_history.specs.declared.entry.What.TheVariants.{Create, Add, Commit}
 use Rattle.im_history.specs.Commits.{commits, committed_by, scn, moves_clock}
 use Rattle.im_history.specs.Grid.{Grid}
 use Rattle.im_history.specs.History.{History, replay}
@@ -62,6 +63,15 @@ IsKept-create h who name schema grid blocks kept = record {
   each =
       λ table rid. kept.each table rid ∙ sym (versions_of-push h (record { who = who; what = Create name schema grid }) table rid
       ∙ append-nil (versions_of h table rid));
+}
+
+-- a column changes no row
+pub IsKept-add : (h : History) (who table : ℕ) (column : Column) (default : Value) (blocks : AllVersions) → IsKept h blocks →
+    IsKept (h ++ record { who = who; what = Add table column default } ∷ []) blocks
+IsKept-add h who table column default blocks kept = record {
+  each =
+      λ other rid. kept.each other rid ∙ sym (versions_of-push h (record { who = who; what = Add table column default }) other rid
+      ∙ append-nil (versions_of h other rid));
 }
 
 -- blocks with the same versions keep the same history

@@ -12,7 +12,7 @@ use crate::gathered::Gathered;
 use crate::numbers::{Numbers, Probe};
 use crate::tally::Tally;
 use im_lanes::{Mask, count, with_bit, word_count};
-use im_values::{NoMemory, Rows, Value};
+use im_values::{NoMemory, Value, WideRun};
 use std::alloc::Global;
 
 /// Chooses the rows of a run whose value in a column has the truth that is wanted.
@@ -22,7 +22,7 @@ pub fn rows_mask(
     alloc: Global,
     wanted: Wanted,
     asked: &Asked,
-    rows: &Rows,
+    rows: &WideRun<'_>,
     column: u32,
 ) -> Result<Mask, NoMemory>
     requires few { length rows.now < 2 ^ 31 }
@@ -35,7 +35,12 @@ pub fn rows_mask(
 }
 
 /// The words of that mask.
-fn rows_words(alloc: Global, probe: &Probe, rows: &Rows, column: u32) -> Result<Vec<u64>, NoMemory>
+fn rows_words(
+    alloc: Global,
+    probe: &Probe,
+    rows: &WideRun<'_>,
+    column: u32,
+) -> Result<Vec<u64>, NoMemory>
     requires ready { IsReady probe.now }
     requires few { length rows.now < 2 ^ 31 }
     requires inside { All (λ row. HasColumn row column) rows.now }
@@ -50,7 +55,7 @@ fn rows_words(alloc: Global, probe: &Probe, rows: &Rows, column: u32) -> Result<
 }
 
 /// The word at a place: of 64 rows, or of as many as are left.
-fn rows_word(probe: &Probe, rows: &Rows, column: u32, place: usize) -> u64
+fn rows_word(probe: &Probe, rows: &WideRun<'_>, column: u32, place: usize) -> u64
     requires ready { IsReady probe.now }
     requires few { length rows.now < 2 ^ 31 }
     requires inside { All (λ row. HasColumn row column) rows.now }
@@ -64,7 +69,13 @@ fn rows_word(probe: &Probe, rows: &Rows, column: u32, place: usize) -> u64
 }
 
 /// The same where it is known which numbers pass.
-fn numbers_word(probe: &Probe, numbers: Numbers, rows: &Rows, column: u32, place: usize) -> u64
+fn numbers_word(
+    probe: &Probe,
+    numbers: Numbers,
+    rows: &WideRun<'_>,
+    column: u32,
+    place: usize,
+) -> u64
     requires known { Holds numbers (passes probe.now) }
     requires few { length rows.now < 2 ^ 31 }
     requires inside { All (λ row. HasColumn row column) rows.now }
@@ -82,7 +93,7 @@ fn numbers_word(probe: &Probe, numbers: Numbers, rows: &Rows, column: u32, place
 }
 
 /// The same where each value is asked.
-fn values_word(probe: &Probe, rows: &Rows, column: u32, place: usize) -> u64
+fn values_word(probe: &Probe, rows: &WideRun<'_>, column: u32, place: usize) -> u64
     requires ready { IsReady probe.now }
     requires few { length rows.now < 2 ^ 31 }
     requires inside { All (λ row. HasColumn row column) rows.now }
@@ -101,18 +112,18 @@ fn values_word(probe: &Probe, rows: &Rows, column: u32, place: usize) -> u64
 
 /// The value of the row at a place, in a column.
 #[inline(always)]
-fn value_in(rows: &Rows, at: usize, column: u32) -> &Value
+fn value_in<'a>(rows: &WideRun<'a>, at: usize, column: u32) -> &'a Value
     requires within { at < length rows.now }
     requires inside { All (λ row. HasColumn row column) rows.now }
     ensures { result.now ≡ value_at (get_or rows.now at []) column }
 {
-    &rows.values(at)[column as usize]
+    rows.values(at).at(column as usize)
 }
 
 /// What the values of a column at the chosen rows of a run come to. It takes no memory.
 ///
 /// It costs a step for each chosen row, and less where each is chosen, or 64 that lie in one word of the mask.
-pub fn tally_rows<'a>(rows: &'a Rows, column: u32, mask: &Mask) -> Tally<'a>
+pub fn tally_rows<'a>(rows: &WideRun<'a>, column: u32, mask: &Mask) -> Tally<'a>
     requires long { length mask.now ≡ length rows.now }
     requires inside { All (λ row. HasColumn row column) rows.now }
     ensures { IsTallyOf (chosen mask.now (map (λ row. value_at row column) rows.now)) result }
@@ -122,7 +133,7 @@ pub fn tally_rows<'a>(rows: &'a Rows, column: u32, mask: &Mask) -> Tally<'a>
 }
 
 /// What they come to, as it is gathered.
-fn gathered_rows<'a>(rows: &'a Rows, column: u32, mask: &Mask) -> Gathered<'a>
+fn gathered_rows<'a>(rows: &WideRun<'a>, column: u32, mask: &Mask) -> Gathered<'a>
     requires long { length mask.now ≡ length rows.now }
     requires inside { All (λ row. HasColumn row column) rows.now }
     ensures { result ≡ fold with_value no_totals (chosen mask.now (column_of rows.now column)) }
@@ -134,7 +145,7 @@ fn gathered_rows<'a>(rows: &'a Rows, column: u32, mask: &Mask) -> Gathered<'a>
 }
 
 /// What the values of all rows come to.
-fn gathered_whole<'a>(rows: &'a Rows, column: u32) -> Gathered<'a>
+fn gathered_whole<'a>(rows: &WideRun<'a>, column: u32) -> Gathered<'a>
     requires few { length rows.now < 2 ^ 31 }
     requires inside { All (λ row. HasColumn row column) rows.now }
     ensures { result ≡ fold with_value no_totals (column_of rows.now column) }
@@ -145,7 +156,7 @@ fn gathered_whole<'a>(rows: &'a Rows, column: u32) -> Gathered<'a>
 }
 
 /// What those of the chosen rows come to, word by word.
-fn gathered_words<'a>(rows: &'a Rows, column: u32, mask: &Mask) -> Gathered<'a>
+fn gathered_words<'a>(rows: &WideRun<'a>, column: u32, mask: &Mask) -> Gathered<'a>
     requires long { length mask.now ≡ length rows.now }
     requires inside { All (λ row. HasColumn row column) rows.now }
     ensures { result ≡ fold with_value no_totals (chosen mask.now (column_of rows.now column)) }
@@ -162,7 +173,7 @@ fn gathered_words<'a>(rows: &'a Rows, column: u32, mask: &Mask) -> Gathered<'a>
 #[inline(always)]
 fn gather_word<'a>(
     gathered: &mut Gathered<'a>,
-    rows: &'a Rows,
+    rows: &WideRun<'a>,
     column: u32,
     first: usize,
     word: u64,
@@ -183,7 +194,7 @@ fn gather_word<'a>(
 /// Gathers the values of so many rows from a place on.
 fn gather_all<'a>(
     gathered: &mut Gathered<'a>,
-    rows: &'a Rows,
+    rows: &WideRun<'a>,
     column: u32,
     first: usize,
     count: usize,
@@ -202,7 +213,7 @@ fn gather_all<'a>(
 /// Gathers the values of the rows whose bit is set.
 fn gather_some<'a>(
     gathered: &mut Gathered<'a>,
-    rows: &'a Rows,
+    rows: &WideRun<'a>,
     column: u32,
     first: usize,
     word: u64,

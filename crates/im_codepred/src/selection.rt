@@ -15,7 +15,7 @@ use im_column::Column;
 use im_eval::holds;
 use im_lanes::{Mask, with_bit};
 use im_syntax::{Filter, Test, TestForm, Tests};
-use im_values::{NoMemory, Rows, Truth};
+use im_values::{NoMemory, Truth, WideRun};
 use std::alloc::Global;
 use std::sync::Arc;
 
@@ -50,7 +50,7 @@ pub fn select(
 ///
 /// Each test goes over the values of its column, and no row is made; of few rows each is asked the whole condition instead,
 /// which then takes the memory of one mask alone. The rest is as [`select`] says.
-pub fn select_rows(alloc: Global, filter: &Filter, rows: &Rows) -> Result<Mask, NoMemory>
+pub fn select_rows(alloc: Global, filter: &Filter, rows: &WideRun<'_>) -> Result<Mask, NoMemory>
     requires few { length rows.now < 2 ^ 31 }
     requires fits { All (λ row. FilterFits row filter.now) rows.now }
     ensures { IfOk result (λ mask. mask ≡ map (λ row. met Held (holds.truth_of filter.now row)) rows.now) }
@@ -69,7 +69,7 @@ pub fn select_rows(alloc: Global, filter: &Filter, rows: &Rows) -> Result<Mask, 
 }
 
 /// The mask of few rows, at least one, of each of which the whole condition is asked.
-fn mask_by_row(alloc: Global, filter: &Filter, rows: &Rows) -> Result<Mask, NoMemory>
+fn mask_by_row(alloc: Global, filter: &Filter, rows: &WideRun<'_>) -> Result<Mask, NoMemory>
     requires some { 0 < length rows.now }
     requires few { length rows.now ≤ FEW }
     requires fits { All (λ row. FilterFits row filter.now) rows.now }
@@ -82,14 +82,14 @@ fn mask_by_row(alloc: Global, filter: &Filter, rows: &Rows) -> Result<Mask, NoMe
 }
 
 /// Its word.
-fn word_by_row(filter: &Filter, rows: &Rows) -> u64
+fn word_by_row(filter: &Filter, rows: &WideRun<'_>) -> u64
     requires few { length rows.now ≤ FEW }
     requires fits { All (λ row. FilterFits row filter.now) rows.now }
     ensures { result ≡ word_of (map (λ row. met Held (holds.truth_of filter.now row)) rows.now) }
 {
     let mut word = 0;
     for i in 0..rows.len() {
-        let truth = holds(filter, rows.values(i));
+        let truth = holds(filter, &rows.values(i));
         word = with_bit(word, i as u32, Wanted::Held.met(truth));
     }
     word

@@ -8,7 +8,7 @@ use crate::form::column_mask;
 use crate::rows::rows_mask;
 use im_column::Column;
 use im_lanes::Mask;
-use im_values::{NoMemory, Rows};
+use im_values::{NoMemory, WideRun};
 use std::alloc::Global;
 use std::sync::Arc;
 
@@ -19,7 +19,7 @@ pub enum Slab<'a> {
     Columns(&'a [Arc<Column>], u64),
 
     /// Those of a run.
-    Run(&'a Rows),
+    Run(&'a WideRun<'a>),
 }
 
 impl Slab<'_> {

@@ -190,3 +190,22 @@ pub laid-all : (codes : List ℕ) (runs : List Run) (i : ℕ) → length runs �
     codes ≡ codes_of runs
 laid-all codes runs i past so_far =
     sym (append-nil codes) ∙ (ap (λ rs. codes ++ codes_from (length codes) rs) (sym (drop_all i runs past)) ∙ so_far)
+
+-- one run alone, of so many codes
+pub record IsOneRun (code len : ℕ) (runs : List Run) : Type 0 where
+  pub are : AreRuns runs
+  pub codes : codes_of runs ≡ replicate len code
+  pub long : len ≡ length (codes_of runs)
+
+pub one-run : (code len end : ℕ) (none runs : List Run) → none ≡ [] → runs ≡ none ++ record { code = code; end = end } ∷ [] → end ≡ len → 0 < len →
+    IsOneRun code len runs
+one-run code len end none runs empty pushed same some =
+    let run : Run = record { code = code; end = end } in
+    let is : runs ≡ run ∷ [] = pushed ∙ ap (λ (l : List Run). l ++ run ∷ []) empty in
+    let codes : codes_of (run ∷ []) ≡ replicate len code =
+    append-nil (replicate (end - 0) code) ∙ ap (λ (n : ℕ). replicate n code) (omega (arith, same)) in
+    subst (IsOneRun code len) (sym is) (record {
+      are = record { full = (omega (arith, same, some), tt); apart = tt };
+      codes = codes;
+      long = sym (ap length codes ∙ length-replicate len code);
+    })

@@ -1,4 +1,4 @@
-ghost use Rattle.std.specs.Prelude.{◌≡◌, ◌==◌, ◌^◌, ◌<◌, IfOk, OnOk, length, slice_index};
+ghost use Rattle.std.specs.Prelude.{◌≡◌, ◌==◌, ◌^◌, ◌<◌, IfOk, OnOk, length, replicate, slice_index};
 ghost use Rattle.im_codes.specs.Runs.{codes_of, run_count, AreRuns, IsRunAt, Extends};
 
 use crate::run::Run;
@@ -40,6 +40,20 @@ impl Runs {
             runs,
             len: codes.len() as u64,
         })
+    }
+
+    /// The one run of a code that stands so many times. Its cost does not grow with these.
+    pub fn of_one(alloc: Global, code: u32, len: u64) -> Result<Runs, NoMemory>
+        requires some { 0 < len }
+        requires few { len < 2 ^ 31 }
+        ensures { IfOk result (λ runs. runs ≡ replicate len code) }
+    {
+        let mut runs = Vec::with_capacity(alloc, 1)?;
+        runs.push(Run {
+            code,
+            end: len as u32,
+        })?;
+        Ok(Runs { runs, len })
     }
 
     /// The code at a place, from 0. It costs a binary search.

@@ -4,3 +4,4 @@ mod ColumnLemmas
 mod LendLemmas
 mod PickLemmas
 mod NumberLemmas
+mod RepeatedLemmas

@@ -50,8 +50,8 @@ impl Model for Column {
 /// A form, and the bytes that it takes.
 #[derive(Drop)]
 pub struct Counted {
-    kept: Kept,
-    bytes: u64,
+    pub kept: Kept,
+    pub bytes: u64,
 }
 
 impl Column {

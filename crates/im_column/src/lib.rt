@@ -16,6 +16,7 @@ mod column;
 mod form;
 mod numbers;
 mod picking;
+mod repeated;
 mod sizes;
 mod summary;
 

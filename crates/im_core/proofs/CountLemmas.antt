@@ -1,24 +1,25 @@
 -- The tables, the row numbers given and the weight, one entry on.
-use Rattle.std.proofs.Common.{◌≡◌, ℕ, zero, suc, ◌+◌, ◌≢◌, ◌-◌, ◌*◌, ◌<◌, ◌≤◌, ◌==◌, Bool, true, false, if◌then◌else◌, max, List, [], ◌∷◌, ◌++◌, length, get_or, set, Option, Some, None, refl, sym, ap, ◌∙◌, arith, All}
+use Rattle.std.proofs.Common.{◌≡◌, ℕ, zero, suc, ◌+◌, ◌≢◌, ◌-◌, ◌*◌, ◌<◌, ◌≤◌, ◌==◌, Bool, true, false, if◌then◌else◌, max, List, [], ◌∷◌, ◌++◌, length, get_or, set, Option, Some, refl, sym, ap, ◌∙◌, arith, All}
 use Rattle.std.proofs.lemmas.Bool.Decides.{nat_tests}
 use Rattle.std.proofs.lemmas.List.Elements.{All-head, All-tail, All-nil, All-cons}
 use Rattle.std.proofs.lemmas.List.{length_push, length-set, get_or-set_same, get_or-set_other}
+use Rattle.im_values.specs.declared.content.Content.{Content as Value}
 use Rattle.im_values.specs.declared.limits.TheConstants.{CHANGE_WEIGHT, MOST_TABLES}
+use Rattle.im_values.specs.declared.schema.Column.{Column}
 use Rattle.im_history.specs.declared.change.Change.{Change}
 use Rattle.im_history.specs.declared.entry.Entry.{Entry}
 use Rattle.im_history.specs.declared.entry.Mode.{Mode}
 use Rattle.im_values.specs.declared.priority.Priority.{Priority}
 use Rattle.im_history.specs.declared.entry.What.{What}
-use Rattle.im_history.specs.declared.entry.What.TheVariants.{Create, Memory, Begin, Open, Shut, Write, Commit, Rollback, Build, Switch, Cancel, Trickle, Evict, Leave}
+use Rattle.im_history.specs.declared.entry.What.TheVariants.{Create, Add, Memory, Begin, Open, Shut, Write, Commit, Rollback, Build, Switch, Cancel, Trickle, Evict, Leave}
 use Rattle.im_history.specs.declared.look.TableInfo.{TableInfo}
 use Rattle.im_history.specs.Grid.{Grid}
 use Rattle.im_history.specs.History.{History}
 use Rattle.im_history.specs.Legal.{put_from}
 use Rattle.im_history.specs.Rows.{Row}
-use Rattle.im_history.specs.Tables.{tables, created, given, given_by, given_after, remembered, with_memory}
+use Rattle.im_history.specs.Tables.{tables, created, given, given_by, given_after, lengthened, new_table, remembered, with_column, with_memory}
 use Rattle.im_history.specs.Weights.{weight, weight_after, changes_weight}
 use Rattle.im_history.proofs.Laws.{tables-push, given-push, weight-push}
-use Rattle.im_values.specs.declared.schema.Column.{Column}
 use Rattle.im_core.specs.inner.Kept.{Counts, Gives}
 
 -- entries of this kind create no table, give no row number and weigh nothing
@@ -91,11 +92,11 @@ given-new h catalog counts weighed place c past = sym (c.gives place) ∙ get_or
 pub Counts-create : (h : History) (who : ℕ) (name : List ℕ) (schema : List Column) (grid : Grid) (catalog : List TableInfo) (counts : List ℕ) (weighed : ℕ)
     → length catalog < MOST_TABLES → Counts h catalog counts weighed
     → Counts (h ++ record { who = who; what = Create name schema grid } ∷ [])
-    (catalog ++ record { name = name; schema = schema; shape = grid; memory = None } ∷ []) (counts ++ 0 ∷ []) weighed
+    (catalog ++ new_table name schema grid ∷ []) (counts ++ 0 ∷ []) weighed
 Counts-create h who name schema grid catalog counts weighed room c = record {
-  tables = ap (λ (ts : List TableInfo). ts ++ record { name = name; schema = schema; shape = grid; memory = None } ∷ []) c.tables ∙ sym (tables-push h entry);
-  few = let long = length_push catalog (record { name = name; schema = schema; shape = grid; memory = None }) in omega arith;
-  long = length_push counts 0 ∙ (ap (λ n. n + 1) c.long ∙ sym (length_push catalog (record { name = name; schema = schema; shape = grid; memory = None })));
+  tables = ap (λ (ts : List TableInfo). ts ++ new_table name schema grid ∷ []) c.tables ∙ sym (tables-push h entry);
+  few = let long = length_push catalog (new_table name schema grid) in omega arith;
+  long = length_push counts 0 ∙ (ap (λ n. n + 1) c.long ∙ sym (length_push catalog (new_table name schema grid)));
   gives = λ place. get_or-zero counts place ∙ (c.gives place ∙ sym (given-push h entry (place + 1)));
   weighs = c.weighs ∙ sym (weight-push h entry);
   light = λ table. rw (given-push h entry table, weight-push h entry) (c.light table);
@@ -134,6 +135,31 @@ Counts-memory h who table priority catalog counts weighed c = record {
   where
     entry : Entry
     entry = record { who = who; what = Memory table priority }
+
+-- a table gets a column
+length-with_column : (place : ℕ) (column : Column) (default : Value) (ts : List TableInfo) → length (with_column place column default ts) ≡ length ts
+length-with_column place column default [] = refl
+length-with_column zero column default (t ∷ ts) = refl
+length-with_column (suc place) column default (t ∷ ts) = ap suc (length-with_column place column default ts)
+
+length-lengthened : (table : ℕ) (column : Column) (default : Value) (ts : List TableInfo) → length (lengthened table column default ts) ≡ length ts
+length-lengthened zero column default ts = refl
+length-lengthened (suc place) column default ts = length-with_column place column default ts
+
+pub Counts-add : (h : History) (who table : ℕ) (column : Column) (default : Value) (catalog : List TableInfo) (counts : List ℕ) (weighed : ℕ)
+    → Counts h catalog counts weighed
+    → Counts (h ++ record { who = who; what = Add table column default } ∷ []) (lengthened table column default catalog) counts weighed
+Counts-add h who table column default catalog counts weighed c = record {
+  tables = ap (lengthened table column default) c.tables ∙ sym (tables-push h entry);
+  few = let same = length-lengthened table column default catalog in let few = c.few in omega (arith, same, few);
+  long = c.long ∙ sym (length-lengthened table column default catalog);
+  gives = λ place. c.gives place ∙ sym (given-push h entry (place + 1));
+  weighs = c.weighs ∙ sym (weight-push h entry);
+  light = λ t. rw (given-push h entry t, weight-push h entry) (c.light t);
+}
+  where
+    entry : Entry
+    entry = record { who = who; what = Add table column default }
 
 -- an insert's changes weigh something each, and give the next row numbers
 put_from-weight : (table first : ℕ) (rows : List Row) → length rows * CHANGE_WEIGHT ≤ changes_weight (put_from table first rows)

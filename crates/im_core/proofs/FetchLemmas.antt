@@ -1,5 +1,5 @@
 -- What a pin fetches.
-use Rattle.std.proofs.Common.{◌≡◌, ℕ, ◌-◌, ◌*◌, ◌<◌, ◌≤◌, Bool, true, false, min, List, [], ◌∷◌, Option, Some, None, refl, sym, ◌∙◌, subst, arith, All}
+use Rattle.std.proofs.Common.{◌≡◌, ℕ, ◌-◌, ◌*◌, ◌<◌, ◌≤◌, Bool, true, false, min, List, [], ◌∷◌, length, Option, Some, None, refl, sym, ◌∙◌, subst, arith, All}
 use Rattle.std.specs.List.{find}
 use Rattle.std.specs.Option.{IsSome, option_map}
 use Rattle.std.proofs.lemmas.List.Elements.{All-head, All-tail}
@@ -43,6 +43,7 @@ pub record HasView (view : View) (extent : ℕ) (cursor : Cursor) : Type 0 where
   pub scn : cursor.scn ≡ view.scn
   pub rows : cursor.rows ≡ view.rows
   pub per : cursor.per ≡ view.per
+  pub columns : cursor.columns ≡ length view.columns
   pub first : extent * cursor.per < cursor.rows
   pub few : cursor.rows ≤ MOST_ROWS
 
@@ -68,6 +69,7 @@ finds_view h who cursor extent found views light found_is within = by (cursor_at
             scn = refl;
             rows = refl;
             per = refl;
+            columns = refl;
             first = first_within opened_one.view.rows opened_one.view.per extent (rw view.cut at few);
             few = let most = light opened_one.view.table in let old = view.within in omega (arith, most, old);
           };

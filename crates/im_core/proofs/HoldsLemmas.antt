@@ -3,12 +3,13 @@ use Rattle.std.proofs.Common.{◌≡◌, ℕ, ◌+◌, ◌-◌, ◌<◌, ◌≤�
 use Rattle.std.proofs.lemmas.List.{length-replicate}
 use Rattle.std.specs.Option.{option_map}
 use Rattle.im_values.specs.declared.limits.TheConstants.{MOST_CHANGES, MOST_TABLES, MOST_WEIGHT, NUMBERS}
+use Rattle.im_values.specs.declared.content.Content.{Content as Value}
 use Rattle.im_values.specs.declared.schema.Column.{Column}
 use Rattle.im_history.specs.declared.change.Change.{Change}
 use Rattle.im_history.specs.declared.entry.Entry.{Entry}
 use Rattle.im_history.specs.declared.entry.Mode.{Mode}
 use Rattle.im_history.specs.declared.entry.What.{What}
-use Rattle.im_history.specs.declared.entry.What.TheVariants.{Create, Begin, Open, Shut, Write, Commit, Rollback}
+use Rattle.im_history.specs.declared.entry.What.TheVariants.{Create, Add, Begin, Open, Shut, Write, Commit, Rollback}
 use Rattle.im_history.specs.declared.limits.Limits.{Limits}
 use Rattle.im_history.specs.declared.refused.Why.TheVariants.{TransactionOpen}
 use Rattle.im_history.specs.declared.look.TableInfo.{TableInfo}
@@ -16,10 +17,10 @@ use Rattle.im_history.specs.Commits.{scn}
 use Rattle.im_history.specs.Cursors.{is_cursor_open}
 use Rattle.im_history.specs.Grid.{Grid}
 use Rattle.im_history.specs.History.{replay}
-use Rattle.im_history.specs.Legal.{IsAllowed, Exists, MayCreate}
+use Rattle.im_history.specs.Legal.{IsAllowed, Exists, MayAdd, MayCreate}
 use Rattle.im_history.specs.Refusals.{begin_refusal, open_refusal}
 use Rattle.im_history.specs.Stored.{Stored}
-use Rattle.im_history.specs.Tables.{tables, given}
+use Rattle.im_history.specs.Tables.{tables, given, lengthened, new_table}
 use Rattle.im_history.specs.Transactions.{begun, is_open, pending}
 use Rattle.im_history.specs.Units.{Content}
 use Rattle.im_history.specs.Weights.{weight, changes_weight}
@@ -27,7 +28,7 @@ use Rattle.im_history.proofs.Laws.{IsLegal-push, weight-push}
 use Rattle.im_blocks.specs.Chains.{AllVersions, no_versions}
 use Rattle.im_blocks.specs.Kept.{IsKept}
 use Rattle.im_blocks.specs.Transitions.{SameVersions, Applied}
-use Rattle.im_blocks.proofs.ForCallers.{IsKept-nil, IsKept-quiet, IsKept-create, IsKept-same, IsKept-commit}
+use Rattle.im_blocks.proofs.ForCallers.{IsKept-nil, IsKept-quiet, IsKept-create, IsKept-add, IsKept-same, IsKept-commit}
 use Rattle.im_txn.specs.Agrees.{Agrees, cursor_of}
 use Rattle.im_txn.specs.Effects.{IsIdle, IsBegun, IsOpened, IsShut, IsWritten, IsEnded, IsGrown}
 use Rattle.im_txn.specs.Standing.{Standing, IsFree}
@@ -39,7 +40,7 @@ use Rattle.im_directory.proofs.ForCallers.{Agrees-new as units-new, Agrees-told 
 use Rattle.im_core.specs.inner.Holds.{Caches, Holds, owed}
 use Rattle.im_core.specs.inner.Kept.{Began, Gives, beginning_at}
 use Rattle.im_core.proofs.BeginLemmas.{as_it_was, ended, Began-kept, Began-begun, Began-set}
-use Rattle.im_core.proofs.CountLemmas.{IsLight, light-begin, light-open, light-shut, light-commit, light-rollback, weight-light, Counts-light, Counts-create, Counts-write}
+use Rattle.im_core.proofs.CountLemmas.{IsLight, light-begin, light-open, light-shut, light-commit, light-rollback, weight-light, Counts-light, Counts-create, Counts-add, Counts-write}
 use Rattle.im_core.proofs.ViewLemmas.{Views-nil, Views-push}
 use Rattle.im_core.proofs.WriteLemmas.{room_left}
 
@@ -258,7 +259,7 @@ module _ {U : Type 0} (content : U → Content) (limits : Limits) (history : Sto
       → MayCreate history.entries who name schema grid → length caches.catalog < MOST_TABLES
       → Grew history after (record { who = who; what = Create name schema grid }) (owed caches.standing caches.kept + 1)
       → Holds content limits after (record caches {
-        catalog = caches.catalog ++ record { name = name; schema = schema; shape = grid; memory = None } ∷ [];
+        catalog = caches.catalog ++ new_table name schema grid ∷ [];
         counts = caches.counts ++ 0 ∷ [];
       })
   Holds-create after who name schema grid holds known may room grew =
@@ -281,10 +282,30 @@ module _ {U : Type 0} (content : U → Content) (limits : Limits) (history : Sto
       (new_catalog : List TableInfo) (new_counts : List ℕ)
       → Holds content limits history caches → who < NUMBERS → MayCreate history.entries who name schema grid → length caches.catalog < MOST_TABLES
       → Grew history after (record { who = who; what = Create name schema grid }) (owed caches.standing caches.kept + 1)
-      → info ≡ record { name = name; schema = schema; shape = grid; memory = None } → new_catalog ≡ caches.catalog ++ info ∷ []
+      → info ≡ new_table name schema grid → new_catalog ≡ caches.catalog ++ info ∷ []
       → new_counts ≡ caches.counts ++ 0 ∷ [] → Holds content limits after (record caches { catalog = new_catalog; counts = new_counts })
   Holds-made after who name schema grid info new_catalog new_counts holds known may room grew info_is catalog_is counts_are =
       rw (catalog_is, counts_are, info_is) (Holds-create after who name schema grid holds known may room grew)
+
+  pub Holds-add : (after : Stored) (who table : ℕ) (column : Column) (default : Value) (new_catalog : List TableInfo)
+      → Holds content limits history caches → who < NUMBERS → MayAdd history.entries who table column default
+      → Grew history after (record { who = who; what = Add table column default }) (owed caches.standing caches.kept + 1)
+      → new_catalog ≡ lengthened table column default caches.catalog → Holds content limits after (record caches { catalog = new_catalog })
+  Holds-add after who table column default new_catalog holds known may grew catalog_is =
+      let h = history.entries in
+      let entry : Entry = record { who = who; what = Add table column default } in
+      record {
+        small = holds.small;
+        legal = rw grew.entries (IsLegal-push limits h entry holds.legal known may);
+        within = rw (grew.entries, weight-push h entry) holds.within;
+        tables = rw (grew.entries, catalog_is) (Counts-add h who table column default caches.catalog caches.counts caches.weighed holds.tables);
+        began = rw grew.entries (Began-kept h entry caches.beginnings (as_it_was refl) holds.began);
+        views = rw grew.entries (Views-push h entry holds.views);
+        rows = rw grew.entries (IsKept-add h who table column default caches.blocks holds.rows);
+        sessions = rw grew.entries (Agrees-apart h who (Add table column default) caches.standing refl holds.sessions);
+        units = rw grew.entries (units-apart content h who (Add table column default) caches.kept refl holds.units);
+        room = let more = grew.spare in omega (arith, more);
+      }
 
   pub Holds-write : (after : Stored) (who index place table count begins weight_now : ℕ) (changes : List Change) (mid new : Standing)
       → Holds content limits history caches → who < NUMBERS → index ≡ who → 1 ≤ table → table ≤ length caches.counts

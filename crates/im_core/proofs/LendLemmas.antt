@@ -1,26 +1,35 @@
 -- What a pin is lent of an extent, and what it reads beside that.
-use Rattle.std.proofs.Common.{◌≡◌, ℕ, Bool, true, false, List, length, map, nat_le, Option, Some, None, if◌then◌else◌, refl, sym, ap, ◌∙◌, subst}
+use Rattle.std.proofs.Common.{◌≡◌, ℕ, ◌==◌, ◌<◌, Bool, true, false, List, length, map, take, nat_le, Option, Some, None, if◌then◌else◌, refl, sym, ap, ◌∙◌, subst}
 use Rattle.std.specs.Option.{option_map}
 use Rattle.std.proofs.lemmas.List.{length-map}
 use Rattle.std.proofs.lemmas.List.FromFn.{length-range_with_len}
+use Rattle.im_values.specs.declared.content.Content.{Content as Value}
 use Rattle.im_history.specs.declared.limits.Limits.{Limits}
+use Rattle.im_history.specs.declared.look.TableInfo.{TableInfo}
 use Rattle.im_history.specs.declared.view.View.{View}
+use Rattle.im_history.specs.Fetched.{all_widened}
 use Rattle.im_history.specs.History.{History}
-use Rattle.im_history.specs.Rows.{rows}
-use Rattle.im_history.specs.Serving.{committed_in, fetched_in, not_newer, read_in, rows_in, serving_content}
+use Rattle.im_history.specs.Legal.{Exists}
+use Rattle.im_history.specs.Rows.{Row, rows}
+use Rattle.im_history.specs.Serving.{committed_in, fetched_in, not_newer, read_in, rows_in, serving_content, shown_all}
 use Rattle.im_history.specs.Stored.{Stored}
-use Rattle.im_history.specs.Units.{Content, content_at, unit}
+use Rattle.im_history.specs.Tables.{table_at}
+use Rattle.im_history.specs.Units.{Content, columns_at, content_at, unit}
+use Rattle.im_history.specs.Views.{defaults_of}
 use Rattle.im_history.proofs.ShapeLaws.{per_at-some}
-use Rattle.im_history.proofs.ViewLaws.{shown_all-same}
+use Rattle.im_history.proofs.ViewLaws.{HasColumns}
 use Rattle.im_blocks.specs.Chains.{AllVersions, rows_among}
 use Rattle.im_blocks.proofs.ForCallers.{rows_among_kept}
 use Rattle.im_directory.specs.Agrees.{Agrees}
 use Rattle.im_directory.specs.Slots.{Kept, Stock, stale_told, told_at, unit_in}
 use Rattle.im_directory.proofs.ForCallers.{stale-of}
 use Rattle.im_txn.specs.declared.cursor.Cursor.{Cursor}
+use Rattle.im_core.specs.Answers.{cursor_view}
+use Rattle.im_core.specs.Tasks.{as_wide}
 use Rattle.im_core.specs.inner.Holds.{Caches, Holds}
-use Rattle.im_core.specs.inner.Lending.{stale_in}
+use Rattle.im_core.specs.inner.Lending.{content_as_wide, stale_in}
 use Rattle.im_core.proofs.FetchLemmas.{HasView}
+use Rattle.im_core.proofs.PinLemmas.{is_open_at, view-columns}
 use Rattle.im_core.proofs.UnitLemmas.{unit-by}
 
 -- ---- the directory's unit and journal
@@ -102,9 +111,44 @@ module _ (h : History) (view : View) (extent : ℕ) (cursor : Cursor) (has : Has
       let rows : committed_in h view extent ≡ read_in h view extent = rw none refl in
       record { rows = rows; long = sym (length-map _ _ ∙ length-range_with_len _ _) ∙ ap length rows }
 
--- what was read is what the view fetches
-pub read-fetched : (h : History) (view : View) (extent : ℕ) → read_in h view extent ≡ fetched_in h view extent
-read-fetched h view extent = sym (shown_all-same view (read_in h view extent))
+-- rows that were read are what the view shows, once they are lengthened by the first of the table's defaults
+pub read-shown : (h : History) (view : View) (columns : ℕ) (rows : List (ℕ × Option Row)) → HasColumns h view → columns ≡ length view.columns
+    → all_widened (take columns (defaults_of (table_at h view.table))) rows ≡ shown_all view rows
+read-shown h view columns rows has long =
+    ap (λ (defaults : List Value). all_widened defaults rows)
+    (ap (λ (n : ℕ). take n (defaults_of (table_at h view.table))) long
+    ∙ (ap (λ (t : Option TableInfo). take (length view.columns) (defaults_of t)) has.is ∙ sym has.defaults))
+
+-- the view of a cursor that has this extent has the first columns of its table
+pub store_columns : {U : Type 0} {content : U → Content} {limits : Limits} {history : Stored} {caches : Caches U} (who cursor extent : ℕ)
+    → Holds content limits history caches → extent < (cursor_view history.entries who cursor).extents
+    → HasColumns history.entries (cursor_view history.entries who cursor)
+store_columns {U} {content} {limits} {history} {caches} who cursor extent holds within =
+    view-columns limits history.entries who cursor holds.legal (is_open_at history.entries who cursor extent within)
+
+-- so its table exists
+pub cursor_exists : (h : History) (view : View) (extent : ℕ) (cursor : Cursor) → HasView view extent cursor → HasColumns h view → Exists h cursor.table
+cursor_exists h view extent cursor has columns = record { made = columns.made; is = ap (table_at h) has.table ∙ columns.is }
+
+-- and what was read for it is what its view fetches, once it is lengthened by the defaults of as many columns as the cursor has
+pub fetched-wide : (h : History) (view : View) (extent : ℕ) (cursor : Cursor) (defaults : List Value) (read : List (ℕ × Option Row))
+    → HasView view extent cursor → HasColumns h view → defaults ≡ take cursor.columns (defaults_of (table_at h cursor.table))
+    → read ≡ read_in h view extent → all_widened defaults read ≡ fetched_in h view extent
+fetched-wide h view extent cursor defaults read has columns defaults_are read_is =
+    ap (λ (rows : List (ℕ × Option Row)). all_widened defaults rows) read_is
+    ∙ (ap (λ (d : List Value). all_widened d (read_in h view extent))
+    (defaults_are ∙ ap (λ (table : ℕ). take cursor.columns (defaults_of (table_at h table))) has.table)
+    ∙ read-shown h view cursor.columns (read_in h view extent) columns has.columns)
+
+-- a unit of as many columns is lent as it is
+pub lent-wide : (h : History) (table extent columns : ℕ) (o : Option ℕ)
+    → content_as_wide columns (option_map (content_at h table extent) o) ≡ option_map (content_at h table extent) (as_wide h table columns o)
+lent-wide h table extent columns None = refl
+lent-wide h table extent columns (Some n) = by (columns_at h table n == columns)
+  where
+    by : (b : Bool) → (if b then Some (content_at h table extent n) else None) ≡ option_map (content_at h table extent) (if b then Some n else None)
+    by true = refl
+    by false = refl
 
 -- the rows that are stale beside a unit, as they are kept
 pub record KeepsStale (h : History) (blocks : AllVersions) (table extent scn at : ℕ) (rids : List ℕ) : Type 0 where

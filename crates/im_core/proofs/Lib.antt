@@ -3,6 +3,7 @@ mod CountLemmas
 mod FetchLemmas
 pub mod ForCallers
 mod HoldsLemmas
+mod LastColumnLemmas
 mod LendLemmas
 mod OpenLemmas
 mod PinLemmas

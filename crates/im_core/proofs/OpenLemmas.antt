@@ -12,7 +12,7 @@ use Rattle.im_history.specs.declared.entry.Entry.{Entry}
 use Rattle.im_history.specs.declared.entry.Mode.{Mode}
 use Rattle.im_history.specs.declared.entry.Mode.TheVariants as mode
 use Rattle.im_history.specs.declared.entry.What.{What}
-use Rattle.im_history.specs.declared.entry.What.TheVariants.{Create, Commit, Open, Rollback, Shut, Write}
+use Rattle.im_history.specs.declared.entry.What.TheVariants.{Create, Add, Commit, Open, Rollback, Shut, Write}
 use Rattle.im_history.specs.declared.limits.Limits.{Limits}
 use Rattle.im_history.specs.declared.view.View.{View}
 use Rattle.im_history.specs.Commits.{commits, moves_clock, scn}
@@ -91,6 +91,8 @@ nowhere-push table rid h entry so_far past = record {
     done n Commit is = commit n is
     done n (Create name schema grid) is =
         rows-push_empty h (record { who = entry.who; what = Create name schema grid }) table n rid refl ∙ old.done n
+    done n (Add other column default) is =
+        rows-push_empty h (record { who = entry.who; what = Add other column default }) table n rid refl ∙ old.done n
     done n what is = rows-push_quiet h (record { who = entry.who; what = what }) table n rid refl ∙ old.done n
 
     written : (more : List Change) → entry.what ≡ Write more → touches more table rid ≡ false

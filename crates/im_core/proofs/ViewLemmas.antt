@@ -1,11 +1,19 @@
--- What open cursors see was given, one entry on.
-use Rattle.std.proofs.Common.{ℕ, ◌==◌, Bool, true, false, not, if◌then◌else◌, List, [], ◌∷◌, ◌++◌, refl, arith, All}
+-- What open cursors see was given, one entry on; and what an opening sees.
+use Rattle.std.proofs.Common.{◌≡◌, ℕ, zero, suc, ◌-◌, ◌==◌, Bool, true, false, not, if◌then◌else◌, List, [], ◌∷◌, ◌++◌, length, get_or, slice_get, Some, refl, sym, ap, ◌∙◌, arith, All}
 use Rattle.std.proofs.lemmas.List.Elements.{All-head, All-tail, All-nil, All-cons, All-append, All-filter}
+use Rattle.std.proofs.lemmas.Option.{slice_get_read, slice_get_within}
+use Rattle.im_values.specs.declared.content.Content.{Content as Value}
+use Rattle.im_values.specs.declared.schema.Column.{Column}
+use Rattle.im_history.specs.declared.change.Change.{Change}
 use Rattle.im_history.specs.declared.entry.Entry.{Entry}
 use Rattle.im_history.specs.declared.entry.What.{What}
 use Rattle.im_history.specs.declared.entry.What.TheVariants.{Open, Shut}
+use Rattle.im_history.specs.declared.look.TableInfo.{TableInfo}
 use Rattle.im_history.specs.Cursors.{Opened, opened, opened_after, is_cursor}
+use Rattle.im_history.specs.Grid.{extents_for, per_extent}
 use Rattle.im_history.specs.History.{History, replay}
+use Rattle.im_history.specs.Rows.{own_changes, snapshot}
+use Rattle.im_history.specs.Tables.{given, table_among, table_at}
 use Rattle.im_history.specs.Views.{view_at}
 use Rattle.im_history.proofs.GivenLaws.{given-grows}
 use Rattle.im_history.proofs.Laws.{opened-push}
@@ -40,3 +48,36 @@ Views-push h entry views = record { each = λ who. rw (opened-push h entry who) 
 pub Views-nil : Views []
 unfolding opened replay
 Views-nil = record { each = λ who. All-nil _ }
+
+-- ---- an opening
+
+-- the table of this number, as a list of tables has it
+pub info-there : (catalog : List TableInfo) (table : ℕ) (made info : TableInfo) → table_among catalog table ≡ Some made
+    → info ≡ get_or catalog (table - 1) info → info ≡ made
+info-there catalog zero made info is found = absurd cc
+info-there catalog (suc before) made info is found =
+    let inside = slice_get_within catalog before made is in
+    let place : suc before - 1 ≡ before = omega arith in
+    let there : slice_get catalog before ≡ Some info =
+    slice_get_read catalog (length catalog) before info refl inside (found ∙ ap (λ (n : ℕ). get_or catalog n info) place) in
+    let same : Some info ≡ Some made = sym there ∙ is in
+    cc
+
+-- a view of what is told of a table is the view that an opening has
+pub view-made : (h : History) (who table place at rows per : ℕ) (columns : List Column) (defaults : List Value) (own : List Change) (info : TableInfo)
+    → table_at h table ≡ Some info → place ≡ length h → at ≡ snapshot h who → rows ≡ given h table → per ≡ per_extent info.shape
+    → columns ≡ info.schema → defaults ≡ info.defaults → own ≡ own_changes h who table
+    → record {
+      place = place;
+      table = table;
+      scn = at;
+      rows = rows;
+      per = per;
+      extents = extents_for rows per;
+      columns = columns;
+      defaults = defaults;
+      own = own;
+    }
+    ≡ view_at h who table
+view-made h who table place at rows per columns defaults own info is place_is at_is rows_are per_is columns_are defaults_are own_is =
+    rw (is, place_is, at_is, rows_are, per_is, columns_are, defaults_are, own_is) refl

@@ -1,25 +1,34 @@
 -- What a write that is not refused may rely on.
-use Rattle.std.proofs.Common.{◌≡◌, ℕ, ◌+◌, ◌-◌, ◌<◌, ◌≤◌, Bool, true, false, not, nat_lt, List, [], ◌∷◌, length, Option, Some, None, refl, arith, All, ⊎_elim}
-use Rattle.std.proofs.lemmas.Bool.Decides.{nat_tests}
-use Rattle.std.proofs.lemmas.List.Elements.{All-nil, All-cons}
+use Rattle.std.proofs.Common.{◌≡◌, ℕ, ◌+◌, ◌-◌, ◌==◌, ◌<◌, ◌≤◌, Bool, true, false, IsTrue, not, nat_lt, List, [], ◌∷◌, length, take, Option, Some, None, refl, sym, ap, subst, ◌∙◌, arith, All, ⊎_elim}
+use Rattle.std.specs.List.{list_any}
 use Rattle.std.specs.Option.{option_map, option_or}
-use Rattle.im_values.specs.declared.limits.TheConstants.{MOST_TABLES}
+use Rattle.std.proofs.lemmas.Bool.Decides.{nat_tests}
+use Rattle.std.proofs.lemmas.List.{take_all}
+use Rattle.std.proofs.lemmas.List.Elements.{All-nil, All-cons}
+use Rattle.im_values.specs.declared.limits.TheConstants.{MOST_COLUMNS, MOST_TABLES}
+use Rattle.im_values.specs.declared.schema.Column.{Column}
+use Rattle.im_values.specs.Fits.{fits}
 use Rattle.im_history.specs.declared.change.Change.{Change}
 use Rattle.im_history.specs.declared.entry.What.TheVariants.{Write}
 use Rattle.im_history.specs.declared.limits.Limits.{Limits}
+use Rattle.im_history.specs.declared.look.TableInfo.{TableInfo}
 use Rattle.im_history.specs.declared.refused.Why.{Why}
-use Rattle.im_history.specs.declared.refused.Why.TheVariants.{RowLocked, TableExists, CursorOpen}
+use Rattle.im_history.specs.declared.refused.Why.TheVariants.{RowLocked, TableExists, ColumnExists, CursorOpen}
+use Rattle.im_history.specs.declared.view.Opening.{Opening}
+use Rattle.im_history.specs.Columns.{columns_of}
 use Rattle.im_history.specs.Cursors.{is_cursor_open}
 use Rattle.im_history.specs.History.{History}
-use Rattle.im_history.specs.Legal.{IsAllowed, IsInsert, IsRewrite, put_from}
-use Rattle.im_history.specs.Refusals.{first_cause, when, read_only, lock_on, row_locked, serialize, too_many_changes, store_full, insert_refusal, write_refusal, create_refusal, open_refusal}
+use Rattle.im_history.specs.Legal.{IsAllowed, IsInsert, IsRewrite, MayInsert, put_from}
+use Rattle.im_history.specs.Refusals.{first_cause, when, read_only, lock_on, row_locked, serialize, too_many_changes, store_full, insert_refusal, write_refusal, create_refusal, add_refusal, altered, is_column, open_refusal}
 use Rattle.im_history.specs.Rows.{Row}
-use Rattle.im_history.specs.Tables.{tables, table_named, given}
+use Rattle.im_history.specs.Tables.{tables, table_at, table_named, given}
 use Rattle.im_history.specs.Touched.{holder}
+use Rattle.im_history.specs.Views.{schema_of}
 use Rattle.im_history.specs.Weights.{weight, changes_weight}
 use Rattle.im_txn.specs.Agrees.{Agrees}
 use Rattle.im_txn.specs.Standing.{Standing, IsFree}
 use Rattle.im_txn.proofs.ForCallers.{IsFree-by, IsFree-past-given}
+use Rattle.im_core.specs.Answers.{MayPut}
 
 -- of two causes none applies
 left_none : (a b : Option Why) → option_or a b ≡ None → a ≡ None
@@ -101,3 +110,29 @@ table_room h name none =
 -- a cursor that may be opened is not open
 pub open_shut : (h : History) (who cursor : ℕ) → open_refusal h who cursor ≡ None → is_cursor_open h who cursor ≡ false
 open_shut h who cursor none = when_none _ CursorOpen (left_none (when (is_cursor_open h who cursor) CursorOpen) _ none)
+
+-- a table may get a column: there is room for it
+pub column_room : (h : History) (table : ℕ) (name : List ℕ) → add_refusal h table name ≡ None → columns_of (table_at h table) < MOST_COLUMNS
+column_room h table name none =
+    let no : not (nat_lt (columns_of (table_at h table)) MOST_COLUMNS) ≡ false =
+    when_none _ _ (right_none (when (list_any (is_column name) (schema_of (table_at h table))) ColumnExists) _ none) in
+    grind (arith, nat_tests)
+
+-- a table has as many columns as whoever is not refused saw
+seen_columns : (h : History) (table columns : ℕ) → altered h table columns ≡ None → columns_of (table_at h table) ≡ columns
+seen_columns h table columns none =
+    let no : not (columns_of (table_at h table) == columns) ≡ false = when_none _ _ none in
+    grind (arith, nat_tests)
+
+-- rows that fit the columns that were seen may be inserted where these are the table's
+pub may_insert : (h : History) (opening : Opening) (rows : List Row) → MayPut h opening rows → altered h opening.table opening.columns ≡ None
+    → MayInsert h opening.table rows
+may_insert h opening rows may none =
+    let width : columns_of (table_at h opening.table) ≡ opening.columns = seen_columns h opening.table opening.columns none in
+    let wide : length may.exists.made.schema ≡ opening.columns = ap (λ (t : Option TableInfo). columns_of t) (sym may.exists.is) ∙ width in
+    let all : take opening.columns may.exists.made.schema ≡ may.exists.made.schema = take_all opening.columns may.exists.made.schema (omega (arith, wide)) in
+    record {
+      exists = may.exists;
+      some = may.some;
+      fit = subst (λ (columns : List Column). All (λ row. IsTrue (fits row columns)) rows) all may.fit;
+    }

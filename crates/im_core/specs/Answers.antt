@@ -1,5 +1,5 @@
 -- What calls of the store answer, read from its history.
-use Rattle.std.specs.Prelude.{◌≡◌, ℕ, ◌⊎◌, ◌+◌, ◌-◌, ◌<◌, ◌≤◌, true, false, [], length, Option, Some, None}
+use Rattle.std.specs.Prelude.{◌≡◌, ℕ, ◌⊎◌, ◌+◌, ◌-◌, ◌<◌, ◌≤◌, true, false, IsTrue, All, List, [], length, take, Option, Some, None}
 use Rattle.std.specs.Option.{option_map}
 use Rattle.std.specs.declared.sync.Arc.{Arc}
 use Rattle.std.specs.declared.alloc.Global.{Global}
@@ -7,6 +7,7 @@ use Rattle.im_core.specs.declared.answers.Offer.{Offer}
 use Rattle.im_core.specs.declared.answers.Offer.TheVariants.{Task, Idle}
 use Rattle.im_core.specs.declared.answers.Switched.{Switched}
 use Rattle.im_core.specs.declared.answers.Switched.TheVariants.{Done, AreaFull, Cancelled}
+use Rattle.im_values.specs.Fits.{fits}
 use Rattle.im_history.specs.declared.entry.What.TheVariants.{Switch, Cancel}
 use Rattle.im_history.specs.declared.refused.Refused.{Refused}
 use Rattle.im_history.specs.declared.refused.Why.{Why}
@@ -14,12 +15,15 @@ use Rattle.im_history.specs.declared.refused.Why.TheVariants.{NoMemory}
 use Rattle.im_history.specs.declared.task.Choice.{Choice}
 use Rattle.im_history.specs.declared.task.Held.{Held}
 use Rattle.im_history.specs.declared.task.Task.{Task as TaskInfo}
+use Rattle.im_history.specs.declared.view.Opening.{Opening}
 use Rattle.im_history.specs.declared.view.View.{View}
 pub use Rattle.im_history.specs.Area.{task_bytes, used}
 use Rattle.im_history.specs.Cursors.{Opened, cursor_at}
 use Rattle.im_history.specs.History.{History}
 use Rattle.im_history.specs.Leaves.{leaves}
+use Rattle.im_history.specs.Legal.{Exists}
 use Rattle.im_history.specs.Queue.{build_of, next, task_of}
+use Rattle.im_history.specs.Rows.{Row}
 pub use Rattle.im_history.specs.Refusals.{evict_refusal}
 pub use Rattle.im_history.specs.Units.{killed_of}
 use Rattle.im_history.specs.Units.{Content, held_at, unit_content}
@@ -30,9 +34,17 @@ pub record IsRefusal (history : History) (cause : Option Why) (refused : Refused
   pub place : refused.place ≡ length history
   pub why : (refused.why ≡ NoMemory) ⊎ (cause ≡ Some refused.why)
 
+-- rows that may be put into a table by whoever saw it with so many columns: it has no fewer, there are some rows, and each fits these
+-- columns
+pub record MayPut (history : History) (opening : Opening) (rows : List Row) : Type 0 where
+  pub exists : Exists history opening.table
+  pub seen : opening.columns ≤ length exists.made.schema
+  pub some : 1 ≤ length rows
+  pub fit : All (λ row. IsTrue (fits row (take opening.columns exists.made.schema))) rows
+
 -- the view of a cursor that is not open: it has no rows, and no columns
 abbrev pub no_view : View
-no_view = record { place = 0; table = 0; scn = 0; rows = 0; per = 0; extents = 0; columns = []; own = [] }
+no_view = record { place = 0; table = 0; scn = 0; rows = 0; per = 0; extents = 0; columns = []; defaults = []; own = [] }
 
 -- the view of a cursor
 abbrev pub view_of : Option Opened → View

@@ -33,9 +33,13 @@ row_or_fetched rid row fetched = if fetched.0 == rid then fetched.1 else row
 abbrev pub row_given : Pinning → ℕ → Option Row
 row_given pin rid = fold (row_or_fetched rid) (row_lent pin.unit rid) pin.fetched
 
+-- the row that a pin gives a view at a row number: the one that was fetched of it, else the one of the unit, as the view shows it
+abbrev pub row_given_to : View → Pinning → ℕ → Option Row
+row_given_to view pin rid = fold (row_or_fetched rid) (shown view (row_lent pin.unit rid)) pin.fetched
+
 -- the row that a view takes of it: changed by the view's own changes, in order, and as the view shows it
 abbrev pub row_taken : View → Pinning → ℕ → Option Row
-row_taken view pin rid = shown view (fold (row_after view.table rid) (row_given pin rid) view.own)
+row_taken view pin rid = shown view (fold (row_after view.table rid) (row_given_to view pin rid) view.own)
 
 -- the rows that a view takes of an extent, each with its number: all that a scan goes over, and so all that its answer is made of
 abbrev pub rows_taken : View → ℕ → Pinning → List (ℕ × Row)
@@ -73,18 +77,19 @@ pub record ArePins (history since : History) (who cursor extent : ℕ) (first la
 
 -- ---- the law
 
--- a pin gives at each row number of its extent the row that was committed at the cursor's SCN
+-- a pin gives the cursor's view at each row number of its extent the row that was committed at the cursor's SCN, as the view shows it
 abbrev pub GivesTheCommittedRows : Type 0
 GivesTheCommittedRows =
     (limits : Limits) (history : History) (who cursor extent : ℕ) (pin : Pinning) → IsLegal limits history → IsPinAt history who cursor extent pin
     → (rid : ℕ) → extent * (cursor_view history who cursor).per ≤ rid → rid < (extent + 1) * (cursor_view history who cursor).per
-    → row_given pin rid ≡ rows history (cursor_view history who cursor).table (cursor_view history who cursor).scn rid
+    → row_given_to (cursor_view history who cursor) pin rid
+    ≡ shown (cursor_view history who cursor) (rows history (cursor_view history who cursor).table (cursor_view history who cursor).scn rid)
 
 -- two pins give the same row at each row number, whichever units they lend and whatever the entries between record
 abbrev pub GiveTheSameRows : Type 0
 GiveTheSameRows =
     (history since : History) (who cursor extent : ℕ) (first later : Pinning) → ArePins history since who cursor extent first later
-    → (rid : ℕ) → row_given first rid ≡ row_given later rid
+    → (rid : ℕ) → row_given_to (cursor_view history who cursor) first rid ≡ row_given_to (cursor_view (history ++ since) who cursor) later rid
 
 -- so a scan takes the same rows of both
 abbrev pub GiveOneScan : Type 0

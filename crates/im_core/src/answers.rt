@@ -1,4 +1,4 @@
-use im_history::{Fetched, Task};
+use im_history::{Fetched, ShownRows, Task};
 use std::sync::Arc;
 
 /// A table was created.
@@ -8,6 +8,15 @@ pub struct Made {
     pub place: u64,
     /// The table's number.
     pub table: u32,
+    /// The SCN after it.
+    pub scn: u64,
+}
+
+/// A table got a column.
+#[derive(Clone, Copy)]
+pub struct AddedColumn {
+    /// The place of its entry.
+    pub place: u64,
     /// The SCN after it.
     pub scn: u64,
 }
@@ -47,7 +56,18 @@ pub struct Pin<U> {
     /// The extent's column unit, where it serves the scan.
     pub unit: Option<Arc<U>>,
     /// The rows that the unit does not serve, in rising order of row numbers: each with the row committed at the SCN of
-    /// the scan, or None where there is none.
+    /// the scan and the defaults of the columns that its table got since, or None where there is none.
+    pub fetched: ShownRows,
+}
+
+/// What was read of one extent, the rows as they were written.
+#[derive(Drop)]
+pub(crate) struct Written<U> {
+    /// The place of the reading.
+    pub place: u64,
+    /// The extent's column unit, where it serves the reader.
+    pub unit: Option<Arc<U>>,
+    /// The rows that the unit does not serve, in rising order of row numbers.
     pub fetched: Fetched,
 }
 

@@ -1,20 +1,25 @@
-ghost use Rattle.std.specs.Prelude.{◌≡◌, ◌+◌, ◌-◌, ◌^◌, ◌<◌, [], ◌∷◌, ◌++◌, length, max, OnOk, OnErr};
+ghost use Rattle.std.specs.Prelude.{◌≡◌, ◌+◌, ◌-◌, ◌^◌, ◌<◌, ◌≤◌, [], ◌∷◌, ◌++◌, length, max, OnOk, OnErr};
+ghost use Rattle.im_values.specs.declared.limits.TheConstants.{MOST_TABLES};
 ghost use Rattle.im_history.specs.Commits.{scn};
+ghost use Rattle.im_history.specs.Tables.{last_added};
 ghost use Rattle.im_queue.specs.Demand.{IsDemand, IsPaid};
 
+use crate::last_columns::LastColumns;
 use im_history::{Entry, History};
 use im_queue::Demand;
 use im_values::NoMemory;
 use std::alloc::Global;
 use std::marker::Model;
 
-/// The history, and what is counted of it as it grows: credits, who left, and which tables were opened.
+/// The history, and what is counted of it as it grows: credits, who left, which tables were opened, and where each got its last
+/// column.
 ///
 /// Contracts see the history.
 #[derive(Drop)]
 pub struct Chronicle {
     history: History,
     demand: Demand,
+    columns: LastColumns,
 }
 
 impl Model for Chronicle {
@@ -24,10 +29,11 @@ impl Model for Chronicle {
 
     ghost use Rattle.std.specs.Prelude.{◌^◌, ◌<◌, length};
     ghost use Rattle.im_queue.specs.Demand.{IsDemand};
+    ghost use Rattle.im_core.specs.inner.LastColumns.{AreLast};
 
     ghost view = { λ c. c.history };
 
-    ghost invariant = { λ c. IsDemand c.history.entries c.demand × (length c.history.entries < 2 ^ 63) };
+    ghost invariant = { λ c. IsDemand c.history.entries c.demand × ((length c.history.entries < 2 ^ 63) × AreLast c.history.entries c.columns) };
 }
 
 impl Chronicle {
@@ -38,6 +44,7 @@ impl Chronicle {
         Chronicle {
             history: History::new(alloc),
             demand: Demand::new(),
+            columns: LastColumns::new(),
         }
     }
 
@@ -56,6 +63,7 @@ impl Chronicle {
         ensures added { self.new ≡ record { entries = self.old.entries ++ entry ∷ []; spare = self.old.spare - 1 } }
         ensures few { length self.new.entries < 2 ^ 63 }
     {
+        self.columns.note(self.history.len(), &entry.what);
         self.demand.note(&entry.what);
         self.history.append(entry);
     }
@@ -80,6 +88,14 @@ impl Chronicle {
         ensures { IsDemand self.now.entries result.now }
     {
         &self.demand
+    }
+
+    /// The place of the entry that gave a table its last column, 0 where none did.
+    pub fn last_added(&self, table: u32) -> u64
+        requires { table ≤ MOST_TABLES }
+        ensures { result ≡ last_added self.now.entries table }
+    {
+        self.columns.of(table)
     }
 
     /// The history, handed out. It takes no memory.

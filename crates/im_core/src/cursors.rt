@@ -1,43 +1,51 @@
-ghost use Rattle.std.specs.Prelude.{◌≡◌, ◌+◌, ◌<◌, ◌≤◌, length, nat_le, true, Some, None, IfOk, IfErr, OnOk, OnErr, if◌then◌else◌};
-ghost use Rattle.std.specs.Option.{ForSome, option_map};
+ghost use Rattle.std.specs.Prelude.{◌≡◌, ◌+◌, ◌<◌, ◌≤◌, length, nat_le, take, true, Some, None, IfOk, IfErr, OnOk, OnErr, if◌then◌else◌};
+ghost use Rattle.std.specs.Option.{ForSome, option_map, option_or};
 ghost use Rattle.im_history.specs.declared.entry.What.TheVariants as what;
 ghost use Rattle.im_history.specs.Cursors.{is_cursor_open};
+ghost use Rattle.im_history.specs.Fetched.{all_widened};
 ghost use Rattle.im_history.specs.Legal.{Exists};
-ghost use Rattle.im_history.specs.Refusals.{open_refusal};
+ghost use Rattle.im_history.specs.Refusals.{altered, open_refusal};
 ghost use Rattle.im_history.specs.Rows.{snapshot};
-ghost use Rattle.im_history.specs.Views.{view_at};
-ghost use Rattle.im_core.specs.Answers.{IsRefusal, content_in, cursor_view};
 ghost use Rattle.im_history.specs.Serving.{committed_in, fetched_in, not_newer, read_in, rows_in, serving_content};
-ghost use Rattle.im_history.specs.Units.{content_at, opening_at, unit};
+ghost use Rattle.im_history.specs.Tables.{table_at};
+ghost use Rattle.im_history.specs.Units.{content_at, unit};
+ghost use Rattle.im_history.specs.Views.{defaults_of, view_at};
+ghost use Rattle.im_core.specs.Answers.{IsRefusal, content_in, cursor_view};
 ghost use Rattle.im_core.specs.inner.Kept.{beginning_at};
 ghost use Rattle.im_core.specs.inner.Lending.{stale_in};
 ghost use Rattle.im_core.specs.Seen.{Adds};
 
-use crate::answers::Pin;
+use crate::answers::{Pin, Written};
 use crate::store::{Core, owed};
-use im_history::{Entry, Fetched, Mode, Opening, Refused, UnitLike, View, What, Who, Why};
+use im_history::{
+    Entry, Fetched, Mode, Opening, Refused, ShownRows, UnitLike, View, What, Who, Why,
+};
 use im_txn::Cursor;
 use im_values::limits::{MOST_ROWS, NUMBERS};
-use im_values::{NoMemory, Steps};
+use im_values::{NoMemory, Steps, clone_row};
 use std::sync::Arc;
 use std::sync::ledger::Ledger;
 
 impl<U: UnitLike> Core<U> {
-    /// Opens a cursor on a table: what it sees is fixed here. It is refused where this cursor is open, and then where
-    /// [`MOST_CURSORS`](im_values::limits::MOST_CURSORS) are open beside its statements' own.
+    /// Opens a cursor on a table: what it sees is fixed here. It is refused where the table has got columns since the caller saw it, then
+    /// where this cursor is open, and then where [`MOST_CURSORS`](im_values::limits::MOST_CURSORS) are open beside its statements' own.
     pub fn open_cursor(&mut self, who: u32, cursor: u32, opening: Opening) -> Result<View, Refused>
         requires session { who < NUMBERS }
         requires exists { Exists self.old.log opening.table }
-        requires seen { opening ≡ opening_at self.old.log opening.table }
         ensures ok { OnOk result (Adds self.old who (what.Open cursor opening.table) self.new) }
+        ensures seen { OnOk result (altered self.old.log opening.table opening.columns ≡ None) }
         ensures allowed { OnOk result (open_refusal self.old.log who cursor ≡ None) }
         ensures view { IfOk result (λ view. view ≡ view_at self.old.log who opening.table) }
         ensures few { IfOk result (λ view. view.rows ≤ MOST_ROWS) }
         ensures some { IfOk result (λ view. 1 ≤ view.per) }
         ensures err { OnErr result (self.new ≡ self.old) }
-        ensures refused { IfErr result (λ why. IsRefusal self.old.log (open_refusal self.old.log who cursor) why) }
+        ensures refused { IfErr result (λ why. IsRefusal self.old.log
+            (option_or (altered self.old.log opening.table opening.columns) (open_refusal self.old.log who cursor)) why) }
     {
         let caller = Who::of(who);
+        if let Some(why) = self.altered(opening) {
+            return Err(self.refused(why));
+        }
         if let Some(why) = self.open_refusal(caller, cursor) {
             return Err(self.refused(why));
         }
@@ -91,6 +99,7 @@ impl<U: UnitLike> Core<U> {
         let info = self.catalog.tables()[table as usize - 1].info();
         let per = info.shape.per_extent();
         let columns = info.schema.share()?;
+        let defaults = clone_row(self.alloc, &info.defaults)?;
         Ok(View {
             place: self.history.len(),
             table,
@@ -99,6 +108,7 @@ impl<U: UnitLike> Core<U> {
             per,
             extents: (rows + per - 1) / per,
             columns,
+            defaults,
             own,
         })
     }
@@ -125,7 +135,7 @@ impl<U: UnitLike> Core<U> {
 
     /// Reads what a scan needs of an extent: its current column unit, unless that is newer than the cursor's SCN, and the
     /// rows that commits touched since the unit's SCN; without such a unit all rows. Each is a copy of the row committed at
-    /// the cursor's SCN. It adds no entry.
+    /// the cursor's SCN, with the defaults of the columns that its table got since. It adds no entry.
     ///
     /// Each row that is read is one step at most.
     pub fn pin<L: Ledger>(
@@ -193,19 +203,60 @@ impl<U: UnitLike> Core<U> {
         ensures steps { steps.new ≤ steps.old + length (read_in self.now.log (cursor_view self.now.log who cursor) extent) }
     {
         let view = self.sessions.cursor(who, cursor).unwrap();
+        let read = self.read_written(who, cursor, extent, steps)?;
+        let fetched = self.shown(view.table, view.columns, read.fetched)?;
+        Ok(Pin {
+            place: read.place,
+            unit: read.unit,
+            fetched,
+        })
+    }
+
+    /// Reads what a cursor needs of an extent, the rows as they were written.
+    fn read_written<L: Ledger>(
+        &self,
+        who: Who,
+        cursor: u32,
+        extent: u64,
+        steps: &mut Steps<L>,
+    ) -> Result<Written<U>, NoMemory>
+        requires within { extent < (cursor_view self.now.log who cursor).extents }
+        ensures place { IfOk result (λ read. read.place ≡ length self.now.log) }
+        ensures unit { IfOk result (λ read. content_in U.content read.unit
+            ≡ serving_content self.now.log (cursor_view self.now.log who cursor) extent) }
+        ensures fetched { IfOk result (λ read.
+            read.fetched ≡ read_in self.now.log (cursor_view self.now.log who cursor) extent) }
+        ensures steps { steps.new ≤ steps.old + length (read_in self.now.log (cursor_view self.now.log who cursor) extent) }
+    {
+        let view = self.sessions.cursor(who, cursor).unwrap();
         let place = self.len();
         match self.lend(view.table, extent, view.scn)? {
-            Some(unit) => Ok(Pin {
+            Some(unit) => Ok(Written {
                 place,
                 unit: Some(unit),
                 fetched: self.fetch_stale(view.table, extent, view.scn, steps)?,
             }),
-            None => Ok(Pin {
+            None => Ok(Written {
                 place,
                 unit: None,
                 fetched: self.fetch(who, cursor, extent, steps)?,
             }),
         }
+    }
+
+    /// What was read of a table, as a reader of so many columns shows it. The table's defaults are shared: it takes no memory.
+    pub(crate) fn shown(
+        &self,
+        table: u32,
+        columns: u32,
+        read: Fetched,
+    ) -> Result<ShownRows, NoMemory>
+        requires { Exists self.now.log table }
+        ensures { IfOk result (λ shown. shown ≡ all_widened (take columns (defaults_of (table_at self.now.log table))) read) }
+    {
+        let info = self.catalog.tables()[table as usize - 1].info();
+        let defaults = clone_row(self.alloc, &info.defaults)?;
+        Ok(ShownRows::of(read, defaults, columns as usize))
     }
 
     /// An extent's current unit, unless it is newer than this SCN.

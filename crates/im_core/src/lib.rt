@@ -17,6 +17,7 @@
 mod answers;
 mod chronicle;
 mod cursors;
+mod last_columns;
 mod laws;
 mod refusals;
 mod store;
@@ -26,7 +27,7 @@ mod units;
 mod weights;
 mod writes;
 
-pub use answers::{Begun, Committed, Evicted, Made, Offer, Pin, Switched, Wrote};
-pub use im_history::Fetched;
+pub use answers::{AddedColumn, Begun, Committed, Evicted, Made, Offer, Pin, Switched, Wrote};
+pub use im_history::ShownRows;
 pub use laws::{a_lent_unit_is_mended, pins_of_a_cursor_are_one};
 pub use store::Core;

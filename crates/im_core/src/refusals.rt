@@ -1,11 +1,12 @@
 ghost use Rattle.std.specs.Prelude.{◌≡◌, ◌<◌};
+ghost use Rattle.im_history.specs.Legal.{Exists};
 ghost use Rattle.im_history.specs.Puts.{lent_change};
 ghost use Rattle.im_history.specs.Refusals as refusal;
 ghost use Rattle.im_history.specs.Weights.{changes_weight};
 
 use crate::store::Core;
-use im_history::{Changes, LentChange, Mode, UnitLike, Who, Why, is_own};
-use im_values::limits::{MOST_CURSORS, MOST_TABLES};
+use im_history::{Changes, LentChange, Mode, Opening, UnitLike, Who, Why, is_own};
+use im_values::limits::{MOST_COLUMNS, MOST_CURSORS, MOST_TABLES};
 
 impl<U: UnitLike> Core<U> {
     pub(crate) fn create_refusal(&self, name: &[u8]) -> Option<Why>
@@ -19,6 +20,32 @@ impl<U: UnitLike> Core<U> {
         } else {
             Some(Why::TooManyTables)
         }
+    }
+
+    pub(crate) fn add_refusal(&self, table: u32, name: &[u8]) -> Option<Why>
+        ensures { result ≡ refusal.add_refusal self.now.log table name.now }
+    {
+        if self.catalog.has_column(table, name) {
+            return Some(Why::ColumnExists);
+        }
+        if (self.catalog.columns_of(table) as usize) < MOST_COLUMNS {
+            None
+        } else {
+            Some(Why::TooManyColumns)
+        }
+    }
+
+    /// Whether a table got columns since the caller saw it.
+    pub(crate) fn altered(&self, opening: Opening) -> Option<Why>
+        requires { Exists self.now.log opening.table }
+        ensures { result ≡ refusal.altered self.now.log opening.table opening.columns }
+    {
+        if self.catalog.columns_of(opening.table) == opening.columns {
+            return None;
+        }
+        Some(Why::Altered {
+            place: self.history.last_added(opening.table),
+        })
     }
 
     pub(crate) fn open_refusal(&self, who: Who, cursor: u32) -> Option<Why>

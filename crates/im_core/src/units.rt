@@ -8,10 +8,11 @@ ghost use Rattle.im_history.specs.Legal.{Exists, MayCancel, MaySetMemory};
 ghost use Rattle.im_history.specs.Queue.{build_of, credits, next, task_of};
 ghost use Rattle.im_history.specs.Units.{IsOwn, held_at, task_content, unit, unit_content};
 ghost use Rattle.im_core.specs.Answers.{IsOffer, IsRefusal, IsHeld, IsSwitch, content_in, evict_refusal, killed_of};
+ghost use Rattle.im_core.specs.inner.Lending.{content_as_wide};
 ghost use Rattle.im_core.specs.Seen.{Adds};
-ghost use Rattle.im_core.specs.Tasks.{task_fetched, task_fetched_by, task_lent, task_rows};
+ghost use Rattle.im_core.specs.Tasks.{task_fetched, task_lent, task_read, task_read_by, task_rows};
 
-use crate::answers::{Evicted, Offer, Pin, Switched};
+use crate::answers::{Evicted, Offer, Pin, Switched, Written};
 use crate::store::{Core, owed};
 use im_history::{Choice, Entry, Fetched, Held, Priority, Refused, Task, UnitLike, What, Who, Why};
 use im_queue::next_task;
@@ -261,9 +262,9 @@ impl<U: UnitLike> Core<U> {
         })
     }
 
-    /// Reads what a build makes its unit of: its extent's current column unit, unless that is newer than the build, and the rows
-    /// that commits touched since the unit's SCN; without such a unit all rows that were given when the build began. Each is
-    /// the row committed at the build's SCN. It adds no entry.
+    /// Reads what a build makes its unit of: its extent's current column unit, unless that is newer than the build or has fewer
+    /// columns, and the rows that commits touched since the unit's SCN; without such a unit all rows that were given when the build
+    /// began. Each is the row committed at the build's SCN, with the columns that the table had there. It adds no entry.
     ///
     /// Each row that is read is one step at most.
     pub fn read_task<L: Ledger>(
@@ -295,19 +296,49 @@ impl<U: UnitLike> Core<U> {
         ensures fetched { IfOk result (λ pin. pin.fetched ≡ task_fetched self.now.log task.now) }
         ensures steps { steps.new ≤ steps.old + length (task_fetched self.now.log task.now) }
     {
+        self.known();
+        let read = self.read_written_for(task, steps)?;
+        let fetched = self.shown(task.table, task.columns, read.fetched)?;
+        Ok(Pin {
+            place: read.place,
+            unit: read.unit,
+            fetched,
+        })
+    }
+
+    /// Reads what a held build needs of its extent, the rows as they were written.
+    fn read_written_for<L: Ledger>(
+        &self,
+        task: &Task,
+        steps: &mut Steps<L>,
+    ) -> Result<Written<U>, NoMemory>
+        requires held { IsHeld self.now.log task.now }
+        ensures place { IfOk result (λ read. read.place ≡ length self.now.log) }
+        ensures unit { IfOk result (λ read. content_in U.content read.unit ≡ task_lent self.now.log task.now) }
+        ensures fetched { IfOk result (λ read. read.fetched ≡ task_read self.now.log task.now) }
+        ensures steps { steps.new ≤ steps.old + length (task_read self.now.log task.now) }
+    {
         let place = self.len();
-        match self.lend(task.table, task.extent, task.scn)? {
-            Some(unit) => Ok(Pin {
+        match self.lend_wide(task)? {
+            Some(unit) => Ok(Written {
                 place,
                 unit: Some(unit),
                 fetched: self.fetch_beside(task, steps)?,
             }),
-            None => Ok(Pin {
+            None => Ok(Written {
                 place,
                 unit: None,
                 fetched: self.fetch_task(task, steps)?,
             }),
         }
+    }
+
+    /// The unit that a build is lent.
+    fn lend_wide(&self, task: &Task) -> Result<Option<Arc<U>>, NoMemory>
+        ensures { IfOk result (λ lent. content_in U.content lent ≡ task_lent self.now.log task.now) }
+    {
+        let lent = self.lend(task.table, task.extent, task.scn)?;
+        Ok(unit_as_wide(lent, task.columns))
     }
 
     /// Reads the rows of a held build's extent that are stale beside its unit.
@@ -318,9 +349,9 @@ impl<U: UnitLike> Core<U> {
     ) -> Result<Fetched, NoMemory>
         requires held { IsHeld self.now.log task.now }
         ensures fetched { IfOk result (λ fetched. ForSome (unit self.now.log task.now.table task.now.extent) (λ at.
-            fetched ≡ task_fetched_by self.now.log task.now (Some at))) }
+            fetched ≡ task_read_by self.now.log task.now (Some at))) }
         ensures steps { ForSome (unit self.now.log task.now.table task.now.extent) (λ at.
-            steps.new ≤ steps.old + length (task_fetched_by self.now.log task.now (Some at))) }
+            steps.new ≤ steps.old + length (task_read_by self.now.log task.now (Some at))) }
     {
         self.fetch_stale(task.table, task.extent, task.scn, steps)
     }
@@ -328,7 +359,7 @@ impl<U: UnitLike> Core<U> {
     /// Reads all rows of a held build's extent that were given when it began.
     fn fetch_task<L: Ledger>(&self, task: &Task, steps: &mut Steps<L>) -> Result<Fetched, NoMemory>
         requires held { IsHeld self.now.log task.now }
-        ensures fetched { IfOk result (λ fetched. fetched ≡ task_fetched_by self.now.log task.now None) }
+        ensures fetched { IfOk result (λ fetched. fetched ≡ task_read_by self.now.log task.now None) }
         ensures steps { steps.new ≤ steps.old + task_rows self.now.log task.now }
     {
         let given = self.directory.build(task.id).unwrap().given;
@@ -421,6 +452,16 @@ impl<U: UnitLike> Core<U> {
             who: who.number(),
             what: What::Cancel { id: task.id, full },
         });
+    }
+}
+
+/// A unit, unless it has another number of columns.
+fn unit_as_wide<U: UnitLike>(unit: Option<Arc<U>>, columns: u32) -> Option<Arc<U>>
+    ensures { content_in U.content result ≡ content_as_wide columns (content_in U.content unit) }
+{
+    match unit {
+        Some(unit) if unit.columns() == columns => Some(unit),
+        _ => None,
     }
 }
 

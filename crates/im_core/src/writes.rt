@@ -1,11 +1,11 @@
 ghost use Rattle.std.specs.Prelude.{◌≡◌, ◌+◌, ◌*◌, ◌^◌, ◌<◌, ◌≤◌, length, None, IfOk, IfErr, OnOk, OnErr};
+ghost use Rattle.std.specs.Option.{option_or};
 ghost use Rattle.im_history.specs.declared.entry.What.TheVariants as what;
-ghost use Rattle.im_history.specs.Legal.{Exists, MayInsert, MayWrite, IsAllowed, put_from};
-ghost use Rattle.im_history.specs.Refusals.{insert_refusal, write_refusal};
+ghost use Rattle.im_history.specs.Legal.{Exists, MayWrite, IsAllowed, put_from};
+ghost use Rattle.im_history.specs.Refusals.{altered, insert_refusal, write_refusal};
 ghost use Rattle.im_history.specs.Tables.{tables, given};
-ghost use Rattle.im_history.specs.Units.{opening_at};
 ghost use Rattle.im_history.specs.Weights.{changes_weight, weight};
-ghost use Rattle.im_core.specs.Answers.{IsRefusal, cursor_view};
+ghost use Rattle.im_core.specs.Answers.{IsRefusal, MayPut, cursor_view};
 ghost use Rattle.im_core.specs.inner.Kept.{Gives};
 ghost use Rattle.im_core.specs.Seen.{Adds};
 
@@ -17,14 +17,14 @@ use im_values::limits::{CHANGE_WEIGHT, MOST_ROWS, NUMBERS};
 use im_values::{NoMemory, Rows};
 
 impl<U: UnitLike> Core<U> {
-    /// Inserts rows into a table, at its next row numbers. It is refused where the transaction is READ ONLY, then where it
-    /// would have too many changes, and then where the store would be too full.
+    /// Inserts rows into a table, at its next row numbers. It is refused where the table has got columns since the caller saw it, then
+    /// where the transaction is READ ONLY, then where it would have too many changes, and then where the store would be too full.
     pub fn insert(&mut self, who: u32, opening: Opening, rows: Rows) -> Result<Wrote, Refused>
         requires session { who < NUMBERS }
-        requires seen { opening ≡ opening_at self.old.log opening.table }
-        requires may { MayInsert self.old.log opening.table rows }
+        requires may { MayPut self.old.log opening rows }
         ensures ok { OnOk result (Adds self.old who
             (what.Write (put_from opening.table (given self.old.log opening.table) rows)) self.new) }
+        ensures seen { OnOk result (altered self.old.log opening.table opening.columns ≡ None) }
         ensures allowed { OnOk result (insert_refusal self.old.limits self.old.log who
             (put_from opening.table (given self.old.log opening.table) rows) ≡ None) }
         ensures wrote { IfOk result (λ wrote. wrote ≡ record {
@@ -32,10 +32,14 @@ impl<U: UnitLike> Core<U> {
           first = given self.old.log opening.table;
         }) }
         ensures err { OnErr result (self.new ≡ self.old) }
-        ensures refused { IfErr result (λ why. IsRefusal self.old.log (insert_refusal self.old.limits self.old.log who
-            (put_from opening.table (given self.old.log opening.table) rows)) why) }
+        ensures refused { IfErr result (λ why. IsRefusal self.old.log (option_or (altered self.old.log opening.table opening.columns)
+            (insert_refusal self.old.limits self.old.log who
+            (put_from opening.table (given self.old.log opening.table) rows))) why) }
     {
         let caller = Who::of(who);
+        if let Some(why) = self.altered(opening) {
+            return Err(self.refused(why));
+        }
         let table = opening.table;
         let first = self.given_of(table);
         let Ok(count) = given_with(first, rows.len()) else {

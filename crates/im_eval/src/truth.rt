@@ -3,14 +3,14 @@ ghost use Rattle.im_syntax.specs.BoundFits.{FilterFits, TestsFit, TestFits, valu
 ghost use Rattle.im_eval.specs.Holds as spec;
 
 use im_syntax::{Choices, Filter, Test, TestForm, Tests};
-use im_values::{Cmp, Seen, Truth, Value, compare};
+use im_values::{Cmp, RowValues, Seen, Truth, Value, compare};
 
 /// The value of a row in a column.
-fn value_in(row: &[Value], column: u32) -> &Value
+fn value_in<'a>(row: &RowValues<'a>, column: u32) -> &'a Value
     requires { column < length row.now }
     ensures { result.now ≡ value_at row.now column }
 {
-    &row[column as usize]
+    row.at(column as usize)
 }
 
 /// A truth, behind NOT where that is written.
@@ -51,7 +51,7 @@ pub fn within(value: &Value, choices: &Choices) -> Truth
 }
 
 #[cycle(condition)]
-fn test_holds(test: &Test, row: &[Value]) -> Truth
+fn test_holds(test: &Test, row: &RowValues<'_>) -> Truth
     requires { TestFits row.now test.now }
     ensures { result ≡ spec.truth_of_test test.now row.now }
 {
@@ -78,7 +78,7 @@ fn test_holds(test: &Test, row: &[Value]) -> Truth
 
 /// The AND of the tests.
 #[cycle(condition)]
-fn all_hold(tests: &Tests, row: &[Value]) -> Truth
+fn all_hold(tests: &Tests, row: &RowValues<'_>) -> Truth
     requires { TestsFit row.now tests.now }
     ensures { result ≡ spec.truth_of_tests tests.now row.now }
 {
@@ -97,7 +97,7 @@ fn all_hold(tests: &Tests, row: &[Value]) -> Truth
 /// It takes no memory, stops at the first Yes of an OR and the first No of an AND, and recurses as deep as NOT and
 /// parentheses nest in the condition.
 #[cycle(condition)]
-pub fn holds(filter: &Filter, row: &[Value]) -> Truth
+pub fn holds(filter: &Filter, row: &RowValues<'_>) -> Truth
     requires { FilterFits row.now filter.now }
     ensures { result ≡ spec.truth_of filter.now row.now }
 {

@@ -9,7 +9,7 @@ use crate::asked::Asked;
 use crate::asking::Asking;
 use crate::grouping::{Groups, Room, take_grouped};
 use im_lanes::Mask;
-use im_values::{NoMemory, Rows};
+use im_values::{NoMemory, WideRun};
 use std::alloc::Global;
 
 /// What is looked at in each row: the columns of its key, and those that are asked.
@@ -24,7 +24,7 @@ struct Seen<'a> {
 fn take_bits(
     alloc: Global,
     seen: Seen<'_>,
-    rows: &Rows,
+    rows: &WideRun<'_>,
     first: usize,
     word: u64,
     room: &mut Room,
@@ -39,7 +39,7 @@ fn take_bits(
     let mut rest = word;
     while rest != 0 {
         let row = rows.values(first + rest.trailing_zeros() as usize);
-        take_grouped(alloc, seen.columns, seen.asked, row, room, groups)?;
+        take_grouped(alloc, seen.columns, seen.asked, &row, room, groups)?;
         rest &= rest - 1;
     }
     Ok(())
@@ -49,7 +49,7 @@ fn take_bits(
 fn take_word(
     alloc: Global,
     seen: Seen<'_>,
-    rows: &Rows,
+    rows: &WideRun<'_>,
     first: usize,
     word: u64,
     room: &mut Room,
@@ -76,7 +76,7 @@ fn take_word(
 pub fn take_run(
     alloc: Global,
     asking: &Asking<'_>,
-    rows: &Rows,
+    rows: &WideRun<'_>,
     mask: &Mask,
     room: &mut Room,
     groups: &mut Groups,

@@ -12,12 +12,13 @@ ghost use Rattle.im_group.specs.Tallies.{CanJoin, tallied};
 use crate::asked::Asked;
 use crate::hints::{Hints, SLOTS, slot_of, slot_of_one};
 use crate::near::{near, near_one};
+use crate::row_value::value_in;
 use crate::same::Sought;
 use crate::sums::Sums;
 use crate::tallies::Tallies;
 use im_eval::holds;
 use im_syntax::{Bound, Filter};
-use im_values::{NoMemory, Truth, Value, copied};
+use im_values::{NoMemory, RowValues, Truth, Value, copied};
 use indexmap::IndexMap;
 use std::alloc::Global;
 
@@ -42,7 +43,7 @@ impl Room {
 }
 
 /// Whether a query keeps a row: its condition is Yes, or it has none. It takes no memory.
-pub fn keeps(filter: &Option<Filter>, row: &[Value]) -> bool
+pub fn keeps(filter: &Option<Filter>, row: &RowValues<'_>) -> bool
     requires { ForSome filter.now (FilterFits row.now) }
     ensures { result ≡ spec.keeps filter.now row.now }
 {
@@ -56,7 +57,7 @@ pub fn keeps(filter: &Option<Filter>, row: &[Value]) -> bool
 fn write_key(
     alloc: Global,
     columns: &[u32],
-    row: &[Value],
+    row: &RowValues<'_>,
     key: &mut Vec<Value>,
 ) -> Result<(), NoMemory>
     requires { AllByRecursion (λ column. column < length row.now) columns.now }
@@ -64,7 +65,7 @@ fn write_key(
 {
     key.clear();
     for column in columns {
-        key.push(row[*column as usize].copy(alloc)?)?;
+        key.push(value_in(row, *column).copy(alloc)?)?;
     }
     Ok(())
 }
@@ -83,7 +84,7 @@ fn put_group(
     alloc: Global,
     asked: &[Asked],
     key: &[Value],
-    row: &[Value],
+    row: &RowValues<'_>,
     groups: &mut Groups,
 ) -> Result<(), NoMemory>
     requires fits { AllByRecursion (λ a. a.column < length row.now) asked.now }
@@ -102,7 +103,7 @@ fn take_there(
     _columns: &[u32],
     asked: &[Asked],
     place: usize,
-    row: &[Value],
+    row: &RowValues<'_>,
     groups: &mut Groups,
 ) -> Result<(), NoMemory>
     requires fits { AllByRecursion (λ a. a.column < length row.now) asked.now }
@@ -122,7 +123,7 @@ fn take_looked_up(
     columns: &[u32],
     asked: &[Asked],
     key: &[Value],
-    row: &[Value],
+    row: &RowValues<'_>,
     found: &mut usize,
     groups: &mut Groups,
 ) -> Result<(), NoMemory>
@@ -149,7 +150,7 @@ fn take_far(
     alloc: Global,
     columns: &[u32],
     asked: &[Asked],
-    row: &[Value],
+    row: &RowValues<'_>,
     slot: usize,
     room: &mut Room,
     groups: &mut Groups,
@@ -174,7 +175,7 @@ fn take_by_many(
     alloc: Global,
     columns: &[u32],
     asked: &[Asked],
-    row: &[Value],
+    row: &RowValues<'_>,
     room: &mut Room,
     groups: &mut Groups,
 ) -> Result<(), NoMemory>
@@ -196,7 +197,7 @@ fn take_by_one(
     alloc: Global,
     columns: &[u32],
     asked: &[Asked],
-    row: &[Value],
+    row: &RowValues<'_>,
     room: &mut Room,
     groups: &mut Groups,
 ) -> Result<(), NoMemory>
@@ -206,7 +207,7 @@ fn take_by_one(
     requires few { CanTake asked.now (own groups.old.entries) (spec.key_of columns.now row.now) }
     ensures { OnOk result (own groups.new.entries ≡ with_taken asked.now (own groups.old.entries) (spec.key_of columns.now row.now) row.now) }
 {
-    let sought = Sought::of(&row[columns[0] as usize]);
+    let sought = Sought::of(value_in(row, columns[0]));
     let slot = slot_of_one(sought);
     match near_one(columns, row, sought, groups, room.hints.place(slot)) {
         Some(place) => take_there(alloc, columns, asked, place, row, groups),
@@ -220,7 +221,7 @@ pub fn take_grouped(
     alloc: Global,
     columns: &[u32],
     asked: &[Asked],
-    row: &[Value],
+    row: &RowValues<'_>,
     room: &mut Room,
     groups: &mut Groups,
 ) -> Result<(), NoMemory>
@@ -241,7 +242,7 @@ pub fn take_row(
     alloc: Global,
     bound: &Bound,
     asked: &[Asked],
-    row: &[Value],
+    row: &RowValues<'_>,
     room: &mut Room,
     groups: &mut Groups,
 ) -> Result<(), NoMemory>

@@ -1,8 +1,9 @@
 ghost use Rattle.std.specs.Prelude.{◌<◌, length};
 ghost use Rattle.std.specs.List.{AllByRecursion};
 
+use crate::row_value::value_in;
 use crate::same::Sought;
-use im_values::{Seen, Value};
+use im_values::{RowValues, Seen};
 
 /// How many hints there are.
 pub const SLOTS: usize = 64;
@@ -49,13 +50,13 @@ pub fn slot_of_one(sought: Sought<'_>) -> usize
 
 /// The slot of the key of a row.
 #[inline(always)]
-pub fn slot_of(columns: &[u32], row: &[Value]) -> usize
+pub fn slot_of(columns: &[u32], row: &RowValues<'_>) -> usize
     requires { AllByRecursion (λ column. column < length row.now) columns.now }
     ensures { result < SLOTS }
 {
     let mut print = 0;
     for column in columns {
-        print = mixed(print, print_of(Sought::of(&row[*column as usize])));
+        print = mixed(print, print_of(Sought::of(value_in(row, *column))));
     }
     slot_at(print)
 }

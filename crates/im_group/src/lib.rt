@@ -26,6 +26,7 @@ mod partial;
 mod places;
 mod record;
 mod records;
+mod row_value;
 mod same;
 mod sums;
 mod tallies;

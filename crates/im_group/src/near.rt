@@ -7,12 +7,13 @@ ghost use Rattle.im_group.specs.inner.Steps.{stands_at};
 ghost use Rattle.im_group.specs.Partials as spec;
 
 use crate::grouping::Groups;
+use crate::row_value::value_in;
 use crate::same::{Sought, same};
-use im_values::Value;
+use im_values::{RowValues, Value};
 
 /// Whether a row has this key. Nothing is copied or hashed.
 #[inline(always)]
-fn has_key(columns: &[u32], row: &[Value], key: &[Value]) -> bool
+fn has_key(columns: &[u32], row: &RowValues<'_>, key: &[Value]) -> bool
     requires { AllByRecursion (λ column. column < length row.now) columns.now }
     ensures { result ≡ spec.is_key (spec.key_of columns.now row.now) key.now }
 {
@@ -20,7 +21,7 @@ fn has_key(columns: &[u32], row: &[Value], key: &[Value]) -> bool
         return false;
     }
     for (i, column) in columns.iter().enumerate() {
-        if !same(&row[*column as usize], &key[i]) {
+        if !same(value_in(row, *column), &key[i]) {
             return false;
         }
     }
@@ -29,7 +30,7 @@ fn has_key(columns: &[u32], row: &[Value], key: &[Value]) -> bool
 
 /// Whether the group at a place has the key of a row.
 #[inline(always)]
-fn is_at(columns: &[u32], row: &[Value], groups: &Groups, place: usize) -> bool
+fn is_at(columns: &[u32], row: &RowValues<'_>, groups: &Groups, place: usize) -> bool
     requires { AllByRecursion (λ column. column < length row.now) columns.now }
     ensures { result ≡ stands_at (own groups.now.entries) (spec.key_of columns.now row.now) place }
 {
@@ -41,7 +42,7 @@ fn is_at(columns: &[u32], row: &[Value], groups: &Groups, place: usize) -> bool
 
 /// Where the group of the key of a row stands, if it is at a place that is only thought of. It takes no memory.
 #[inline(always)]
-pub fn near(columns: &[u32], row: &[Value], groups: &Groups, thought: usize) -> Option<usize>
+pub fn near(columns: &[u32], row: &RowValues<'_>, groups: &Groups, thought: usize) -> Option<usize>
     requires { AllByRecursion (λ column. column < length row.now) columns.now }
     ensures { ForSome result (λ place. stands_at (own groups.now.entries) (spec.key_of columns.now row.now) place ≡ true) }
 {
@@ -65,7 +66,7 @@ fn is_only(sought: Sought<'_>, key: &[Value]) -> bool
 #[inline(always)]
 pub fn near_one(
     columns: &[u32],
-    row: &[Value],
+    row: &RowValues<'_>,
     sought: Sought<'_>,
     groups: &Groups,
     thought: usize,

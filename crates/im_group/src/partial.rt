@@ -21,7 +21,7 @@ use crate::records::{group_record, projected, put_in_order, row_records};
 use crate::sums::Sums;
 use im_lanes::Mask;
 use im_syntax::{Bound, Item};
-use im_values::{NoMemory, Row, Rows, Value, clone_row, copied};
+use im_values::{NoMemory, Row, RowValues, Value, WideRun, clone_row};
 use indexmap::IndexMap;
 use std::alloc::Global;
 use std::cmp::Ordering;
@@ -196,7 +196,7 @@ impl Partial {
         alloc: Global,
         asking: &Asking<'_>,
         number: u64,
-        row: &[Value],
+        row: &RowValues<'_>,
     ) -> Result<(), NoMemory>
         requires fits { BoundFits row.now asking.now }
         requires few { spec.IsPartOfFew asking.now self.old }
@@ -222,10 +222,11 @@ impl Partial {
         ensures { OnOk result (spec.GoesOn asking.now self.old (number, row.now) self.new) }
     {
         let bound = asking.bound();
-        if !keeps(&bound.filter, row.values()) {
+        let values = RowValues::of(row.values());
+        if !keeps(&bound.filter, &values) {
             Ok(())
         } else if bound.grouped {
-            self.group_kept(alloc, asking, row.values())
+            self.group_kept(alloc, asking, &values)
         } else {
             self.take_made(alloc, asking, number, clone_row(alloc, row)?)
         }
@@ -237,7 +238,7 @@ impl Partial {
         alloc: Global,
         asking: &Asking<'_>,
         number: u64,
-        row: &[Value],
+        row: &RowValues<'_>,
     ) -> Result<(), NoMemory>
         requires fits { BoundFits row.now asking.now }
         requires kept { spec.keeps asking.now.filter row.now ≡ true }
@@ -247,7 +248,7 @@ impl Partial {
         if asking.bound().grouped {
             self.group_kept(alloc, asking, row)
         } else {
-            self.take_made(alloc, asking, number, Row::of(copied(alloc, row)?))
+            self.take_made(alloc, asking, number, row.copied(alloc)?)
         }
     }
 
@@ -266,7 +267,7 @@ impl Partial {
         ensures { OnOk result (spec.GoesOn asking.now self.old (number, row) self.new) }
     {
         if asking.bound().grouped {
-            self.group_kept(alloc, asking, row.values())
+            self.group_kept(alloc, asking, &RowValues::of(row.values()))
         } else {
             self.rows.push((number, row))?;
             Ok(())
@@ -281,7 +282,7 @@ impl Partial {
         &mut self,
         alloc: Global,
         asking: &Asking<'_>,
-        rows: &Rows,
+        rows: &WideRun<'_>,
         mask: &Mask,
     ) -> Result<(), NoMemory>
         requires grouped { asking.now.grouped ≡ true }
@@ -311,7 +312,7 @@ impl Partial {
         &mut self,
         alloc: Global,
         asking: &Asking<'_>,
-        row: &[Value],
+        row: &RowValues<'_>,
     ) -> Result<(), NoMemory>
         requires grouped { asking.now.grouped ≡ true }
         requires fits { BoundFits row.now asking.now }

@@ -7,8 +7,9 @@ ghost use Rattle.im_group.specs.inner.Narrowing.{narrowed};
 
 use crate::asked::Asked;
 use crate::cell::Cell;
+use crate::row_value::value_in;
 use im_syntax::Function;
-use im_values::{NoMemory, Seen, Value, order};
+use im_values::{NoMemory, RowValues, Seen, Value, order};
 use std::alloc::Global;
 use std::marker::Model;
 
@@ -183,13 +184,13 @@ impl Sums {
         &mut self,
         alloc: Global,
         asked: &Asked,
-        row: &[Value],
+        row: &RowValues<'_>,
     ) -> Result<(), NoMemory>
         requires fits { asked.now.column < length row.now }
         requires few { self.old.values + 1 < 2 ^ 64 }
         ensures { OnOk result (self.new ≡ spec.taken asked.now self.old (value_at row.now asked.now.column)) }
     {
-        let value = &row[asked.column as usize];
+        let value = value_in(row, asked.column);
         self.add(value);
         if asked.least || asked.greatest {
             self.compare(alloc, *asked, value)

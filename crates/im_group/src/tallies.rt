@@ -9,7 +9,7 @@ use crate::asked::{Asked, place_of};
 use crate::cell::Cell;
 use crate::sums::Sums;
 use im_syntax::Function;
-use im_values::{NoMemory, Value};
+use im_values::{NoMemory, RowValues};
 use std::alloc::Global;
 use std::marker::Model;
 
@@ -58,7 +58,7 @@ fn join_each(sums: &mut Vec<Sums>, others: Vec<Sums>)
 fn take_each(
     alloc: Global,
     asked: &[Asked],
-    row: &[Value],
+    row: &RowValues<'_>,
     sums: &mut Vec<Sums>,
 ) -> Result<(), NoMemory>
     requires fits { AllByRecursion (λ a. a.column < length row.now) asked.now }
@@ -113,7 +113,12 @@ impl Tallies {
 
     /// Takes one row more. Where memory is out, what the tallies are then is not said.
     #[inline(always)]
-    pub fn take(&mut self, alloc: Global, asked: &[Asked], row: &[Value]) -> Result<(), NoMemory>
+    pub fn take(
+        &mut self,
+        alloc: Global,
+        asked: &[Asked],
+        row: &RowValues<'_>,
+    ) -> Result<(), NoMemory>
         requires fits { AllByRecursion (λ a. a.column < length row.now) asked.now }
         requires few { spec.HasRoom self.old }
         ensures { OnOk result (self.new ≡ spec.row_taken asked.now self.old row.now) }

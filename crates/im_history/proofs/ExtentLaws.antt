@@ -5,10 +5,12 @@ use Rattle.std.proofs.lemmas.Bool.{false≢true, eqb-true}
 use Rattle.std.proofs.lemmas.List.{length_push}
 use Rattle.std.proofs.lemmas.Nat.{le-div}
 use Rattle.std.proofs.lemmas.Option.{slice_get_within}
+use Rattle.im_values.specs.declared.content.Content.{Content as Value}
 use Rattle.im_values.specs.declared.priority.Priority.{Priority}
+use Rattle.im_values.specs.declared.schema.Column.{Column}
 use Rattle.im_history.specs.declared.entry.Entry.{Entry}
 use Rattle.im_history.specs.declared.entry.What.{What}
-use Rattle.im_history.specs.declared.entry.What.TheVariants.{Create, Memory, Switch}
+use Rattle.im_history.specs.declared.entry.What.TheVariants.{Create, Add, Memory, Switch}
 use Rattle.im_history.specs.declared.limits.Limits.{Limits}
 use Rattle.im_history.specs.declared.look.TableInfo.{TableInfo}
 use Rattle.im_history.specs.declared.task.Held.{Held}
@@ -17,7 +19,7 @@ use Rattle.im_history.specs.Extents.{AreOfExtents, IsExtent}
 use Rattle.im_history.specs.Grid.{extents_for}
 use Rattle.im_history.specs.History.{History}
 use Rattle.im_history.specs.Legal.{Exists, IsLegal}
-use Rattle.im_history.specs.Tables.{created, given, tables, with_memory}
+use Rattle.im_history.specs.Tables.{created, given, new_table, tables, with_column, with_memory}
 use Rattle.im_history.specs.Units.{drops, held_at, is_on, switched, unit, unit_after}
 use Rattle.im_history.specs.Views.{per_at}
 use Rattle.im_history.proofs.GivenLaws.{given-grows}
@@ -35,9 +37,16 @@ length-with_memory place priority [] = refl
 length-with_memory zero priority (t ∷ ts) = refl
 length-with_memory (suc place) priority (t ∷ ts) = ap suc (length-with_memory place priority ts)
 
+length-with_column : (place : ℕ) (column : Column) (default : Value) (ts : List TableInfo) → length (with_column place column default ts) ≡ length ts
+length-with_column place column default [] = refl
+length-with_column zero column default (t ∷ ts) = refl
+length-with_column (suc place) column default (t ∷ ts) = ap suc (length-with_column place column default ts)
+
 created-grows : (ts : List TableInfo) (what : What) → length ts ≤ length (created ts what)
 created-grows ts (Create name schema grid) =
-    let longer = length_push ts (record { name = name; schema = schema; shape = grid; memory = None }) in omega (arith, longer)
+    let longer = length_push ts (new_table name schema grid) in omega (arith, longer)
+created-grows ts (Add zero column default) = omega arith
+created-grows ts (Add (suc place) column default) = let same = length-with_column place column default ts in omega (arith, same)
 created-grows ts (Memory zero priority) = omega arith
 created-grows ts (Memory (suc place) priority) = let same = length-with_memory place priority ts in omega (arith, same)
 created-grows ts _ = omega arith

@@ -1,17 +1,15 @@
 -- What is read of row numbers, one piece behind others.
 use Rattle.std.proofs.Common.{◌≡◌, ℕ, zero, suc, ◌+◌, ◌<◌, List, [], ◌∷◌, ◌++◌, length, map, take, Option, Some, refl, ap, sym, ◌∙◌, arith, append_assoc, min}
-use denote.Ref.{Bor}
-use Rattle.std.specs.List.{slice_get}
+use Rattle.std.specs.List.{flat_map, slice_get}
+use Rattle.std.specs.Option.{option_map}
 use Rattle.std.proofs.lemmas.Grind.{flat_map-append}
-use Rattle.std.proofs.lemmas.List.{length-take, map-append, append-nil}
+use Rattle.std.proofs.lemmas.List.{length-map, length-take, map-append, append-nil}
 use Rattle.std.proofs.lemmas.Option.{slice_get_within}
 use Rattle.im_history.specs.declared.fetched.Piece.{Piece}
-use Rattle.im_history.specs.Fetched.{each_at, in_piece, in_pieces, lent_row, lent_rows, run_from}
+use Rattle.im_values.specs.declared.content.Content.{Content as Value}
+use Rattle.im_values.specs.Widened.{widened}
+use Rattle.im_history.specs.Fetched.{all_widened, each_at, in_piece, in_pieces, run_from}
 use Rattle.im_history.specs.Rows.{Row}
-
--- a row that is lent
-abbrev LentRow : Type 0
-LentRow = ℕ × Option (Bor Row)
 
 pub length-run_from : (first : ℕ) (rows : List Row) → length (run_from first rows) ≡ length rows
 length-run_from first [] = refl
@@ -53,16 +51,13 @@ rows-run_from first [] = refl
 rows-run_from first (row ∷ rows) = ap (λ (l : List (Option Row)). Some row ∷ l) (rows-run_from (first + 1) rows)
 
 -- a row of a run is lent behind others
-pub lent-next : (old now new : List LentRow) (first : ℕ) (rows : List Row) (at : ℕ) (lent : LentRow) (row : Row) → slice_get rows at ≡ Some row
-    → lent_row lent ≡ (first + at, Some row) → lent_rows now ≡ lent_rows old ++ run_from first (take at rows) → new ≡ now ++ lent ∷ []
-    → lent_rows new ≡ lent_rows old ++ run_from first (take (at + 1) rows)
-lent-next old now new first rows at lent row is lends so_far pushed =
-    ap lent_rows pushed
-    ∙ (map-append lent_row now (lent ∷ [])
-    ∙ (ap (λ (l : List (ℕ × Option Row)). l ++ lent_row lent ∷ []) so_far
-    ∙ (ap (λ (one : ℕ × Option Row). (lent_rows old ++ run_from first (take at rows)) ++ one ∷ []) lends
-    ∙ (append_assoc (lent_rows old) (run_from first (take at rows)) ((first + at, Some row) ∷ [])
-    ∙ ap (λ (l : List (ℕ × Option Row)). lent_rows old ++ l) (sym (run_from-next first rows at row is))))))
+pub lent-next : (old now new : List (ℕ × Option Row)) (first : ℕ) (rows : List Row) (at : ℕ) (row : Row) → slice_get rows at ≡ Some row
+    → now ≡ old ++ run_from first (take at rows) → new ≡ now ++ (first + at, Some row) ∷ [] → new ≡ old ++ run_from first (take (at + 1) rows)
+lent-next old now new first rows at row is so_far pushed =
+    pushed
+    ∙ (ap (λ (l : List (ℕ × Option Row)). l ++ (first + at, Some row) ∷ []) so_far
+    ∙ (append_assoc old (run_from first (take at rows)) ((first + at, Some row) ∷ [])
+    ∙ ap (λ (l : List (ℕ × Option Row)). old ++ l) (sym (run_from-next first rows at row is))))
 
 -- a row of a run is put behind others
 pub put-next : (old now new : List (Option Row)) (rows : List Row) (at : ℕ) (row : Row) → slice_get rows at ≡ Some row
@@ -109,14 +104,66 @@ each_at-next rids rows at rid row same rid_is row_is =
     ∙ each_at-push (take at rids) (take at rows) rid row (few_rids ∙ (ap (λ (n : ℕ). min at n) same ∙ sym few_rows)))
 
 -- a row with its own row number is lent behind others
-pub lent-each : (old now new : List LentRow) (rids : List ℕ) (rows : List Row) (at rid : ℕ) (lent : LentRow) (row : Row) → length rids ≡ length rows
-    → slice_get rids at ≡ Some rid → slice_get rows at ≡ Some row → lent_row lent ≡ (rid, Some row)
-    → lent_rows now ≡ lent_rows old ++ each_at (take at rids) (take at rows) → new ≡ now ++ lent ∷ []
-    → lent_rows new ≡ lent_rows old ++ each_at (take (at + 1) rids) (take (at + 1) rows)
-lent-each old now new rids rows at rid lent row same rid_is row_is lends so_far pushed =
-    ap lent_rows pushed
-    ∙ (map-append lent_row now (lent ∷ [])
-    ∙ (ap (λ (l : List (ℕ × Option Row)). l ++ lent_row lent ∷ []) so_far
-    ∙ (ap (λ (one : ℕ × Option Row). (lent_rows old ++ each_at (take at rids) (take at rows)) ++ one ∷ []) lends
-    ∙ (append_assoc (lent_rows old) (each_at (take at rids) (take at rows)) ((rid, Some row) ∷ [])
-    ∙ ap (λ (l : List (ℕ × Option Row)). lent_rows old ++ l) (sym (each_at-next rids rows at rid row same rid_is row_is))))))
+pub lent-each : (old now new : List (ℕ × Option Row)) (rids : List ℕ) (rows : List Row) (at rid : ℕ) (row : Row) → length rids ≡ length rows
+    → slice_get rids at ≡ Some rid → slice_get rows at ≡ Some row → now ≡ old ++ each_at (take at rids) (take at rows)
+    → new ≡ now ++ (rid, Some row) ∷ [] → new ≡ old ++ each_at (take (at + 1) rids) (take (at + 1) rows)
+lent-each old now new rids rows at rid row same rid_is row_is so_far pushed =
+    pushed
+    ∙ (ap (λ (l : List (ℕ × Option Row)). l ++ (rid, Some row) ∷ []) so_far
+    ∙ (append_assoc old (each_at (take at rids) (take at rows)) ((rid, Some row) ∷ [])
+    ∙ ap (λ (l : List (ℕ × Option Row)). old ++ l) (sym (each_at-next rids rows at rid row same rid_is row_is))))
+
+-- ---- rows that are lengthened
+
+-- a row number with its row, or none, lengthened
+abbrev pub row_widened : List Value → ℕ × Option Row → ℕ × Option Row
+row_widened defaults row = (row.0, option_map (widened defaults) row.1)
+
+pub run_from-widened : (defaults : List Value) (first : ℕ) (rows : List Row)
+    → run_from first (map (widened defaults) rows) ≡ all_widened defaults (run_from first rows)
+run_from-widened defaults first [] = refl
+run_from-widened defaults first (row ∷ rows) =
+    ap (λ (l : List (ℕ × Option Row)). (first, Some (widened defaults row)) ∷ l) (run_from-widened defaults (first + 1) rows)
+
+pub each_at-widened : (defaults : List Value) (rids : List ℕ) (rows : List Row)
+    → each_at rids (map (widened defaults) rows) ≡ all_widened defaults (each_at rids rows)
+each_at-widened defaults [] rows = refl
+each_at-widened defaults (rid ∷ rids) [] = refl
+each_at-widened defaults (rid ∷ rids) (row ∷ rows) =
+    ap (λ (l : List (ℕ × Option Row)). (rid, Some (widened defaults row)) ∷ l) (each_at-widened defaults rids rows)
+
+-- there are as many
+pub length-widened : (defaults : List Value) (rows : List (ℕ × Option Row)) → length (all_widened defaults rows) ≡ length rows
+length-widened defaults rows = length-map rows (row_widened defaults)
+
+-- and of the same row numbers
+pub numbers-widened : (defaults : List Value) (rows : List (ℕ × Option Row))
+    → map (λ (found : ℕ × Option Row). found.0) (all_widened defaults rows) ≡ map (λ (found : ℕ × Option Row). found.0) rows
+numbers-widened defaults [] = refl
+numbers-widened defaults (row ∷ rows) = ap (λ (l : List ℕ). row.0 ∷ l) (numbers-widened defaults rows)
+
+-- the rows alone
+pub rows-widened : (defaults : List Value) (rows : List (ℕ × Option Row))
+    → map (λ (found : ℕ × Option Row). found.1) (all_widened defaults rows) ≡ map (option_map (widened defaults)) (map (λ (found : ℕ × Option Row). found.1) rows)
+rows-widened defaults [] = refl
+rows-widened defaults (row ∷ rows) = ap (λ (l : List (Option Row)). option_map (widened defaults) row.1 ∷ l) (rows-widened defaults rows)
+
+-- one behind another
+pub append-widened : (defaults : List Value) (rows others : List (ℕ × Option Row))
+    → all_widened defaults (rows ++ others) ≡ all_widened defaults rows ++ all_widened defaults others
+append-widened defaults rows others = map-append (row_widened defaults) rows others
+
+-- those of a piece, lengthened
+abbrev pub piece_widened : List Value → Piece → List (ℕ × Option Row)
+piece_widened defaults piece = all_widened defaults (in_piece piece)
+
+-- those of all pieces
+pub in_pieces-widened : (defaults : List Value) (pieces : List Piece)
+    → all_widened defaults (in_pieces pieces) ≡ flat_map (piece_widened defaults) pieces
+in_pieces-widened defaults [] = refl
+in_pieces-widened defaults (piece ∷ pieces) =
+    append-widened defaults (in_piece piece) (in_pieces pieces) ∙ ap (λ (l : List (ℕ × Option Row)). piece_widened defaults piece ++ l) (in_pieces-widened defaults pieces)
+
+pub length-map-widened : (defaults : List Value) (rids : List ℕ) (rows : List Row) → length rids ≡ length rows
+    → length rids ≡ length (map (widened defaults) rows)
+length-map-widened defaults rids rows same = same ∙ sym (length-map rows (widened defaults))

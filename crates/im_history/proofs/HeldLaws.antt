@@ -9,24 +9,26 @@ use Rattle.im_history.specs.declared.task.Held.{Held}
 use Rattle.im_history.specs.Commits.{scn}
 use Rattle.im_history.specs.History.{History}
 use Rattle.im_history.specs.Legal.{Exists, IsAllowed, IsLegal, MayBuild}
-use Rattle.im_history.specs.Tables.{given, table_at}
+use Rattle.im_history.specs.Tables.{given}
 use Rattle.im_history.specs.Transactions.{or_here}
-use Rattle.im_history.specs.Units.{Content, columns_of, content_at, held_at, killed_by, rows_of_extent, task_content, unit_row}
+use Rattle.im_history.specs.Units.{Content, columns_at, content_at, held_at, killed_by, rows_of_extent, task_content, unit_row}
 use Rattle.im_history.specs.Views.{per_at}
+use Rattle.im_history.proofs.ColumnLaws.{columns_at-now, columns_at-push}
 use Rattle.im_history.proofs.BuildLaws.{begun_at, held_at-build, held_at-cancel, held_at-nil, held_at-plain, held_at-switch}
 use Rattle.im_history.proofs.GivenLaws.{given-grows}
 use Rattle.im_history.proofs.GridLaws.{first_within}
 use Rattle.im_history.proofs.Laws.{IsLegal-pop, scn-push}
 use Rattle.im_history.proofs.NextLaws.{next-is}
 use Rattle.im_history.proofs.RowLaws.{each_history}
-use Rattle.im_history.proofs.TableLaws.{Exists-push, columns-push, per_at-push}
+use Rattle.im_history.proofs.TableLaws.{Exists-push, per_at-push}
 use Rattle.im_history.proofs.UnitLaws.{is_plain}
 
--- a build of an extent of a table that exists, whose first row number was given when it began
+-- a build of an extent of a table that exists, whose first row number was given when it began. It has the columns that the table had
+-- at its SCN
 pub record IsWithin (h : History) (held : Held) : Type 0 where
   pub exists : Exists h held.task.table
   pub per : held.task.per ≡ per_at h held.task.table
-  pub columns : held.task.columns ≡ columns_of (table_at h held.task.table)
+  pub columns : held.task.columns ≡ columns_at h held.task.table held.task.scn
   pub first : held.task.extent * held.task.per < held.given
   pub given : held.given ≤ given h held.task.table
   pub scn : held.task.scn ≤ scn h
@@ -35,7 +37,7 @@ IsWithin-push : (h : History) (entry : Entry) (held : Held) → IsWithin h held 
 IsWithin-push h entry held within = record {
   exists = Exists-push h entry held.task.table within.exists;
   per = within.per ∙ sym (per_at-push h entry held.task.table within.exists);
-  columns = within.columns ∙ sym (columns-push h entry held.task.table within.exists);
+  columns = within.columns ∙ sym (columns_at-push h entry held.task.table held.task.scn within.exists within.scn);
   first = within.first;
   given = let before = within.given in let more = given-grows h entry held.task.table in omega (arith, before, more);
   scn = let before = within.scn in let moved = scn-push h entry in omega (arith, before, moved);
@@ -57,7 +59,7 @@ IsWithin-begun h who id table extent trickle may =
     record {
       exists = known.exists;
       per = refl;
-      columns = refl;
+      columns = sym (columns_at-now h table (scn h) (omega arith));
       first = first_within (given h table) (per_at h table) extent known.within.within;
       given = omega arith;
       scn = omega arith;

@@ -3,7 +3,7 @@ use Rattle.std.proofs.Common.{◌≡◌, ℕ, Bool, false, List, [], Option, Non
 use Rattle.im_history.specs.declared.change.Change.{Change}
 use Rattle.im_history.specs.declared.entry.Mode.{Mode}
 use Rattle.im_history.specs.declared.entry.What.{What}
-use Rattle.im_history.specs.declared.entry.What.TheVariants.{Create, Memory, Begin, Open, Shut, Write, Commit, Rollback, Build, Cancel, Trickle, Evict}
+use Rattle.im_history.specs.declared.entry.What.TheVariants.{Create, Add, Memory, Begin, Open, Shut, Write, Commit, Rollback, Build, Cancel, Trickle, Evict}
 use Rattle.im_history.specs.declared.look.TableInfo.{TableInfo}
 use Rattle.im_history.specs.Commits.{committed_by}
 use Rattle.im_history.specs.Cursors.{Opened, opened_after}
@@ -19,6 +19,7 @@ use Rattle.im_history.specs.Weights.{weight_after}
 -- the SCN
 pub commits-nothing : (before : History) (who : ℕ) (what : What) → (scope_of what).clock ≡ false → committed_by before who what ≡ []
 commits-nothing before who (Create name schema grid) none = absurd (true≢false none)
+commits-nothing before who (Add table column default) none = absurd (true≢false none)
 commits-nothing before who Commit none = absurd (true≢false none)
 commits-nothing before who _ none = refl
 
@@ -36,6 +37,7 @@ touches-nothing-between table rid after to before so_far who _ none = refl
 -- the tables
 pub creates-nothing : (tables : List TableInfo) (what : What) → (scope_of what).tables ≡ false → created tables what ≡ tables
 creates-nothing tables (Create name schema grid) none = absurd (true≢false none)
+creates-nothing tables (Add table column default) none = absurd (true≢false none)
 creates-nothing tables (Memory table priority) none = absurd (true≢false none)
 creates-nothing tables _ none = refl
 

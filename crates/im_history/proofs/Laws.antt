@@ -5,13 +5,13 @@ use Rattle.im_values.specs.declared.limits.TheConstants.{NUMBERS}
 use Rattle.im_history.specs.declared.entry.Entry.{Entry}
 use Rattle.im_history.specs.declared.entry.Mode.TheVariants.{Committed}
 use Rattle.im_history.specs.declared.entry.What.{What}
-use Rattle.im_history.specs.declared.entry.What.TheVariants.{Create, Commit}
+use Rattle.im_history.specs.declared.entry.What.TheVariants.{Create, Add, Commit}
 use Rattle.im_history.specs.Commits.{commits, committed_by, scn, moves_clock}
 use Rattle.im_history.specs.declared.limits.Limits.{Limits}
 use Rattle.im_history.specs.Cursors.{opened, opened_after}
 use Rattle.im_history.specs.History.{History, replay}
 use Rattle.im_history.specs.Legal.{IsAllowed, IsLegal, IsLegalFrom, MayFollow}
-use Rattle.im_history.specs.Tables.{tables, created, given, given_after}
+use Rattle.im_history.specs.Tables.{tables, created, given, given_after, last_added, last_added_after}
 use Rattle.im_history.specs.Touched.{last_touch, touched_after}
 use Rattle.im_history.specs.Transactions.{pending, pending_after, begun, begun_after, mode, mode_after}
 use Rattle.im_history.specs.Weights.{weight, weight_after}
@@ -24,6 +24,11 @@ tables-push h entry = replay-push (λ before so_far e. created so_far e.what) []
 pub given-push : (h : History) (entry : Entry) (table : ℕ) → given (h ++ entry ∷ []) table ≡ given_after table (given h table) entry.what
 unfolding given
 given-push h entry table = replay-push (λ before so_far e. given_after table so_far e.what) 0 h entry
+
+pub last_added-push : (h : History) (entry : Entry) (table : ℕ)
+    → last_added (h ++ entry ∷ []) table ≡ last_added_after table (length h) (last_added h table) entry.what
+unfolding last_added
+last_added-push h entry table = replay-push (λ before so_far e. last_added_after table (length before) so_far e.what) 0 h entry
 
 pub pending-push : (h : History) (entry : Entry) (who : ℕ)
     → pending (h ++ entry ∷ []) who ≡ (if entry.who == who then pending_after (pending h who) entry.what else pending h who)
@@ -61,6 +66,7 @@ weight-push h entry = replay-push (λ before so_far e. weight_after so_far e.wha
 length-committed_by : (h : History) (who : ℕ) (what : What) → length (committed_by h who what) ≡ (if moves_clock what then 1 else 0)
 length-committed_by h who Commit = refl
 length-committed_by h who (Create name schema grid) = refl
+length-committed_by h who (Add table column default) = refl
 length-committed_by h who _ = refl
 
 pub scn-nil : scn [] ≡ 0

@@ -1,6 +1,9 @@
 mod MemoryLemmas
+mod EachTable
+pub mod AlteredLaws
 pub mod AreaLaws
 pub mod BuildLaws
+pub mod ColumnLaws
 pub mod ContentLaws
 pub mod ExtentLaws
 pub mod FetchedLaws

@@ -8,7 +8,7 @@ use Rattle.std.proofs.lemmas.List.Sums.{fold-append}
 use Rattle.im_history.specs.declared.change.Change.{Change}
 use Rattle.im_history.specs.declared.entry.Entry.{Entry}
 use Rattle.im_history.specs.declared.entry.What.{What}
-use Rattle.im_history.specs.declared.entry.What.TheVariants.{Create, Commit}
+use Rattle.im_history.specs.declared.entry.What.TheVariants.{Create, Add, Commit}
 use Rattle.im_history.specs.Commits.{commits, committed_by, scn, moves_clock}
 use Rattle.im_history.specs.History.{History}
 use Rattle.im_history.specs.Rows.{Row, rows, row_after}
@@ -65,6 +65,7 @@ rows_past h table n rid past =
 committed_by_quiet : (h : History) (who : ℕ) (what : What) → moves_clock what ≡ false → committed_by h who what ≡ []
 committed_by_quiet h who Commit quiet = absurd (false≢true (sym quiet))
 committed_by_quiet h who (Create name schema grid) quiet = absurd (false≢true (sym quiet))
+committed_by_quiet h who (Add table column default) quiet = absurd (false≢true (sym quiet))
 committed_by_quiet h who _ quiet = refl
 
 pub commits-push_quiet : (h : History) (entry : Entry) → moves_clock entry.what ≡ false → commits (h ++ entry ∷ []) ≡ commits h

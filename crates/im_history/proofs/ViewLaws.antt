@@ -1,46 +1,105 @@
--- In a legal history the view of an open cursor has the columns that its table has.
-use Rattle.std.proofs.Common.{◌≡◌, ℕ, ◌==◌, Bool, true, false, not, if◌then◌else◌, List, [], ◌∷◌, ◌++◌, All, Option, Some, None, refl, sym, ap, subst, ◌∙◌}
+-- In a legal history the view of an open cursor has the first columns that its table has.
+use Rattle.std.proofs.Common.{◌≡◌, ℕ, ◌==◌, ◌≤◌, Bool, true, false, not, if◌then◌else◌, List, [], ◌∷◌, ◌++◌, length, take, drop, All, Option, Some, None, sym, ap, subst, ◌∙◌, length-append, arith}
 use Rattle.std.specs.List.{find}
+use Rattle.std.proofs.lemmas.List.{take-append-drop, take-append-le, take_all}
 use Rattle.std.proofs.lemmas.List.Elements.{All-nil, All-cons, All-append, All-filter, All-head, All-tail, All-weaker}
 use Rattle.im_history.specs.declared.entry.Entry.{Entry}
+use Rattle.im_history.specs.declared.entry.Mode.{Mode}
+use Rattle.im_history.specs.declared.entry.Mode.TheVariants.{Committed, Serializable, ReadOnly}
 use Rattle.im_history.specs.declared.entry.What.{What}
-use Rattle.im_history.specs.declared.entry.What.TheVariants.{Open, Shut, Write}
+use Rattle.im_history.specs.declared.entry.What.TheVariants.{Open, Shut}
 use Rattle.im_history.specs.declared.limits.Limits.{Limits}
 use Rattle.im_history.specs.declared.look.TableInfo.{TableInfo}
 use Rattle.im_history.specs.declared.view.View.{View}
+use Rattle.im_history.specs.Columns.{columns_at, columns_of}
+use Rattle.im_history.specs.Commits.{commits, scn}
 use Rattle.im_history.specs.Cursors.{Opened, cursor_at, is_cursor, opened, opened_after}
 use Rattle.im_history.specs.History.{History, replay}
 use Rattle.im_history.specs.Legal.{Exists, IsAllowed, IsLegal}
-use Rattle.im_history.specs.Rows.{Row}
-use Rattle.im_history.specs.Serving.{shown_all}
+use Rattle.im_history.specs.Rows.{scn_at, snapshot, snapshot_under}
 use Rattle.im_history.specs.Tables.{table_at}
-use Rattle.im_history.specs.Views.{schema_of, view_at}
-use Rattle.im_history.proofs.Laws.{IsLegal-pop, opened-push}
-use Rattle.im_history.proofs.RowLaws.{each_history}
-use Rattle.im_history.proofs.TableLaws.{table-stays}
+use Rattle.im_history.specs.Transactions.{begun, mode}
+use Rattle.im_history.specs.Views.{defaults_of, schema_of, view_at}
+use Rattle.im_history.proofs.ColumnLaws.{columns_at-few, columns_at-push, defaults-long}
+use Rattle.im_history.proofs.Laws.{IsLegal-pop, opened-push, scn-push}
+use Rattle.im_history.proofs.RowLaws.{commits-append, each_history, each_longer}
+use Rattle.im_history.proofs.TableLaws.{new_columns, new_defaults, table-grows}
 
--- what a view shows of rows is the rows, since a table keeps its columns
-pub shown_all-same : (view : View) (rows : List (ℕ × Option Row)) → shown_all view rows ≡ rows
-shown_all-same view [] = refl
-shown_all-same view (row ∷ rows) = ap (λ (l : List (ℕ × Option Row)). row ∷ l) (shown_all-same view rows)
+-- a snapshot was reached
+scn_at-reached : (h : History) (place : ℕ) → scn_at h place ≤ scn h
+scn_at-reached h place =
+    let on = commits-append (take place h) (drop place h) in
+    let long = ap length on.is ∙ length-append (commits (take place h)) on.later in
+    subst (λ (l : History). scn (take place h) ≤ scn l) (take-append-drop place h) (omega (arith, long))
 
--- the table of a view exists, and has the columns that the view has
+under-reached : (h : History) (mode : Mode) (began : Option ℕ) → snapshot_under h mode began ≤ scn h
+under-reached h Committed began = omega arith
+under-reached h Serializable None = omega arith
+under-reached h Serializable (Some place) = scn_at-reached h place
+under-reached h ReadOnly None = omega arith
+under-reached h ReadOnly (Some place) = scn_at-reached h place
+
+pub snapshot-reached : (h : History) (who : ℕ) → snapshot h who ≤ scn h
+snapshot-reached h who = under-reached h (mode h who) (begun h who)
+
+-- the table of a view exists, and has the columns and the defaults that the view has before those that it got since. The view reads at an
+-- SCN that was reached, and has all columns that the table had there
 pub record HasColumns (h : History) (view : View) : Type 0 where
   pub made : TableInfo
   pub is : table_at h view.table ≡ Some made
-  pub columns : view.columns ≡ made.schema
+  pub columns : view.columns ≡ take (length view.columns) made.schema
+  pub defaults : view.defaults ≡ take (length view.columns) made.defaults
+  pub few : length view.columns ≤ length made.schema
+  pub enough : columns_at h view.table view.scn ≤ length view.columns
+  pub reached : view.scn ≤ scn h
 
 -- an opening fixes the columns that the table has
 pub HasColumns-view : (h : History) (who table : ℕ) → Exists h table → HasColumns h (view_at h who table)
-HasColumns-view h who table exists = record { made = exists.made; is = exists.is; columns = ap schema_of exists.is }
+HasColumns-view h who table exists =
+    let wide : schema_of (table_at h table) ≡ exists.made.schema = ap schema_of exists.is in
+    let width : columns_of (table_at h table) ≡ length exists.made.schema = ap length wide in
+    let long = defaults-long h table exists.made exists.is in
+    let few = columns_at-few h table (snapshot h who) in
+    record {
+      made = exists.made;
+      is = exists.is;
+      columns = wide ∙ sym (take_all (columns_of (table_at h table)) exists.made.schema (omega (arith, width)));
+      defaults = ap defaults_of exists.is ∙ sym (take_all (columns_of (table_at h table)) exists.made.defaults (omega (arith, width, long)));
+      few = omega (arith, width);
+      enough = few;
+      reached = snapshot-reached h who;
+    }
 
 -- and it goes on to have them
 pub HasColumns-push : (h : History) (entry : Entry) (view : View) → HasColumns h view → HasColumns (h ++ entry ∷ []) view
 HasColumns-push h entry view has =
-    let now = table-stays h entry view.table (record { made = has.made; is = has.is }) in
-    record { made = now.info; is = now.is; columns = has.columns ∙ sym now.schema }
+    let exists : Exists h view.table = record { made = has.made; is = has.is } in
+    let now = table-grows h entry view.table exists in
+    let few = has.few in
+    let long = defaults-long h view.table has.made has.is in
+    let moved = scn-push h entry in
+    let longer = ap length now.schema ∙ length-append has.made.schema (new_columns view.table entry.what) in
+    let reached = has.reached in
+    record {
+      made = now.info;
+      is = now.is;
+      columns =
+          has.columns
+          ∙ (sym (take-append-le (length view.columns) has.made.schema (new_columns view.table entry.what) few)
+          ∙ ap (take (length view.columns)) (sym now.schema));
+      defaults =
+          has.defaults
+          ∙ (sym (take-append-le (length view.columns) has.made.defaults (new_defaults view.table entry.what) (omega (arith, few, long)))
+          ∙ ap (take (length view.columns)) (sym now.defaults));
+      few = omega (arith, few, longer);
+      enough = rw (columns_at-push h entry view.table view.scn exists has.reached) has.enough;
+      reached = omega (arith, reached, moved);
+    }
 
--- the view of the cursor has the columns of its table
+pub HasColumns-longer : (h more : History) (view : View) → HasColumns h view → HasColumns (h ++ more) view
+HasColumns-longer h more view has = each_longer (λ (log : History). HasColumns log view) (λ log entry so_far. HasColumns-push log entry view so_far) h more has
+
+-- the view of the cursor has the first columns of its table
 abbrev Has : History → Opened → Type 0
 Has h o = HasColumns h o.view
 
@@ -86,7 +145,7 @@ found-has h cursor (o ∷ os) found all e = by (is_cursor cursor o) e (found-has
     by true e later = subst (Has h) (some e) (All-head (Has h) o os all)
     by false e later = later e
 
--- the view of an open cursor has the columns that its table has now
+-- the view of an open cursor has the first columns that its table has now
 pub cursor-columns : (limits : Limits) (h : History) (who cursor : ℕ) (found : Opened) → IsLegal limits h → cursor_at h who cursor ≡ Some found
     → HasColumns h found.view
 cursor-columns limits h who cursor found legal is = found-has h cursor (opened h who) found ((all_have limits h legal).each who) is

@@ -1,9 +1,9 @@
 -- What is read of row numbers, in pieces.
-use denote.Ref.{Bor}
 use Rattle.std.specs.Prelude.{◌≡◌, ℕ, ◌+◌, ◌^◌, ◌≤◌, List, [], ◌∷◌, length, map, Option, Some}
 use Rattle.std.specs.List.{flat_map}
-use Rattle.std.specs.Option.{option_copied}
+use Rattle.std.specs.Option.{option_map}
 use Rattle.im_values.specs.declared.content.Content.{Content as Value}
+use Rattle.im_values.specs.Widened.{widened}
 use Rattle.im_history.specs.declared.fetched.Piece.{Piece}
 use Rattle.im_history.specs.declared.fetched.Piece.TheVariants.{Run, Each, One}
 
@@ -28,13 +28,9 @@ in_piece (One rid row) = (rid, row) ∷ []
 abbrev pub in_pieces : List Piece → List (ℕ × Option (List Value))
 in_pieces pieces = flat_map in_piece pieces
 
--- a row number with the values of its row, or none, that are lent
-abbrev pub lent_row : ℕ × Option (Bor (List Value)) → ℕ × Option (List Value)
-lent_row lent = (lent.0, option_copied lent.1)
-
--- all of them
-abbrev pub lent_rows : List (ℕ × Option (Bor (List Value))) → List (ℕ × Option (List Value))
-lent_rows rows = map lent_row rows
+-- row numbers, each with its row or none, the rows with these defaults from their length on
+abbrev pub all_widened : List Value → List (ℕ × Option (List Value)) → List (ℕ × Option (List Value))
+all_widened defaults rows = map (λ row. (row.0, option_map (widened defaults) row.1)) rows
 
 -- the row numbers of a piece are numbers of 64 bits, one for each row
 abbrev pub HasNumbers : Piece → Type 0

@@ -1,7 +1,7 @@
 -- The kinds of entry, and what an entry of each may change of what a history tells.
 use Rattle.std.specs.Prelude.{Bool, true, false, is_none}
 use Rattle.im_history.specs.declared.entry.What.{What}
-use Rattle.im_history.specs.declared.entry.What.TheVariants.{Create, Memory, Begin, Open, Shut, Write, Commit, Rollback, Build, Switch, Cancel, Trickle, Evict, Leave}
+use Rattle.im_history.specs.declared.entry.What.TheVariants.{Create, Add, Memory, Begin, Open, Shut, Write, Commit, Rollback, Build, Switch, Cancel, Trickle, Evict, Leave}
 
 -- what an entry may change: where a field is false it changes nothing of that
 pub record Scope : Type 0 where
@@ -44,6 +44,7 @@ no_scope = record {
 -- what an entry of each kind may change
 abbrev pub scope_of : What → Scope
 scope_of (Create name schema grid) = record no_scope { clock = true; tables = true }
+scope_of (Add table column default) = record no_scope { clock = true; tables = true }
 scope_of (Memory table priority) = record no_scope { tables = true; takes_out = is_none priority }
 scope_of (Begin mode) = record no_scope { transaction = true }
 scope_of (Open cursor table) = record no_scope { cursors = true }

@@ -2,14 +2,15 @@
 use Rattle.std.specs.Prelude.{◌≡◌, ℕ, ◌+◌, ◌<◌, ◌≤◌, ◌⊎◌, true, false, IsTrue, Bool, List, [], ◌∷◌, ◌++◌, length, All, fold, Option, Some, None, is_some}
 use Rattle.std.specs.List.{AllAdjacentBelow, AllByRecursion}
 use Rattle.im_values.specs.declared.limits.TheConstants.{MOST_CHANGES, MOST_COLUMNS, MOST_WEIGHT, NUMBERS}
+use Rattle.im_values.specs.declared.content.Content.{Content as Value}
 use Rattle.im_values.specs.declared.schema.Column.{Column}
 use Rattle.im_values.specs.declared.schema.Kind.{Kind}
 use Rattle.im_values.specs.declared.schema.Kind.TheVariants as kind
-use Rattle.im_values.specs.Fits.{fits}
+use Rattle.im_values.specs.Fits.{fits, may_stand}
 use Rattle.im_history.specs.declared.change.Change.{Change}
 use Rattle.im_history.specs.declared.entry.Entry.{Entry}
 use Rattle.im_history.specs.declared.entry.What.{What}
-use Rattle.im_history.specs.declared.entry.What.TheVariants.{Create, Memory, Begin, Open, Shut, Write, Commit, Rollback, Build, Switch, Cancel, Trickle, Evict, Leave}
+use Rattle.im_history.specs.declared.entry.What.TheVariants.{Create, Add, Memory, Begin, Open, Shut, Write, Commit, Rollback, Build, Switch, Cancel, Trickle, Evict, Leave}
 use Rattle.im_history.specs.declared.limits.Limits.{Limits}
 use Rattle.im_history.specs.declared.look.TableInfo.{TableInfo}
 use Rattle.im_history.specs.declared.task.Held.{Held}
@@ -20,7 +21,7 @@ use Rattle.im_history.specs.History.{History}
 use Rattle.im_history.specs.Leaves.{has_left}
 pub use Rattle.im_history.specs.Puts.{put_from}
 use Rattle.im_history.specs.Queue.{next}
-use Rattle.im_history.specs.Refusals.{create_refusal, begin_refusal, open_refusal, insert_refusal, write_refusal}
+use Rattle.im_history.specs.Refusals.{create_refusal, add_refusal, begin_refusal, open_refusal, insert_refusal, write_refusal}
 use Rattle.im_history.specs.Rows.{Row, row_after}
 use Rattle.im_history.specs.Tables.{table_at, given}
 use Rattle.im_history.specs.Transactions.{is_open, pending}
@@ -49,6 +50,15 @@ pub record MayCreate (history : History) (who : ℕ) (name : List ℕ) (schema :
 pub record Exists (history : History) (table : ℕ) : Type 0 where
   pub made : TableInfo
   pub is : table_at history table ≡ Some made
+
+-- a table may get one more column: it exists, the session has no open transaction, nothing refuses the column, and the column takes
+-- the default, and no texts that are too long
+pub record MayAdd (history : History) (who table : ℕ) (column : Column) (default : Value) : Type 0 where
+  pub exists : Exists history table
+  pub idle : is_open history who ≡ false
+  pub allowed : add_refusal history table column.name ≡ None
+  pub fits : IsTrue (may_stand column.kind default)
+  pub narrow : text_limit column.kind ≤ 65535
 
 -- a cursor may be opened: its table exists, and nothing refuses it
 pub record MayOpen (history : History) (who cursor table : ℕ) : Type 0 where
@@ -144,6 +154,7 @@ pub record MayLeave (history : History) (who : ℕ) : Type 0 where
 -- the entry is allowed after this history
 abbrev pub IsAllowed : Limits → History → ℕ → What → Type 0
 IsAllowed limits history who (Create name schema grid) = MayCreate history who name schema grid
+IsAllowed limits history who (Add table column default) = MayAdd history who table column default
 IsAllowed limits history who (Begin mode) = begin_refusal history who ≡ None
 IsAllowed limits history who (Open cursor table) = MayOpen history who cursor table
 IsAllowed limits history who (Shut cursor) = IsTrue (is_cursor_open history who cursor)

@@ -1,4 +1,5 @@
 pub mod Area
+pub mod Columns
 pub mod Commits
 pub mod Contents
 pub mod Cursors

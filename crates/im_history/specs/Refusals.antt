@@ -1,19 +1,24 @@
 -- Why a call of the store is refused: each cause by itself, and the first that applies.
-use Rattle.std.specs.Prelude.{ℕ, ◌-◌, ◌&&◌, Bool, true, false, not, nat_lt, List, [], ◌∷◌, length, Option, Some, None, is_none}
+use Rattle.std.specs.Prelude.{ℕ, ◌-◌, ◌==◌, ◌&&◌, Bool, true, false, not, nat_eq, nat_lt, List, [], ◌∷◌, length, Option, Some, None, is_none}
+use Rattle.std.specs.Cmp.Lexicographic.{pointwise}
+use Rattle.std.specs.List.{list_any}
 use Rattle.std.specs.Option.{option_map, option_or}
-use Rattle.im_values.specs.declared.limits.TheConstants.{MOST_CURSORS, MOST_TABLES}
+use Rattle.im_values.specs.declared.schema.Column.{Column}
+use Rattle.im_values.specs.declared.limits.TheConstants.{MOST_COLUMNS, MOST_CURSORS, MOST_TABLES}
 use Rattle.im_history.specs.declared.change.Change.{Change}
 use Rattle.im_history.specs.declared.entry.Mode.{Mode}
 use Rattle.im_history.specs.declared.entry.Mode.TheVariants as mode
 use Rattle.im_history.specs.declared.limits.Limits.{Limits}
 use Rattle.im_history.specs.declared.refused.Why.{Why}
-use Rattle.im_history.specs.declared.refused.Why.TheVariants.{TableExists, TooManyTables, TransactionOpen, ReadOnly, CursorOpen, TooManyCursors, RowLocked, Serialize, TooManyChanges, StoreFull, NoUnit}
+use Rattle.im_history.specs.declared.refused.Why.TheVariants.{TableExists, TooManyTables, ColumnExists, TooManyColumns, Altered, TransactionOpen, ReadOnly, CursorOpen, TooManyCursors, RowLocked, Serialize, TooManyChanges, StoreFull, NoUnit}
+use Rattle.im_history.specs.Columns.{columns_of}
 use Rattle.im_history.specs.Cursors.{is_cursor_open, is_own, cursors_open}
 use Rattle.im_history.specs.History.{History}
-use Rattle.im_history.specs.Tables.{tables, table_named}
+use Rattle.im_history.specs.Tables.{last_added, tables, table_at, table_named}
 use Rattle.im_history.specs.Touched.{holder, last_touch}
 use Rattle.im_history.specs.Transactions.{mode as mode_of, begun, pending}
 use Rattle.im_history.specs.Units.{unit}
+use Rattle.im_history.specs.Views.{schema_of}
 use Rattle.im_history.specs.Weights.{weight, changes_weight}
 
 -- the first cause that an element of a list has
@@ -85,6 +90,20 @@ abbrev pub create_refusal : History → List ℕ → Option Why
 create_refusal history name =
     option_or (option_map (λ table. TableExists table) (table_named history name))
     (when (not (nat_lt (length (tables history)) MOST_TABLES)) TooManyTables)
+
+-- a column has this name
+abbrev pub is_column : List ℕ → Column → Bool
+is_column name column = pointwise nat_eq name column.name
+
+-- what refuses one more column of a table: a column has the name, or there is no room for one more
+abbrev pub add_refusal : History → ℕ → List ℕ → Option Why
+add_refusal history table name =
+    option_or (when (list_any (is_column name) (schema_of (table_at history table))) ColumnExists)
+    (when (not (nat_lt (columns_of (table_at history table)) MOST_COLUMNS)) TooManyColumns)
+
+-- what refuses whoever saw the table with another number of columns: it got columns since, the last of them there
+abbrev pub altered : History → ℕ → ℕ → Option Why
+altered history table columns = when (not (columns_of (table_at history table) == columns)) (Altered (last_added history table))
 
 -- what refuses the beginning of a transaction: one is open, and began there
 abbrev pub begin_refusal : History → ℕ → Option Why

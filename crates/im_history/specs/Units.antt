@@ -4,23 +4,21 @@ use Rattle.std.specs.List.{find, range_with_len}
 use Rattle.std.specs.Option.{option_map}
 use Rattle.im_history.specs.declared.entry.What.{What}
 use Rattle.im_history.specs.declared.entry.What.TheVariants.{Memory, Commit, Build, Switch, Cancel, Evict}
-use Rattle.im_history.specs.declared.look.TableInfo.{TableInfo}
 use Rattle.im_history.specs.declared.task.Held.{Held}
 use Rattle.im_history.specs.declared.task.Task.{Task}
 use Rattle.im_history.specs.declared.view.Opening.{Opening}
+use Rattle.im_values.specs.Widened.{widened}
+pub use Rattle.im_history.specs.Columns.{columns_of, columns_at}
+use Rattle.im_history.specs.Columns.{defaults_at}
 use Rattle.im_history.specs.Commits.{scn}
 use Rattle.im_history.specs.History.{History, replay}
 use Rattle.im_history.specs.Rows.{Row, rows}
 use Rattle.im_history.specs.Tables.{table_at, given}
 use Rattle.im_history.specs.Touched.{touches}
 use Rattle.im_history.specs.Transactions.{or_here, pending}
-use Rattle.im_history.specs.Views.{per_at, schema_of}
+use Rattle.im_history.specs.Views.{per_at}
 
 -- ---- builds
-
--- how many columns a table has
-abbrev pub columns_of : Option TableInfo → ℕ
-columns_of table = length (schema_of table)
 
 -- a table that is to be opened, with the columns that it has after this history
 abbrev pub opening_at : History → ℕ → Opening
@@ -153,13 +151,10 @@ pub record Content : Type 0 where
   pub columns : ℕ
   pub rows : List (Option Row)
 
--- how many columns a unit of a table at an SCN has: a table keeps its columns
-abbrev pub columns_at : History → ℕ → ℕ → ℕ
-columns_at history table unit_scn = columns_of (table_at history table)
-
--- the row that a unit of a table at an SCN holds at a row number: as it was committed
+-- the row that a unit of a table at an SCN holds at a row number: as it was committed, with the defaults of the columns that the
+-- table had got since
 abbrev pub unit_row : History → ℕ → ℕ → ℕ → Option Row
-unit_row history table unit_scn = rows history table unit_scn
+unit_row history table unit_scn rid = option_map (widened (defaults_at history table unit_scn)) (rows history table unit_scn rid)
 
 -- what the unit of an extent at an SCN holds
 abbrev pub content_at : History → ℕ → ℕ → ℕ → Content

@@ -1,6 +1,9 @@
 -- What an opening of a cursor sees, from then on.
 use Rattle.std.specs.Prelude.{ℕ, List, [], length, Option, Some, None}
+use Rattle.std.specs.Option.{option_map}
+use Rattle.im_values.specs.declared.content.Content.{Content as Value}
 use Rattle.im_values.specs.declared.schema.Column.{Column}
+use Rattle.im_values.specs.Widened.{widened}
 use Rattle.im_history.specs.declared.look.Look.{Look}
 use Rattle.im_history.specs.declared.look.TableInfo.{TableInfo}
 use Rattle.im_history.specs.declared.view.View.{View}
@@ -25,8 +28,14 @@ abbrev pub schema_of : Option TableInfo → List Column
 schema_of None = []
 schema_of (Some table) = table.schema
 
+-- their defaults: what a row that was written before a column was there has in it
+abbrev pub defaults_of : Option TableInfo → List Value
+defaults_of None = []
+defaults_of (Some table) = table.defaults
+
 -- the view of a table that an opening by this session has after this history: it reads at the session's snapshot, changed by
--- the changes that the session has pending, and knows the row numbers given so far and the columns that the table has
+-- the changes that the session has pending, and knows the row numbers given so far, and the columns that the table has with
+-- their defaults
 abbrev pub view_at : History → ℕ → ℕ → View
 view_at history who table = record {
   place = length history;
@@ -36,6 +45,7 @@ view_at history who table = record {
   per = per_at history table;
   extents = extents_for (given history table) (per_at history table);
   columns = schema_of (table_at history table);
+  defaults = defaults_of (table_at history table);
   own = own_changes history who table;
 }
 
@@ -49,9 +59,9 @@ look_at history who = record {
   tables = tables history;
 }
 
--- a row as a view shows it: a table keeps its columns, so as it stands
+-- a row as a view shows it: where it was written before the last of the view's columns were there, it has their defaults
 abbrev pub shown : View → Option Row → Option Row
-shown view row = row
+shown view row = option_map (widened view.defaults) row
 
 -- the row that a view sees at a row number
 abbrev pub seen_by : History → View → ℕ → Option Row

@@ -3,7 +3,7 @@ ghost use Rattle.im_history.specs.Commits.{moves_clock};
 
 use crate::changes::Changes;
 use crate::shape::Shape;
-use im_values::{Name, Priority, Schema};
+use im_values::{Column, Name, Priority, Schema, Value};
 
 /// The isolation of a transaction.
 #[derive(Clone, Copy)]
@@ -24,6 +24,12 @@ pub enum What {
         name: Name,
         schema: Schema,
         shape: Shape,
+    },
+    /// A table got one more column, behind those that it had. The rows that were written before have the default in it.
+    Add {
+        table: u32,
+        column: Column,
+        default: Value,
     },
     /// A table joined the column store or changed its priority, or left it where no priority is given.
     Memory {
@@ -85,7 +91,7 @@ impl What {
     pub fn moves_clock(&self) -> bool
         ensures { result ≡ moves_clock self.now }
     {
-        matches!(self, What::Commit | What::Create { .. })
+        matches!(self, What::Commit | What::Create { .. } | What::Add { .. })
     }
 }
 

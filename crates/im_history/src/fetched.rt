@@ -1,4 +1,4 @@
-ghost use Rattle.std.specs.Prelude.{◌≡◌, ◌+◌, ◌^◌, ◌≤◌, ◌++◌, ◌==◌, [], ◌∷◌, All, length, map, option_copied, IfOk, OnOk, OnErr, Some};
+ghost use Rattle.std.specs.Prelude.{◌≡◌, ◌+◌, ◌^◌, ◌≤◌, ◌++◌, ◌==◌, [], ◌∷◌, All, length, option_copied, IfOk, OnOk, OnErr};
 ghost use Rattle.im_history.specs.Fetched as spec;
 
 use im_values::{NoMemory, Row, Rows, Value};
@@ -16,10 +16,7 @@ pub enum Piece {
     One(u64, Option<Row>),
 }
 
-/// What was read of a row number, lent: the number, and the values of its row, or none.
-pub type LentRow<'a> = (u64, Option<&'a [Value]>);
-
-/// What was read of row numbers: of each the row, or none.
+/// What was read of row numbers: of each the row as it was written, or none.
 ///
 /// Contracts see the list. Rows that lie together are kept together, and take no handle of their own.
 #[derive(Drop)]
@@ -101,28 +98,13 @@ impl Fetched {
         self.len == 0
     }
 
-    /// Each row number with the values of its row, or none: no row is shared or copied. It costs a place for each.
-    pub fn lent(&self, alloc: Global) -> Result<Vec<LentRow<'_>>, NoMemory>
-        ensures { IfOk result (λ rows. spec.lent_rows rows.items ≡ self.now) }
-    {
-        let mut rows = Vec::with_capacity(alloc, self.len as usize)?;
-        for piece in self.pieces.as_slice() {
-            lend_piece(&mut rows, piece)?;
-        }
-        Ok(rows)
-    }
-
-    /// The rows, or none, without their numbers. A row that was kept with others is shared; it is refused where as many share
-    /// one as can.
-    pub fn into_rows(self, alloc: Global) -> Result<Vec<Option<Row>>, NoMemory>
-        ensures { IfOk result (λ rows. rows.items ≡ map (λ found. found.1) self) }
+    /// The pieces alone, in order.
+    pub fn into_pieces(self) -> Vec<Piece>
+        ensures pieces { spec.in_pieces result.items ≡ self }
+        ensures numbers { All spec.HasNumbers result.items }
     {
         let Fetched { pieces, len: _ } = self;
-        let mut rows = Vec::new(alloc);
-        for piece in pieces {
-            put_piece(&mut rows, piece)?;
-        }
-        Ok(rows)
+        pieces
     }
 
     /// The pieces, in order.
@@ -142,68 +124,6 @@ pub fn lent_values(row: &Option<Row>) -> Option<&[Value]>
         Some(row) => Some(row.values()),
         None => None,
     }
-}
-
-/// Puts the rows of a piece behind others, lent.
-fn lend_piece<'a>(rows: &mut Vec<LentRow<'a>>, piece: &'a Piece) -> Result<(), NoMemory>
-    requires { spec.HasNumbers piece.now }
-    ensures { OnOk result (spec.lent_rows rows.new.items ≡ spec.lent_rows rows.old.items ++ spec.in_piece piece.now) }
-{
-    match piece {
-        Piece::Run(first, run) => lend_run(rows, *first, run),
-        Piece::Each(rids, block) => lend_each(rows, rids.as_slice(), block),
-        Piece::One(rid, row) => {
-            rows.push((*rid, lent_values(row)))?;
-            Ok(())
-        }
-    }
-}
-
-/// Puts the rows of a run behind others, lent.
-fn lend_run<'a>(rows: &mut Vec<LentRow<'a>>, first: u64, run: &'a Rows) -> Result<(), NoMemory>
-    requires { first + length run.now ≤ 2 ^ 63 }
-    ensures { OnOk result (spec.lent_rows rows.new.items ≡ spec.lent_rows rows.old.items ++ spec.run_from first run.now) }
-{
-    for at in 0..run.len() {
-        rows.push((first + at as u64, Some(run.values(at))))?;
-    }
-    Ok(())
-}
-
-/// Puts rows behind others, lent, each with its own row number.
-fn lend_each<'a>(rows: &mut Vec<LentRow<'a>>, rids: &[u64], block: &'a Rows) -> Result<(), NoMemory>
-    requires { length rids.now ≡ length block.now }
-    ensures { OnOk result (spec.lent_rows rows.new.items ≡ spec.lent_rows rows.old.items ++ spec.each_at rids.now block.now) }
-{
-    for at in 0..block.len() {
-        rows.push((rids[at], Some(block.values(at))))?;
-    }
-    Ok(())
-}
-
-/// Puts the rows of a piece behind others.
-fn put_piece(rows: &mut Vec<Option<Row>>, piece: Piece) -> Result<(), NoMemory>
-    requires { spec.HasNumbers piece }
-    ensures { OnOk result (rows.new.items ≡ rows.old.items ++ map (λ found. found.1) (spec.in_piece piece)) }
-{
-    match piece {
-        Piece::Run(_, run) => put_run(rows, &run),
-        Piece::Each(_rids, run) => put_run(rows, &run),
-        Piece::One(_, row) => {
-            rows.push(row)?;
-            Ok(())
-        }
-    }
-}
-
-/// Puts the rows of a run behind others.
-fn put_run(rows: &mut Vec<Option<Row>>, run: &Rows) -> Result<(), NoMemory>
-    ensures { OnOk result (rows.new.items ≡ rows.old.items ++ map (λ row. Some row) run.now) }
-{
-    for at in 0..run.len() {
-        rows.push(Some(run.row(at)?))?;
-    }
-    Ok(())
 }
 
 /// So many row numbers and these more. More than 64 bits count have no room in memory.

@@ -1,10 +1,11 @@
 //! The history of a store: the list of all that happened to it, oldest first.
 //!
 //! Everything else is read from this list. `specs/History.antt` says how: a history is replayed from its oldest entry
-//! on. The tables and given row numbers are in `specs/Tables.antt`, the pending changes and transactions of sessions in
-//! `specs/Transactions.antt`, the commits and the SCN in `specs/Commits.antt`, the rows committed at an SCN and the rows
-//! that a statement sees in `specs/Rows.antt`, what the last change to each row left in `specs/Last.antt`, the open cursors
-//! in `specs/Cursors.antt`, and which histories a store may have in `specs/Legal.antt`. `proofs/Laws.antt` has the law of
+//! on. The tables and given row numbers are in `specs/Tables.antt`, the columns that a table had at an SCN in
+//! `specs/Columns.antt`, the pending changes and transactions of sessions in `specs/Transactions.antt`, the commits and
+//! the SCN in `specs/Commits.antt`, the rows committed at an SCN and the rows that a statement sees in
+//! `specs/Rows.antt`, what the last change to each row left in `specs/Last.antt`, the open cursors in
+//! `specs/Cursors.antt`, and which histories a store may have in `specs/Legal.antt`. `proofs/Laws.antt` has the law of
 //! each for one more entry.
 //!
 //! Contracts see a [`History`] as its entries and its spare room. [`History::append`] adds one entry at the end.
@@ -22,6 +23,7 @@ mod look;
 mod own;
 mod refused;
 mod shape;
+mod shown;
 mod stored;
 mod task;
 mod unit;
@@ -32,7 +34,7 @@ pub use change::Change;
 pub use changes::{Changes, LentChange, LentPut};
 pub use cursors::{OWN_CURSOR, is_own};
 pub use entry::{Entry, Mode, What};
-pub use fetched::{Fetched, LentRow, Piece, lent_values};
+pub use fetched::{Fetched, Piece, lent_values};
 pub use im_values::Priority;
 pub use last::LastRows;
 pub use limits::Limits;
@@ -40,6 +42,7 @@ pub use look::{Catalog, Look, SharedTable, TableInfo};
 pub use own::OwnChanges;
 pub use refused::{Refused, Why};
 pub use shape::Shape;
+pub use shown::{LentRow, Lying, ShownRows, wide_values};
 pub use stored::History;
 pub use task::{Choice, Held, Task};
 pub use unit::UnitLike;

@@ -1,12 +1,14 @@
-ghost use Rattle.std.specs.Prelude.{◌≡◌, ◌<◌, ◌≤◌, [], ◌∷◌, ◌++◌, length, IfOk, IfSome, OnOk};
-ghost use Rattle.std.specs.List.{position};
-ghost use Rattle.im_history.specs.Tables.{is_named, number_among, remembered, table_among};
-ghost use Rattle.im_history.specs.Units.{columns_of};
+ghost use Rattle.std.specs.Prelude.{◌≡◌, ◌<◌, ◌≤◌, [], ◌∷◌, ◌++◌, length, IfOk, IfSome, OnOk, Some};
+ghost use Rattle.std.specs.List.{list_any, position};
+ghost use Rattle.im_history.specs.Columns.{columns_of};
+ghost use Rattle.im_history.specs.Refusals.{is_column};
+ghost use Rattle.im_history.specs.Views.{schema_of};
+ghost use Rattle.im_history.specs.Tables.{is_named, lengthened, longer_by, new_table, nulls, number_among, remembered, table_among};
 
 use crate::entry::Mode;
 use crate::shape::Shape;
-use im_values::limits::MOST_TABLES;
-use im_values::{Name, NoMemory, Priority, Schema};
+use im_values::limits::{MOST_COLUMNS, MOST_TABLES};
+use im_values::{Column, Name, NoMemory, Priority, Row, Schema, Value, clone_row};
 use std::alloc::Global;
 use std::marker::Model;
 use std::sync::Arc;
@@ -19,9 +21,49 @@ pub struct TableInfo {
     pub shape: Shape,
     /// How soon its extents are populated in memory, or None where the table is not in the column store.
     pub memory: Option<Priority>,
+    /// The default of each column: what a row that was written before the column was there has in it. Shared.
+    pub defaults: Row,
 }
 
 impl TableInfo {
+    /// A table as it is created: outside the column store, and the default of each column is NULL.
+    pub fn new(
+        alloc: Global,
+        name: Name,
+        schema: Schema,
+        shape: Shape,
+    ) -> Result<TableInfo, NoMemory>
+        ensures { IfOk result (λ table. table ≡ new_table name schema shape) }
+    {
+        let defaults = nulls_for(alloc, &schema)?;
+        Ok(TableInfo {
+            name,
+            schema,
+            shape,
+            memory: None,
+            defaults,
+        })
+    }
+
+    /// The same with one column more, and its default. It copies the columns and the defaults.
+    fn with_column(
+        &self,
+        alloc: Global,
+        column: &Column,
+        default: &Value,
+    ) -> Result<TableInfo, NoMemory>
+        requires { length self.now.schema < MOST_COLUMNS }
+        ensures { IfOk result (λ table. table ≡ longer_by column.now default.now self.now) }
+    {
+        Ok(TableInfo {
+            name: self.name.copy(alloc)?,
+            schema: self.schema.with(alloc, column)?,
+            shape: self.shape,
+            memory: self.memory,
+            defaults: self.defaults.with(alloc, default)?,
+        })
+    }
+
     /// The same with this priority in the column store, or outside it where none is given.
     fn with_memory(&self, alloc: Global, memory: Option<Priority>) -> Result<TableInfo, NoMemory>
         ensures { IfOk result (λ table. table ≡ record self.now { memory = memory }) }
@@ -31,6 +73,7 @@ impl TableInfo {
             schema: self.schema.share()?,
             shape: self.shape,
             memory,
+            defaults: clone_row(alloc, &self.defaults)?,
         })
     }
 }
@@ -146,6 +189,19 @@ impl Catalog {
         }
     }
 
+    /// Whether a column of the table of a number has this name; where there is no table, none has.
+    pub fn has_column(&self, table: u32, name: &[u8]) -> bool
+        ensures { result ≡ list_any (is_column name.now) (schema_of (table_among self.now table)) }
+    {
+        if table == 0 {
+            return false;
+        }
+        match self.tables().get(table as usize - 1) {
+            Some(table) => any_named(table.info().schema.columns(), name),
+            None => false,
+        }
+    }
+
     /// A list of these tables, which it shares, and one more.
     pub fn with(&self, alloc: Global, table: TableInfo) -> Result<Catalog, NoMemory>
         requires { length self.now < MOST_TABLES }
@@ -153,6 +209,24 @@ impl Catalog {
     {
         let mut tables = shared(alloc, self.tables())?;
         tables.push(SharedTable::of(alloc, table)?)?;
+        Ok(Catalog {
+            tables: Arc::new(alloc, tables)?,
+        })
+    }
+
+    /// A list of these tables, the one of this number having got a column with its default. It copies that one, and shares the others.
+    pub fn with_column(
+        &self,
+        alloc: Global,
+        table: u32,
+        column: &Column,
+        default: &Value,
+    ) -> Result<Catalog, NoMemory>
+        requires { columns_of (table_among self.now table) < MOST_COLUMNS }
+        ensures { IfOk result (λ catalog. catalog ≡ lengthened table column.now default.now self.now) }
+    {
+        let mut tables = shared(alloc, self.tables())?;
+        lengthen(alloc, tables.as_mut_slice(), table, column, default)?;
         Ok(Catalog {
             tables: Arc::new(alloc, tables)?,
         })
@@ -187,6 +261,37 @@ fn shared(alloc: Global, tables: &[SharedTable]) -> Result<Vec<SharedTable>, NoM
     Ok(copies)
 }
 
+/// A NULL for each column.
+fn nulls_for(alloc: Global, schema: &Schema) -> Result<Row, NoMemory>
+    ensures { IfOk result (λ row. row ≡ nulls schema.now) }
+{
+    let columns = schema.columns();
+    let mut values = Vec::with_capacity(alloc, columns.len())?;
+    for _column in columns {
+        values.push(Value::null())?;
+    }
+    Row::shared(alloc, values)
+}
+
+/// Gives the table of a number one more column with its default.
+fn lengthen(
+    alloc: Global,
+    tables: &mut [SharedTable],
+    table: u32,
+    column: &Column,
+    default: &Value,
+) -> Result<(), NoMemory>
+    requires { columns_of (table_among tables.old table) < MOST_COLUMNS }
+    ensures { OnOk result (tables.new ≡ lengthened table column.now default.now tables.old) }
+{
+    if table > 0 && table as usize <= tables.len() {
+        let place = table as usize - 1;
+        let info = tables[place].info().with_column(alloc, column, default)?;
+        tables[place] = SharedTable::of(alloc, info)?;
+    }
+    Ok(())
+}
+
 /// Lets the table of a number join the column store with a priority, or leave it.
 fn remember(
     alloc: Global,
@@ -202,6 +307,13 @@ fn remember(
         tables[place] = SharedTable::of(alloc, info)?;
     }
     Ok(())
+}
+
+/// Whether one of these columns has this name.
+fn any_named(columns: &[Column], name: &[u8]) -> bool
+    ensures { result ≡ list_any (is_column name.now) columns.now }
+{
+    columns.iter().any(|column| name == column.name.bytes())
 }
 
 /// The place of the first table of this name.

@@ -5,6 +5,12 @@ pub enum Why {
     TableExists { table: u32 },
     /// There are [`MOST_TABLES`](im_values::limits::MOST_TABLES) tables.
     TooManyTables,
+    /// A column of the table has the name already.
+    ColumnExists,
+    /// The table has [`MOST_COLUMNS`](im_values::limits::MOST_COLUMNS) columns.
+    TooManyColumns,
+    /// The table has more columns than the caller saw; it got the last one at this place.
+    Altered { place: u64 },
     /// The session has an open transaction, which began at this place.
     TransactionOpen { place: u64 },
     /// The session's transaction is READ ONLY.

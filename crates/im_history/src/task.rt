@@ -12,7 +12,7 @@ pub struct Task {
     pub scn: u64,
     /// How many row numbers are in an extent of the table.
     pub per: u64,
-    /// How many columns the table has.
+    /// How many columns the table had at that SCN: so many has the unit.
     pub columns: u32,
     /// Whether one of the allowed trickle repopulations is spent on it.
     pub trickle: bool,

@@ -11,6 +11,10 @@ pub trait UnitLike: Drop {
     fn scn(&self) -> u64
         ensures { result ≡ (content self.now).scn };
 
+    /// How many columns it has. It takes no memory.
+    fn columns(&self) -> u32
+        ensures { result ≡ (content self.now).columns };
+
     /// The bytes that it counts for: those of its columns, and a bit for each row number. It takes no memory.
     fn bytes(&self) -> u64
         ensures { result ≡ unit_bytes (content self.now) };

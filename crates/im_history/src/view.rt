@@ -1,5 +1,5 @@
 use crate::own::OwnChanges;
-use im_values::Schema;
+use im_values::{Row, Schema};
 
 /// What is to be opened, or written to, as the caller saw it.
 #[derive(Clone, Copy)]
@@ -25,8 +25,10 @@ pub struct View {
     pub per: u64,
     /// How many extents the row numbers fill, the last one in part perhaps.
     pub extents: u64,
-    /// The columns of the table, shared.
+    /// The columns that the table had at the opening, shared.
     pub columns: Schema,
+    /// Their defaults: what a row that was written before a column was there has in it. Shared.
+    pub defaults: Row,
     /// The changes to the table that the session had pending.
     pub own: OwnChanges,
 }

@@ -16,7 +16,7 @@ use Rattle.im_syntax.specs.Tuples.{lit_of, written, is_proper, AreProper}
 use Rattle.im_syntax.proofs.EvenLemmas.{both}
 use Rattle.im_names.specs.Faults.{first_fault, Passes}
 use Rattle.im_names.specs.Literals.{value_of, stored}
-use Rattle.im_names.specs.Rows.{stored_fault, tuple_fault, count_fault, source, taken, row_of, rows_of, insert_fault}
+use Rattle.im_names.specs.Rows.{stored_fault, tuple_fault, count_fault, source, value_in, row_of, rows_of, insert_fault}
 use Rattle.im_names.specs.inner.FittingLiterals.{literal_fits}
 use Rattle.im_names.proofs.Fitting.{fits_stored}
 use Rattle.im_names.proofs.TargetLemmas.{source_inside, drop_at}
@@ -70,16 +70,18 @@ long [] (c ∷ cs) e = absurd cc
 long (v ∷ vs) [] e = absurd cc
 long (v ∷ vs) (c ∷ cs) e = ap suc (long vs cs (both (may_stand c.kind v) (fits vs cs) e).1)
 
-taken_rest : (width : ℕ) (row rest : List Value) (i n : ℕ) → i + n ≡ width → drop i row ≡ rest → length rest ≡ n → list_all is_proper rest ≡ true
-    → map (taken (map lit_of row)) (map (source (range_with_len 0 width)) (range_with_len i n)) ≡ rest
-taken_rest width row [] i zero sum is many proper = refl
-taken_rest width row [] i (suc n) sum is many proper = absurd (omega (arith, many))
-taken_rest width row (v ∷ vs) i zero sum is many proper = absurd (omega (arith, many))
-taken_rest width row (v ∷ vs) i (suc n) sum is many proper =
+-- each column takes its value from the tuple, and none its default
+taken_rest : (defaults : List Value) (width : ℕ) (row rest : List Value) (i n : ℕ) → i + n ≡ width → drop i row ≡ rest → length rest ≡ n
+    → list_all is_proper rest ≡ true
+    → map (value_in defaults (range_with_len 0 width) (map lit_of row)) (range_with_len i n) ≡ rest
+taken_rest defaults width row [] i zero sum is many proper = refl
+taken_rest defaults width row [] i (suc n) sum is many proper = absurd (omega (arith, many))
+taken_rest defaults width row (v ∷ vs) i zero sum is many proper = absurd (omega (arith, many))
+taken_rest defaults width row (v ∷ vs) i (suc n) sum is many proper =
     let two = both (is_proper v) (list_all is_proper vs) proper in
     let place : source (range_with_len 0 width) i ≡ Some i = sym (source_inside width i (omega (arith, sum))) in
     let same : value_of (get_or (map lit_of row) i lit.Null) ≡ v = ap value_of (read_at row i v vs is) ∙ itself v two.0 in
-    let others = taken_rest width row vs (i + 1) n (omega (arith, sum)) (at_drop row i v vs is).1 (omega (arith, many)) two.1 in
+    let others = taken_rest defaults width row vs (i + 1) n (omega (arith, sum)) (at_drop row i v vs is).1 (omega (arith, many)) two.1 in
     rw (place, same, others) refl
 
 is_count : (n m : ℕ) → n ≡ m → (n == m) ≡ true
@@ -91,9 +93,9 @@ right_count columns row e =
     rw (is_count (length (map lit_of row)) (length (range_with_len 0 (length columns)))
     (length-map row lit_of ∙ long row columns e ∙ sym (length-range_with_len 0 (length columns)))) refl
 
-row_itself : (columns : List Column) (row : List Value) → fits row columns ≡ true → list_all is_proper row ≡ true
-    → row_of (length columns) (range_with_len 0 (length columns)) (map lit_of row) ≡ row
-row_itself columns row e proper = taken_rest (length columns) row row 0 (length columns) (omega arith) refl (long row columns e) proper
+row_itself : (columns : List Column) (defaults row : List Value) → fits row columns ≡ true → list_all is_proper row ≡ true
+    → row_of (length columns) defaults (range_with_len 0 (length columns)) (map lit_of row) ≡ row
+row_itself columns defaults row e proper = taken_rest defaults (length columns) row row 0 (length columns) (omega arith) refl (long row columns e) proper
 
 -- ---- all tuples
 
@@ -115,17 +117,17 @@ pub even_faultless : (columns : List Column) (rows : List (List Value)) → list
     → insert_fault columns [] (written rows) ≡ None
 even_faultless columns rows e = rw (all_counts columns rows e, all_faultless columns rows e) refl
 
-each_itself : (columns : List Column) (rows : List (List Value)) → list_all (λ row. fits row columns) rows ≡ true → list_all (list_all is_proper) rows ≡ true
-    → rows_of columns [] (written rows) ≡ rows
-each_itself columns [] e proper = refl
-each_itself columns (row ∷ rows) e proper =
+each_itself : (columns : List Column) (defaults : List Value) (rows : List (List Value)) → list_all (λ row. fits row columns) rows ≡ true → list_all (list_all is_proper) rows ≡ true
+    → rows_of columns defaults [] (written rows) ≡ rows
+each_itself columns defaults [] e proper = refl
+each_itself columns defaults (row ∷ rows) e proper =
     let two = both (fits row columns) (list_all (λ row. fits row columns) rows) e in
     let all = both (list_all is_proper row) (list_all (list_all is_proper) rows) proper in
-    rw (row_itself columns row two.0 all.0, each_itself columns rows two.1 all.1) refl
+    rw (row_itself columns defaults row two.0 all.0, each_itself columns defaults rows two.1 all.1) refl
 
-pub even_rows : (columns : List Column) (rows : List (List Value)) → list_all (λ row. fits row columns) rows ≡ true → AreProper rows
-    → rows_of columns [] (written rows) ≡ rows
-even_rows columns rows e proper = each_itself columns rows e proper.each
+pub even_rows : (columns : List Column) (defaults : List Value) (rows : List (List Value)) → list_all (λ row. fits row columns) rows ≡ true → AreProper rows
+    → rows_of columns defaults [] (written rows) ≡ rows
+even_rows columns defaults rows e proper = each_itself columns defaults rows e proper.each
 
 -- ---- the code
 
@@ -141,11 +143,11 @@ all_stops p xs i x is fails so_far =
     let here : list_all p (drop i xs) ≡ false = rw (drop_at xs i x is, fails) refl in
     sym here ∙ so_far
 
-pub even_passes : (columns : List Column) (names : List (List ℕ)) (tuples rows : List (List Value)) → length names ≡ 0
+pub even_passes : (columns : List Column) (defaults : List Value) (names : List (List ℕ)) (tuples rows : List (List Value)) → length names ≡ 0
     → list_all (λ row. fits row columns) tuples ≡ true → AreProper tuples → rows ≡ tuples
-    → Passes (insert_fault columns names (written tuples)) (rows ≡ rows_of columns names (written tuples))
-even_passes columns [] tuples rows none fit proper is = record {
+    → Passes (insert_fault columns names (written tuples)) (rows ≡ rows_of columns defaults names (written tuples))
+even_passes columns defaults [] tuples rows none fit proper is = record {
   free = even_faultless columns tuples fit;
-  is = is ∙ sym (even_rows columns tuples fit proper);
+  is = is ∙ sym (even_rows columns defaults tuples fit proper);
 }
-even_passes columns (n ∷ ns) tuples rows none fit proper is = absurd (omega (arith, none))
+even_passes columns defaults (n ∷ ns) tuples rows none fit proper is = absurd (omega (arith, none))

@@ -7,6 +7,7 @@ use Rattle.im_values.specs.declared.schema.Kind.TheVariants as kind
 use Rattle.im_values.specs.declared.schema.Column.{Column}
 use Rattle.im_syntax.specs.declared.literal.Lit.{Lit}
 use Rattle.im_syntax.specs.declared.literal.Lit.TheVariants as lit
+use Rattle.im_values.specs.declared.content.Content.TheVariants as value
 use Rattle.im_names.specs.declared.fault.NameFault.TheVariants.{WrongKind}
 use Rattle.im_names.specs.Literals.{value_of, is_other, too_long, stored}
 use Rattle.im_names.specs.inner.FittingLiterals.{literal_fits}
@@ -23,3 +24,11 @@ fits_of name (kind.Text limit) lit.Null e = refl
 
 pub fits_stored : (column : Column) (l : Lit) → literal_fits column.kind l ≡ true → stored (value_of l) column ≡ None
 fits_stored column l e = fits_of column.name column.kind l e
+
+null_fits : (k : Kind) → literal_fits k lit.Null ≡ true
+null_fits kind.Int = refl
+null_fits (kind.Text limit) = refl
+
+-- each column may hold NULL
+pub null_stored : (column : Column) → stored value.Null column ≡ None
+null_stored column = fits_stored column lit.Null (null_fits column.kind)

@@ -13,7 +13,7 @@ use Rattle.im_values.specs.declared.content.Content.{Content as Value}
 use Rattle.im_syntax.specs.declared.literal.Lit.{Lit}
 use Rattle.im_names.specs.declared.fault.NameFault.{NameFault}
 use Rattle.im_names.specs.Faults.{IsCause}
-use Rattle.im_names.specs.Rows.{tuple_fault, stored_fault, source, taken, row_of}
+use Rattle.im_names.specs.Rows.{tuple_fault, stored_fault, source, value_in, row_of}
 use Rattle.im_names.proofs.FaultLemmas.{same, earlier}
 use Rattle.im_names.proofs.MapLemmas.{range_more}
 
@@ -63,27 +63,24 @@ source_past width column le = lacks width 0 column (omega arith)
 
 -- ---- the row of a tuple, column by column
 
-row_more : (numbers : List ℕ) (tuple : List Lit) (k : ℕ) → row_of (k + 1) numbers tuple ≡ row_of k numbers tuple ++ taken tuple (source numbers k) ∷ []
-row_more numbers tuple k =
-    ap (λ (x : List ℕ). map (taken tuple) (map (source numbers) x)) (range_more k)
-    ∙ ap (map (taken tuple)) (map-append (source numbers) (range_with_len 0 k) (k ∷ []))
-    ∙ map-append (taken tuple) (map (source numbers) (range_with_len 0 k)) (source numbers k ∷ [])
+module _ (defaults : List Value) (numbers : List ℕ) (tuple : List Lit) where
+  row_more : (k : ℕ) → row_of (k + 1) defaults numbers tuple ≡ row_of k defaults numbers tuple ++ value_in defaults numbers tuple k ∷ []
+  row_more k =
+      ap (λ (x : List ℕ). map (value_in defaults numbers tuple) x) (range_more k)
+      ∙ map-append (value_in defaults numbers tuple) (range_with_len 0 k) (k ∷ [])
 
-pub row_grows : (numbers : List ℕ) (tuple : List Lit) (k : ℕ) (before values new : List Value) (value : Value) (place : Option ℕ)
-    → place ≡ source numbers k → value ≡ taken tuple place → new ≡ values ++ value ∷ [] → values ≡ before ++ row_of k numbers tuple
-    → new ≡ before ++ row_of (k + 1) numbers tuple
-row_grows numbers tuple k before values new value place at is grown made =
-    grown
-    ∙ ap (λ (x : List Value). x ++ value ∷ []) made
-    ∙ append_assoc before (row_of k numbers tuple) (value ∷ [])
-    ∙ ap (λ (x : Value). before ++ (row_of k numbers tuple ++ x ∷ [])) (is ∙ ap (taken tuple) at)
-    ∙ ap (λ (x : List Value). before ++ x) (sym (row_more numbers tuple k))
+  pub row_grows : (k : ℕ) (before values new : List Value) (value : Value)
+      → value ≡ value_in defaults numbers tuple k → new ≡ values ++ value ∷ [] → values ≡ before ++ row_of k defaults numbers tuple
+      → new ≡ before ++ row_of (k + 1) defaults numbers tuple
+  row_grows k before values new value is grown made =
+      grown
+      ∙ ap (λ (x : List Value). x ++ value ∷ []) made
+      ∙ append_assoc before (row_of k defaults numbers tuple) (value ∷ [])
+      ∙ ap (λ (x : Value). before ++ (row_of k defaults numbers tuple ++ x ∷ [])) is
+      ∙ ap (λ (x : List Value). before ++ x) (sym (row_more k))
 
-pub row_long : (width : ℕ) (numbers : List ℕ) (tuple : List Lit) → length (row_of width numbers tuple) ≡ width
-row_long width numbers tuple =
-    length-map (map (source numbers) (range_with_len 0 width)) (taken tuple)
-    ∙ length-map (range_with_len 0 width) (source numbers)
-    ∙ length-range_with_len 0 width
+  pub row_long : (width : ℕ) → length (row_of width defaults numbers tuple) ≡ width
+  row_long width = length-map (range_with_len 0 width) (value_in defaults numbers tuple) ∙ length-range_with_len 0 width
 
 -- ---- the faults of a tuple, value by value
 

@@ -12,6 +12,7 @@ use Rattle.im_syntax.specs.BoundFits.{FilterFits, BoundFits}
 use Rattle.im_syntax.specs.BoundQuery.{IsQuery}
 use Rattle.im_history.specs.Grid.{Grid, IsInRange}
 use Rattle.im_history.specs.declared.look.TableInfo.{TableInfo}
+use Rattle.im_history.specs.Tables.{table_among}
 use Rattle.im_names.specs.declared.resolved.Resolved.{Resolved}
 use Rattle.im_names.specs.declared.resolved.Resolved.TheVariants as resolved
 
@@ -19,6 +20,10 @@ use Rattle.im_names.specs.declared.resolved.Resolved.TheVariants as resolved
 abbrev pub columns_at : List TableInfo → ℕ → Option (List Column)
 columns_at tables zero = None
 columns_at tables (suc before) = option_map (λ table. table.schema) (slice_get tables before)
+
+-- the defaults of each table may stand in its columns
+pub record DefaultsFit (tables : List TableInfo) : Type 0 where
+  pub each : (number : ℕ) (table : TableInfo) → table_among tables number ≡ Some table → fits table.defaults table.schema ≡ true
 
 -- there is a table of this number, and this holds of its columns
 pub record OfTable (tables : List TableInfo) (number : ℕ) (P : List Column → Type 0) : Type 0 where
@@ -65,6 +70,7 @@ Serves tables (resolved.Explain bound) = OfTable tables bound.table (QueryServes
 Serves tables (resolved.OpenFor cursor bound) = OfTable tables bound.table (QueryServes bound)
 Serves tables (resolved.Create name columns shape memory) = TableServes columns shape
 Serves tables (resolved.Memory table priority) = OfTable tables table (λ columns. Unit {0})
+Serves tables (resolved.AddColumn table column default) = OfTable tables table (λ columns. may_stand column.kind default ≡ true)
 Serves tables (resolved.Insert table rows) = OfTable tables table (RowsServe rows)
 Serves tables (resolved.Update table filter sets) = OfTable tables table (UpdateServes filter sets)
 Serves tables (resolved.Delete table filter) = OfTable tables table (FilterServes filter)

@@ -22,6 +22,11 @@ value_of lit.Null = value.Null
 value_of (lit.Int n) = value.Int n
 value_of (lit.Text t) = text_value t
 
+-- the default of a column: NULL where none is written
+abbrev pub default_of : Option Lit → Value
+default_of None = value.Null
+default_of (Some v) = value_of v
+
 -- the value is of the other kind than the column; NULL is of each
 abbrev pub is_other : Kind → Value → Bool
 is_other kind.Int (value.Text t) = true

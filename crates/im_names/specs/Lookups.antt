@@ -27,20 +27,18 @@ table_called tables name = find (is_named name) tables
 abbrev pub table_number : List TableInfo → List ℕ → ℕ
 table_number tables name = suc (unwrap_or (position_from (is_named name) 0 tables) 0)
 
--- what is answered of the number and the columns of the table of this name, or that there is none
+-- what is answered of the table of this name and its number, or that there is none
 abbrev pub of_table : {A : Type 0} → Option TableInfo → List ℕ → (TableInfo → Result A NameFault) → Result A NameFault
 of_table None name answer = Err (UnknownTable name)
 of_table (Some table) name answer = answer table
 
-abbrev pub in_table : {A : Type 0} → List TableInfo → List ℕ → (ℕ → List Column → Result A NameFault) → Result A NameFault
-in_table tables name answer = of_table (table_called tables name) name (λ table. answer (table_number tables name) table.schema)
+abbrev pub in_table : {A : Type 0} → List TableInfo → List ℕ → (ℕ → TableInfo → Result A NameFault) → Result A NameFault
+in_table tables name answer = of_table (table_called tables name) name (λ table. answer (table_number tables name) table)
 
--- the table of this name has this number and these columns
-pub record StandsAt (tables : List TableInfo) (name : List ℕ) (number : ℕ) (columns : List Column) : Type 0 where
-  pub table : TableInfo
+-- the table of this name is this one, and has this number
+pub record StandsAt (tables : List TableInfo) (name : List ℕ) (number : ℕ) (table : TableInfo) : Type 0 where
   pub found : table_called tables name ≡ Some table
   pub numbered : table_number tables name ≡ number
-  pub holds : table.schema ≡ columns
 
 -- no table has this name
 abbrev pub absent : Option TableInfo → List ℕ → Option NameFault
@@ -74,6 +72,10 @@ of_column columns number fault = at_column (slice_get columns number) fault
 -- the table lacks a column of this name
 abbrev pub unknown : List Column → List ℕ → Option NameFault
 unknown columns name = if has_column columns name then None else Some (UnknownColumn name)
+
+-- the table has a column of this name already
+abbrev pub standing : List Column → List ℕ → Option NameFault
+standing columns name = if has_column columns name then Some (RepeatedColumn name) else None
 
 -- the name stands among these
 abbrev pub is_among : List (List ℕ) → List ℕ → Bool

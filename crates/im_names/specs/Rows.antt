@@ -41,24 +41,25 @@ insert_fault columns names tuples = first_fault (
     ∷ first_fault (map (tuple_fault columns (targets columns names)) tuples)
     ∷ [])
 
--- where in a tuple the value of each column stands, if it does
+-- where in a tuple the value of a column stands, if it does
 abbrev pub source : List ℕ → ℕ → Option ℕ
 source numbers column = position_from (nat_eq column) 0 numbers
 
-abbrev pub sources : ℕ → List ℕ → List (Option ℕ)
-sources width numbers = map (source numbers) (range_with_len 0 width)
+-- the value that a row takes from the tuple, or the default of a column that the tuple has none for
+abbrev pub taken : Value → List Lit → Option ℕ → Value
+taken default tuple None = default
+taken default tuple (Some i) = value_of (get_or tuple i lit.Null)
 
--- the value that a row takes from the tuple: NULL for a column that the tuple has none for
-abbrev pub taken : List Lit → Option ℕ → Value
-taken tuple None = value.Null
-taken tuple (Some i) = value_of (get_or tuple i lit.Null)
+-- the value of a column in the row of a tuple whose values are for these columns
+abbrev pub value_in : List Value → List ℕ → List Lit → ℕ → Value
+value_in defaults numbers tuple column = taken (get_or defaults column value.Null) tuple (source numbers column)
 
 -- the row of a tuple whose values are for these columns
-abbrev pub row_of : ℕ → List ℕ → List Lit → List Value
-row_of width numbers tuple = map (taken tuple) (sources width numbers)
+abbrev pub row_of : ℕ → List Value → List ℕ → List Lit → List Value
+row_of width defaults numbers tuple = map (value_in defaults numbers tuple) (range_with_len 0 width)
 
-abbrev pub rows_of : List Column → List (List ℕ) → List (List Lit) → List (List Value)
-rows_of columns names tuples = map (row_of (length columns) (targets columns names)) tuples
+abbrev pub rows_of : List Column → List Value → List (List ℕ) → List (List Lit) → List (List Value)
+rows_of columns defaults names tuples = map (row_of (length columns) defaults (targets columns names)) tuples
 
 -- ---- UPDATE and DELETE
 

@@ -97,6 +97,19 @@ pub fn check_all_known(alloc: Global, schema: &Schema, names: &[Name]) -> Result
     Ok(())
 }
 
+/// A name that the table has no column of.
+pub fn check_not_standing(alloc: Global, schema: &Schema, name: &Name) -> Result<(), NameFault>
+    ensures ok { OnOk result (lookup.standing schema.now name.now ≡ None) }
+    ensures err { IfErr result (IsCause (lookup.standing schema.now name.now)) }
+{
+    match column_called(schema, name) {
+        Some(_) => Err(NameFault::RepeatedColumn {
+            name: name.copy(alloc)?,
+        }),
+        None => Ok(()),
+    }
+}
+
 fn is_among<T: Named>(others: &[T], name: &Name) -> bool
     ensures { result ≡ lookup.is_among (map T.named others.now) name.now }
 {

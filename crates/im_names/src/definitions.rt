@@ -18,6 +18,16 @@ fn kind_of(word: KindWord) -> Kind
     }
 }
 
+/// A column as it is written.
+pub fn column_of(alloc: Global, part: &ColumnPart) -> Result<Column, NoMemory>
+    ensures { IfOk result (λ column. column ≡ spec.column_of part.now) }
+{
+    Ok(Column {
+        name: part.name.copy(alloc)?,
+        kind: kind_of(part.kind),
+    })
+}
+
 /// The columns of a table that is created.
 pub fn schema_of(alloc: Global, parts: &[ColumnPart]) -> Result<Schema, NoMemory>
     requires some { 1 ≤ length parts.now }
@@ -26,10 +36,7 @@ pub fn schema_of(alloc: Global, parts: &[ColumnPart]) -> Result<Schema, NoMemory
 {
     let mut columns = Vec::with_capacity(alloc, parts.len())?;
     for part in parts {
-        columns.push(Column {
-            name: part.name.copy(alloc)?,
-            kind: kind_of(part.kind),
-        })?;
+        columns.push(column_of(alloc, part)?)?;
     }
     Schema::of(alloc, columns)
 }

@@ -20,6 +20,16 @@ pub fn value_of(alloc: Global, lit: &Lit) -> Result<Value, NoMemory>
     }
 }
 
+/// The default of a column: NULL where none is written.
+pub fn default_of(alloc: Global, default: &Option<Lit>) -> Result<Value, NoMemory>
+    ensures { IfOk result (λ value. value ≡ spec.default_of default.now) }
+{
+    match default {
+        Some(lit) => value_of(alloc, lit),
+        None => Ok(Value::null()),
+    }
+}
+
 /// Whether a literal is of the other kind than a column.
 fn is_other(kind: Kind, lit: &Lit) -> bool
     ensures { result ≡ spec.is_other kind (spec.value_of lit.now) }
@@ -93,6 +103,18 @@ pub fn check_stored(alloc: Global, column: &Column, lit: &Lit) -> Result<(), Nam
         return Ok(());
     }
     check_kind_and_length(alloc, column, lit)
+}
+
+/// A default that its column may hold.
+#[tactic(auto, using(crate::proofs::Fitting::null_stored))]
+pub fn check_default(alloc: Global, column: &Column, default: &Option<Lit>) -> Result<(), NameFault>
+    ensures ok { OnOk result (spec.stored (spec.default_of default.now) column.now ≡ None) }
+    ensures err { IfErr result (IsCause (spec.stored (spec.default_of default.now) column.now)) }
+{
+    match default {
+        Some(lit) => check_stored(alloc, column, lit),
+        None => Ok(()),
+    }
 }
 
 /// A column that may be added up.

@@ -1,6 +1,6 @@
 use im_history::{Mode, Priority, Shape};
 use im_syntax::{Bound, Filter};
-use im_values::{List, Name, Rows, Schema, Value};
+use im_values::{Column, List, Name, Rows, Schema, Value};
 
 /// A statement whose names are numbers: of a table from 1 on in the order of creation, and of a column from 0 on.
 #[derive(Drop)]
@@ -14,10 +14,16 @@ pub enum Resolved {
         /// None where the table does not join the column store.
         memory: Option<Priority>,
     },
-    /// ALTER TABLE: None is NO INMEMORY.
+    /// ALTER TABLE with an INMEMORY clause: None is NO INMEMORY.
     Memory {
         table: u32,
         priority: Option<Priority>,
+    },
+    /// ALTER TABLE with ADD. The default may stand in the column.
+    AddColumn {
+        table: u32,
+        column: Column,
+        default: Value,
     },
     /// Each row has a value for each column of the table.
     Insert {

@@ -1,5 +1,8 @@
-ghost use Rattle.std.specs.Prelude.{◌≡◌, ◌++◌, length, map, None, IfOk, OnOk, IfErr};
+ghost use Rattle.std.specs.Prelude.{◌≡◌, ◌++◌, get_or, length, map, None, IfOk, OnOk, IfErr};
+ghost use Rattle.im_values.specs.declared.content.Content.TheVariants as values;
+ghost use Rattle.im_syntax.specs.declared.literal.Lit.TheVariants as lit;
 ghost use Rattle.im_names.specs.Faults.{IsCause, Passes, first_fault};
+ghost use Rattle.im_names.specs.Literals.{value_of as of_literal};
 ghost use Rattle.im_names.specs.Rows as spec;
 ghost use Rattle.im_names.specs.inner.TargetNumbers.{numbers_of};
 
@@ -7,6 +10,7 @@ use crate::columns::{number_of, width_of};
 use crate::fault::NameFault;
 use crate::literals::{check_stored, value_of};
 use crate::targets::Targets;
+use im_history::TableInfo;
 use im_syntax::Lit;
 use im_values::{List, Name, NoMemory, Rows, Schema, Value};
 use std::alloc::Global;
@@ -71,15 +75,38 @@ fn check_tuple(
 }
 
 /// The value at a place of a tuple, or NULL.
-fn taken(alloc: Global, tuple: &[Lit], source: Option<usize>) -> Result<Value, NoMemory>
-    ensures { IfOk result (λ value. value ≡ spec.taken tuple.now source) }
+fn value_at(alloc: Global, tuple: &[Lit], i: usize) -> Result<Value, NoMemory>
+    ensures { IfOk result (λ value. value ≡ of_literal (get_or tuple.now i lit.Null)) }
 {
-    let Some(i) = source else {
-        return Ok(Value::null());
-    };
     match tuple.get(i) {
         Some(lit) => value_of(alloc, lit),
         None => Ok(Value::null()),
+    }
+}
+
+/// The default of a column, or NULL.
+fn default_at(alloc: Global, defaults: &[Value], column: u32) -> Result<Value, NoMemory>
+    ensures { IfOk result (λ value. value ≡ get_or defaults.now column values.Null) }
+{
+    match defaults.get(column as usize) {
+        Some(default) => default.copy(alloc),
+        None => Ok(Value::null()),
+    }
+}
+
+/// The value of a column in the row of a tuple.
+fn value_in(
+    alloc: Global,
+    defaults: &[Value],
+    targets: &Targets,
+    tuple: &[Lit],
+    column: u32,
+) -> Result<Value, NoMemory>
+    ensures { IfOk result (λ value. value ≡ spec.value_in defaults.now (numbers_of targets.now) tuple.now column) }
+{
+    match targets.source_of(column) {
+        Some(i) => value_at(alloc, tuple, i),
+        None => default_at(alloc, defaults, column),
     }
 }
 
@@ -88,13 +115,15 @@ fn push_row(
     alloc: Global,
     values: &mut Vec<Value>,
     width: u32,
+    defaults: &[Value],
     targets: &Targets,
     tuple: &[Lit],
 ) -> Result<(), NoMemory>
-    ensures { OnOk result (values.new.items ≡ values.old.items ++ spec.row_of width (numbers_of targets.now) tuple.now) }
+    ensures { OnOk result (values.new.items
+        ≡ values.old.items ++ spec.row_of width defaults.now (numbers_of targets.now) tuple.now) }
 {
     for column in 0..width {
-        values.push(taken(alloc, tuple, targets.source_of(column))?)?;
+        values.push(value_in(alloc, defaults, targets, tuple, column)?)?;
     }
     Ok(())
 }
@@ -102,22 +131,23 @@ fn push_row(
 /// The rows of tuples whose values are for these columns. They share one block.
 pub fn rows_of(
     alloc: Global,
-    schema: &Schema,
+    table: &TableInfo,
     targets: &Targets,
     tuples: &[List<Lit>],
 ) -> Result<Rows, NameFault>
     ensures ok { IfOk result (λ rows. Passes
-        (first_fault (map (spec.tuple_fault schema.now (numbers_of targets.now)) tuples.now))
-        (rows ≡ map (spec.row_of (length schema.now) (numbers_of targets.now)) tuples.now)) }
+        (first_fault (map (spec.tuple_fault table.now.schema (numbers_of targets.now)) tuples.now))
+        (rows ≡ map (spec.row_of (length table.now.schema) table.now.defaults (numbers_of targets.now)) tuples.now)) }
     ensures err { IfErr result
-        (IsCause (first_fault (map (spec.tuple_fault schema.now (numbers_of targets.now)) tuples.now))) }
+        (IsCause (first_fault (map (spec.tuple_fault table.now.schema (numbers_of targets.now)) tuples.now))) }
 {
-    let width = width_of(schema);
+    let width = width_of(&table.schema);
+    let defaults = table.defaults.values();
     let room = tuples.len().saturating_mul(width as usize);
     let mut values = Vec::with_capacity(alloc, room)?;
     for tuple in tuples {
-        check_tuple(alloc, schema, targets, tuple.items())?;
-        push_row(alloc, &mut values, width, targets, tuple.items())?;
+        check_tuple(alloc, &table.schema, targets, tuple.items())?;
+        push_row(alloc, &mut values, width, defaults, targets, tuple.items())?;
     }
     Ok(Rows::of(alloc, values, width as usize, tuples.len())?)
 }

@@ -4,23 +4,26 @@ ghost use Rattle.im_syntax.specs.Tuples.{written};
 ghost use Rattle.im_syntax.specs.declared.statement.Stmt.TheVariants as form;
 ghost use Rattle.im_names.specs.declared.resolved.Resolved.TheVariants as resolved;
 ghost use Rattle.im_names.specs.declared.fault.NameFault.TheVariants.{NoMemory as Lacks};
-ghost use Rattle.im_names.specs.Fitting.{Serves};
+ghost use Rattle.im_names.specs.Fitting.{DefaultsFit, Serves};
 ghost use Rattle.im_names.specs.Faults.{Passes, IsCause, IsErr};
 ghost use Rattle.im_names.specs.Conditions.{filter_of};
+ghost use Rattle.im_names.specs.Definitions.{column_of as the_column};
+ghost use Rattle.im_names.specs.Literals.{default_of as the_default};
 ghost use Rattle.im_names.specs.Rows.{insert_fault, rows_of as all_rows, update_fault, set_of, delete_fault};
-ghost use Rattle.im_names.specs.Statements.{resolution, query_answer, create_answer, memory_answer};
+ghost use Rattle.im_names.specs.Statements.{resolution, query_answer, create_answer, memory_answer, added_fault, add_answer};
 
-use crate::columns::{check_distinct, check_listed};
+use crate::columns::{check_distinct, check_listed, check_not_standing};
 use crate::conditions::{bind_where, check_where};
-use crate::definitions::{memory_of, priority_of, schema_of, shape_of};
+use crate::definitions::{column_of, memory_of, priority_of, schema_of, shape_of};
 use crate::even::all_fit;
 use crate::fault::NameFault;
+use crate::literals::{check_default, default_of};
 use crate::queries::bind_query;
 use crate::resolved::Resolved;
 use crate::rows::{bind_sets, check_counts, rows_of};
 use crate::tables::table_called;
 use crate::targets::Targets;
-use im_history::{Look, Mode, Priority, SharedTable};
+use im_history::{Look, Mode, Priority, SharedTable, TableInfo};
 use im_syntax::{
     Bound, ColumnPart, Cond, EvenTuples, Lit, MemoryPart, Query, Stmt, Tuples, TuplesForm,
 };
@@ -31,8 +34,8 @@ fn resolve_query(alloc: Global, tables: &[SharedTable], query: &Query) -> Result
     ensures ok { IfOk result (λ bound. query_answer tables.now query.now ≡ Ok bound) }
     ensures err { IfErr result (IsErr (query_answer tables.now query.now)) }
 {
-    let (number, schema) = table_called(alloc, tables, &query.table)?;
-    bind_query(alloc, number, schema, query)
+    let (number, table) = table_called(alloc, tables, &query.table)?;
+    bind_query(alloc, number, &table.schema, query)
 }
 
 fn resolve_create(
@@ -69,58 +72,96 @@ fn resolve_memory(
     Ok(Resolved::Memory { table, priority })
 }
 
+/// A column that a table of a number and these columns gets.
+fn bind_added(
+    alloc: Global,
+    table: u32,
+    schema: &Schema,
+    part: &ColumnPart,
+    default: &Option<Lit>,
+) -> Result<Resolved, NameFault>
+    ensures ok { IfOk result (λ r. Passes
+        (added_fault schema.now (the_column part.now) (the_default default.now))
+        (r ≡ resolved.AddColumn table (the_column part.now) (the_default default.now))) }
+    ensures err { IfErr result (IsCause (added_fault schema.now (the_column part.now) (the_default default.now))) }
+{
+    check_not_standing(alloc, schema, &part.name)?;
+    let column = column_of(alloc, part)?;
+    check_default(alloc, &column, default)?;
+    let default = default_of(alloc, default)?;
+    Ok(Resolved::AddColumn {
+        table,
+        column,
+        default,
+    })
+}
+
+fn resolve_added(
+    alloc: Global,
+    tables: &[SharedTable],
+    name: &Name,
+    part: &ColumnPart,
+    default: &Option<Lit>,
+) -> Result<Resolved, NameFault>
+    ensures ok { IfOk result (λ r. add_answer tables.now name.now (the_column part.now) (the_default default.now) ≡ Ok r) }
+    ensures err { IfErr result (IsErr (add_answer tables.now name.now (the_column part.now) (the_default default.now))) }
+{
+    let (number, table) = table_called(alloc, tables, name)?;
+    bind_added(alloc, number, &table.schema, part, default)
+}
+
 fn bind_insert(
     alloc: Global,
-    schema: &Schema,
+    table: &TableInfo,
     names: &[Name],
     tuples: &[List<Lit>],
 ) -> Result<Rows, NameFault>
     ensures ok { IfOk result (λ rows. Passes
-        (insert_fault schema.now names.now tuples.now)
-        (rows ≡ all_rows schema.now names.now tuples.now)) }
-    ensures err { IfErr result (IsCause (insert_fault schema.now names.now tuples.now)) }
+        (insert_fault table.now.schema names.now tuples.now)
+        (rows ≡ all_rows table.now.schema table.now.defaults names.now tuples.now)) }
+    ensures err { IfErr result (IsCause (insert_fault table.now.schema names.now tuples.now)) }
 {
-    check_listed(alloc, schema, names)?;
-    let targets = Targets::of(alloc, schema, names)?;
+    check_listed(alloc, &table.schema, names)?;
+    let targets = Targets::of(alloc, &table.schema, names)?;
     check_counts(tuples, targets.count())?;
-    rows_of(alloc, schema, &targets, tuples)
+    rows_of(alloc, table, &targets, tuples)
 }
 
 /// Tuples that are kept as values are the rows as they are, where all columns are meant and every value may stand in its own. What
 /// is wrong with others is told of them as they are written.
 fn bind_even(
     alloc: Global,
-    schema: &Schema,
+    table: &TableInfo,
     names: &[Name],
     tuples: &EvenTuples,
 ) -> Result<Rows, NameFault>
     ensures ok { IfOk result (λ rows. Passes
-        (insert_fault schema.now names.now (written tuples.now))
-        (rows ≡ all_rows schema.now names.now (written tuples.now))) }
-    ensures err { IfErr result (IsCause (insert_fault schema.now names.now (written tuples.now))) }
+        (insert_fault table.now.schema names.now (written tuples.now))
+        (rows ≡ all_rows table.now.schema table.now.defaults names.now (written tuples.now))) }
+    ensures err { IfErr result (IsCause (insert_fault table.now.schema names.now (written tuples.now))) }
 {
-    if names.is_empty() && all_fit(tuples, schema) {
+    if names.is_empty() && all_fit(tuples, &table.schema) {
         let rows = tuples.rows()?;
         return Ok(rows);
     }
     let tuples = tuples.to_list(alloc)?;
-    bind_insert(alloc, schema, names, tuples.as_slice())
+    bind_insert(alloc, table, names, tuples.as_slice())
 }
 
 fn bind_tuples(
     alloc: Global,
-    schema: &Schema,
+    table: &TableInfo,
     names: &[Name],
     tuples: &Tuples,
 ) -> Result<Rows, NameFault>
     ensures ok { IfOk result (λ rows. Passes
-        (insert_fault schema.now names.now tuples.now)
-        (rows ≡ all_rows schema.now names.now tuples.now)) }
-    ensures err { IfErr result (IsCause (insert_fault schema.now names.now tuples.now)) }
+        (insert_fault table.now.schema names.now tuples.now)
+        (rows ≡ all_rows table.now.schema table.now.defaults names.now tuples.now)) }
+    ensures err { IfErr result (IsCause (insert_fault table.now.schema names.now tuples.now)) }
 {
     match tuples.form() {
-        TuplesForm::Even(tuples) => bind_even(alloc, schema, names, tuples),
-        TuplesForm::Listed(tuples) => bind_insert(alloc, schema, names, tuples.items()),
+        TuplesForm::Even(tuples) => bind_even(alloc, table, names, tuples),
+        TuplesForm::Listed(tuples) => bind_insert(alloc, table, names, tuples.items()),
     }
 }
 
@@ -134,9 +175,12 @@ fn resolve_insert(
     ensures ok { IfOk result (λ r. resolution tables.now (form.Insert name.now names.now tuples.now) ≡ Ok r) }
     ensures err { IfErr result (IsErr (resolution tables.now (form.Insert name.now names.now tuples.now))) }
 {
-    let (table, schema) = table_called(alloc, tables, name)?;
-    let rows = bind_tuples(alloc, schema, names, tuples)?;
-    Ok(Resolved::Insert { table, rows })
+    let (number, table) = table_called(alloc, tables, name)?;
+    let rows = bind_tuples(alloc, table, names, tuples)?;
+    Ok(Resolved::Insert {
+        table: number,
+        rows,
+    })
 }
 
 fn bind_update(
@@ -172,8 +216,8 @@ fn resolve_update(
     ensures ok { IfOk result (λ r. resolution tables.now (form.Update name.now sets.now cond.now) ≡ Ok r) }
     ensures err { IfErr result (IsErr (resolution tables.now (form.Update name.now sets.now cond.now))) }
 {
-    let (number, schema) = table_called(alloc, tables, name)?;
-    bind_update(alloc, number, schema, sets, cond)
+    let (number, table) = table_called(alloc, tables, name)?;
+    bind_update(alloc, number, &table.schema, sets, cond)
 }
 
 fn bind_delete(
@@ -201,8 +245,8 @@ fn resolve_delete(
     ensures ok { IfOk result (λ r. resolution tables.now (form.Delete name.now cond.now) ≡ Ok r) }
     ensures err { IfErr result (IsErr (resolution tables.now (form.Delete name.now cond.now))) }
 {
-    let (number, schema) = table_called(alloc, tables, name)?;
-    bind_delete(alloc, number, schema, cond)
+    let (number, table) = table_called(alloc, tables, name)?;
+    bind_delete(alloc, number, &table.schema, cond)
 }
 
 fn resolve_evict(
@@ -241,6 +285,11 @@ fn resolve_among(alloc: Global, stmt: &Stmt, tables: &[SharedTable]) -> Result<R
             resolve_memory(alloc, tables, name, Some(priority_of(*memory)))
         }
         Stmt::AlterNoMemory { name } => resolve_memory(alloc, tables, name, None),
+        Stmt::AddColumn {
+            name,
+            column,
+            default,
+        } => resolve_added(alloc, tables, name, column, default),
         Stmt::Insert {
             name,
             columns,
@@ -267,13 +316,14 @@ fn resolve_among(alloc: Global, stmt: &Stmt, tables: &[SharedTable]) -> Result<R
     }
 }
 
-/// A statement with numbers for its names, as the tables of a look have them, or its first fault.
+/// A statement with numbers for its names, as the tables of a look have them, or its first fault. What it answers fits those tables
+/// where their defaults do, as those of every table in a store.
 pub fn resolve(alloc: Global, stmt: &Stmt, look: &Look) -> Result<Resolved, NameFault>
     requires { IsStmt stmt.now }
     ensures ok { IfOk result (λ resolved. resolution look.now.tables stmt.now ≡ Ok resolved) }
     ensures err { IfErr result
         (λ why. (why ≡ Lacks) ⊎ (resolution look.now.tables stmt.now ≡ Err why)) }
-    ensures serves { IfOk result (Serves look.now.tables) }
+    ensures serves { DefaultsFit look.now.tables → IfOk result (Serves look.now.tables) }
 {
     resolve_among(alloc, stmt, look.tables.tables())
 }

@@ -7,7 +7,7 @@ ghost use Rattle.im_names.specs.Lookups.{StandsAt, absent};
 
 use crate::fault::NameFault;
 use im_history::{SharedTable, TableInfo};
-use im_values::{Name, Schema};
+use im_values::Name;
 use std::alloc::Global;
 
 /// The first table of this name, and how many stand before it.
@@ -26,12 +26,12 @@ fn find<'a>(tables: &'a [SharedTable], name: &Name) -> Option<(usize, &'a TableI
     None
 }
 
-/// The number of the table of this name, from 1 on, and its columns.
+/// The number of the table of this name, from 1 on, and the table.
 pub fn table_called<'a>(
     alloc: Global,
     tables: &'a [SharedTable],
     name: &Name,
-) -> Result<(u32, &'a Schema), NameFault>
+) -> Result<(u32, &'a TableInfo), NameFault>
     ensures ok { IfOk result (λ found. StandsAt tables.now name.now found.0 found.1.now) }
     ensures err { IfErr result (IsCause (absent (spec.table_called tables.now name.now) name.now)) }
 {
@@ -42,7 +42,7 @@ pub fn table_called<'a>(
     };
     let _count = tables.len();
     match u32::try_from(before + 1) {
-        Ok(number) => Ok((number, &table.schema)),
+        Ok(number) => Ok((number, table)),
         Err(_) => Err(NameFault::NoMemory),
     }
 }

@@ -30,7 +30,9 @@ use Rattle.im_parse.proofs.MarkLaws.{Ends-never, left_mark, right_mark, comma_ma
 use Rattle.im_parse.proofs.TestLaws.{tuple_law}
 use Rattle.im_parse.proofs.ConditionLaws.{goes_where, where_law}
 use Rattle.im_parse.proofs.QueryLaws.{goes_listed, listed_law, names_law, goes_query, query_law}
-use Rattle.im_parse.proofs.TableLaws.{spell_table_columns, columns_law, goes_option, option_law, spell_memory_option, goes_memory_option, memory_option_law, spell_altered, goes_altered, altered_law}
+use Rattle.im_parse.proofs.TableLaws.{spell_table_columns, columns_law, goes_option, option_law, spell_memory_option, goes_memory_option, memory_option_law, spell_altered, goes_altered, IsAlteration, altered_law}
+use Rattle.im_parse.specs.declared.tables.Alteration.{Alteration}
+use Rattle.im_parse.specs.declared.tables.Alteration.TheVariants as altered
 
 abbrev name_tokens : List ℕ → List Token
 name_tokens n = token.Word n ∷ []
@@ -54,7 +56,7 @@ spell_created = spell_both spell_table_columns spell_shape
 abbrev goes_created : List ℕ × (List ColumnPart × Shape) → Token → Bool
 goes_created = goes_both spell_created never (goes_both spell_shape never goes_shape)
 
-abbrev goes_altered_name : List ℕ × Option MemoryPart → Token → Bool
+abbrev goes_altered_name : List ℕ × Alteration → Token → Bool
 goes_altered_name = goes_both spell_altered never goes_altered
 
 abbrev spell_tuples : List (List Lit) → List Token
@@ -94,8 +96,9 @@ abbrev pub goes_stmt : Stmt → Token → Bool
 goes_stmt (stmt.Select q) = goes_query q
 goes_stmt (stmt.Explain q) = goes_query q
 goes_stmt (stmt.Create name columns block extent memory) = goes_created (name, (columns, (block, (extent, memory))))
-goes_stmt (stmt.AlterMemory name memory) = goes_altered_name (name, Some memory)
-goes_stmt (stmt.AlterNoMemory name) = goes_altered_name (name, None)
+goes_stmt (stmt.AlterMemory name memory) = goes_altered_name (name, altered.Memory memory)
+goes_stmt (stmt.AlterNoMemory name) = goes_altered_name (name, altered.NoMemory)
+goes_stmt (stmt.AddColumn name column default) = goes_altered_name (name, altered.Column column default)
 goes_stmt (stmt.Insert name columns tuples) = goes_inserted (name, (columns, tuples))
 goes_stmt (stmt.Update name sets cond) = goes_updated (name, (sets, cond))
 goes_stmt (stmt.Delete name cond) = goes_deleted (name, cond)
@@ -111,6 +114,7 @@ first_word (stmt.Explain q) = key.Explain
 first_word (stmt.Create name columns block extent memory) = key.Create
 first_word (stmt.AlterMemory name memory) = key.Alter
 first_word (stmt.AlterNoMemory name) = key.Alter
+first_word (stmt.AddColumn name column default) = key.Alter
 first_word (stmt.Insert name columns tuples) = key.Insert
 first_word (stmt.Update name sets cond) = key.Update
 first_word (stmt.Delete name cond) = key.Delete
@@ -139,6 +143,7 @@ stmt_firsts (stmt.Explain q) g = first_kind (word key.Explain) _ refl
 stmt_firsts (stmt.Create name columns block extent memory) g = first_kind (word key.Create) _ refl
 stmt_firsts (stmt.AlterMemory name memory) g = first_kind (word key.Alter) _ refl
 stmt_firsts (stmt.AlterNoMemory name) g = first_kind (word key.Alter) _ refl
+stmt_firsts (stmt.AddColumn name column default) g = first_kind (word key.Alter) _ refl
 stmt_firsts (stmt.Insert name columns tuples) g = first_kind (word key.Insert) _ refl
 stmt_firsts (stmt.Update name sets cond) g = first_kind (word key.Update) _ refl
 stmt_firsts (stmt.Delete name cond) g = first_kind (word key.Delete) _ refl
@@ -275,29 +280,33 @@ create_law =
     (λ n x _ _. Ends-never n (spell_created x)))))
     create_forth (λ s g. create_back s g.is_good g.is_first) (λ x. refl) (λ x t. refl)
 
-alter_back : (s : Stmt) → IsStmt s → first_stmt s ≡ keyword key.Alter → Makes alter_of (GoodBoth IsName Any) s
-alter_back (stmt.AlterMemory name memory) g e = record { of = (name, Some memory); is = refl; is_good = (g, tt) }
-alter_back (stmt.AlterNoMemory name) g e = record { of = (name, None); is = refl; is_good = (g, tt) }
+alter_back : (s : Stmt) → IsStmt s → first_stmt s ≡ keyword key.Alter → Makes alter_of (GoodBoth IsName IsAlteration) s
+alter_back (stmt.AlterMemory name memory) g e = record { of = (name, altered.Memory memory); is = refl; is_good = (g, tt) }
+alter_back (stmt.AlterNoMemory name) g e = record { of = (name, altered.NoMemory); is = refl; is_good = (g, tt) }
+alter_back (stmt.AddColumn name column default) g e = record { of = (name, altered.Column column default); is = refl; is_good = g }
 alter_back s g e = absurd cc
 
-alter_forth : (n : List ℕ) (o : Option MemoryPart) → IsName n → GoodOf key.Alter (alter_of (n, o))
-alter_forth n None g = record { is_good = g; is_first = refl }
-alter_forth n (Some m) g = record { is_good = g; is_first = refl }
+alter_forth : (n : List ℕ) (x : Alteration) → IsName n → IsAlteration x → GoodOf key.Alter (alter_of (n, x))
+alter_forth n altered.NoMemory g h = record { is_good = g; is_first = refl }
+alter_forth n (altered.Memory m) g h = record { is_good = g; is_first = refl }
+alter_forth n (altered.Column c d) g h = record { is_good = (g, h); is_first = refl }
 
-alter_spells : (n : List ℕ) (o : Option MemoryPart) → spelling (alter_of (n, o)) ≡ word key.Alter ∷ word key.Table ∷ token.Word n ∷ spell_altered o
-alter_spells n None = refl
-alter_spells n (Some m) = refl
+alter_spells : (n : List ℕ) (x : Alteration) → spelling (alter_of (n, x)) ≡ word key.Alter ∷ word key.Table ∷ token.Word n ∷ spell_altered x
+alter_spells n altered.NoMemory = refl
+alter_spells n (altered.Memory m) = refl
+alter_spells n (altered.Column c d) = refl
 
-alter_goes : (n : List ℕ) (o : Option MemoryPart) (t : Token) → goes_stmt (alter_of (n, o)) t ≡ goes_altered_name (n, o) t
-alter_goes n None t = refl
-alter_goes n (Some m) t = refl
+alter_goes : (n : List ℕ) (x : Alteration) (t : Token) → goes_stmt (alter_of (n, x)) t ≡ goes_altered_name (n, x) t
+alter_goes n altered.NoMemory t = refl
+alter_goes n (altered.Memory m) t = refl
+alter_goes n (altered.Column c d) t = refl
 
 alter_law : Reads spelling (GoodOf key.Alter) goes_stmt alter_at
 unfolding alter_at
 alter_law =
     made_law spelling (GoodOf key.Alter) goes_stmt alter_of
-    (after_word_law key.Alter (after_word_law key.Table (both_law name_law altered_law (λ n o _ _. Ends-never n (spell_altered o)))))
-    (λ x g. alter_forth x.0 x.1 g.0) (λ s g. alter_back s g.is_good g.is_first) (λ x. alter_spells x.0 x.1) (λ x t. alter_goes x.0 x.1 t)
+    (after_word_law key.Alter (after_word_law key.Table (both_law name_law altered_law (λ n x _ _. Ends-never n (spell_altered x)))))
+    (λ x g. alter_forth x.0 x.1 g.0 g.1) (λ s g. alter_back s g.is_good g.is_first) (λ x. alter_spells x.0 x.1) (λ x t. alter_goes x.0 x.1 t)
 
 -- ---- rows
 

@@ -1,7 +1,7 @@
 -- The parts of CREATE TABLE and ALTER TABLE are read as they are spelled.
 use Rattle.std.proofs.Common.{◌≡◌, ℕ, ◌-◌, Bool, true, false, List, [], ◌∷◌, Option, Some, None, refl, arith}
 use Rattle.std.specs.Prelude.{is_some}
-use Rattle.im_readers.specs.Grammar.{Ends, at_end, at_other, BeginsWith, begins_with, Reads, never, Any, GoodJoinedUpTo, GoodOptional, spell_joined, goes_both, spell_optional, goes_optional, goes_behind}
+use Rattle.im_readers.specs.Grammar.{Ends, at_end, at_other, BeginsWith, begins_with, Reads, never, Any, GoodBoth, GoodJoinedUpTo, GoodOptional, spell_both, spell_joined, goes_both, spell_optional, goes_optional, goes_behind}
 use Rattle.im_readers.proofs.Parts.{Makes, both_law, made_law, after_law, before_law, optional_law, GoodFirst, Choice, chosen, none_chosen, FirstKind, first_kind, picked_law}
 use Rattle.im_readers.proofs.Joined.{joined_up_to_law, goes_joined_up_to-false}
 use Rattle.im_syntax.specs.declared.keyword.Keyword.{Keyword}
@@ -16,11 +16,14 @@ use Rattle.im_values.specs.declared.limits.TheConstants.{MOST_COLUMNS, MOST_IN_S
 use Rattle.im_values.specs.declared.priority.Priority.{Priority}
 use Rattle.im_syntax.specs.declared.limits.TheConstants.{MOST_TEXT_BYTES}
 use Rattle.im_syntax.specs.declared.table.MemoryPart.{MemoryPart}
+use Rattle.im_syntax.specs.declared.literal.Lit.{Lit}
 use Rattle.im_syntax.specs.Rules.{IsWithin, IsKind, IsColumn}
-use Rattle.im_syntax.specs.Spelling.{word, comma, number, in_parens, spell_kind, spell_column, level_word, spell_compress, spell_memory, spell_option}
+use Rattle.im_syntax.specs.Spelling.{word, comma, number, in_parens, lit_token, spell_kind, spell_column, level_word, spell_compress, spell_memory, spell_option, spell_default, spell_added}
 use Rattle.im_parse.specs.inner.Marks.{is_key, is_comma, Lead, keyword, lead}
-use Rattle.im_parse.specs.inner.Tables.{varchar2_at, kind_by, kind_at, column_of, column_at, columns_at, compress_at, priority_at, memory_of, memory_at, option_at, memory_option_at, altered_by, altered_at}
-use Rattle.im_parse.proofs.MarkLaws.{Ends-never, left_mark, right_mark, comma_mark, word_law, after_word_law, name_law, number_law, level_law, unknown}
+use Rattle.im_parse.specs.inner.Tables.{varchar2_at, kind_by, kind_at, column_of, column_at, columns_at, compress_at, priority_at, memory_of, memory_at, option_at, memory_option_at, default_at, added_of, added_at, altered_by, altered_at}
+use Rattle.im_parse.specs.declared.tables.Alteration.{Alteration}
+use Rattle.im_parse.specs.declared.tables.Alteration.TheVariants as altered
+use Rattle.im_parse.proofs.MarkLaws.{Ends-never, left_mark, right_mark, comma_mark, word_law, after_word_law, name_law, number_law, lit_law, level_law, unknown}
 
 -- ---- columns
 
@@ -180,48 +183,99 @@ memory_option_law = optional_law (is_key key.InMemory) memory_law (λ m g. begin
 
 -- ---- ALTER TABLE
 
-abbrev pub spell_altered : Option MemoryPart → List Token
-spell_altered None = word key.No ∷ word key.InMemory ∷ []
-spell_altered (Some m) = spell_memory m
+abbrev goes_default : Option Lit → Token → Bool
+goes_default = goes_optional (is_key key.Default) never
 
-abbrev pub goes_altered : Option MemoryPart → Token → Bool
-goes_altered None t = false
-goes_altered (Some m) t = goes_memory m t
+default_law : Reads spell_default (GoodOptional Any) goes_default default_at
+unfolding default_at
+default_law = optional_law (is_key key.Default) (after_word_law key.Default lit_law) (λ v g. begins_with (word key.Default) (lit_token v ∷ []) refl)
 
-abbrev first_altered : Option MemoryPart → Lead
-first_altered None = keyword key.No
-first_altered (Some m) = keyword key.InMemory
+any_default : (d : Option Lit) → GoodOptional Any d
+any_default None = tt
+any_default (Some v) = tt
 
-altered_firsts : (o : Option MemoryPart) → Unit {0} → FirstKind lead (first_altered o) (spell_altered o)
-altered_firsts None g = first_kind (word key.No) _ refl
-altered_firsts (Some m) g = first_kind (word key.InMemory) _ refl
+abbrev spell_defaulted : ColumnPart × Option Lit → List Token
+spell_defaulted = spell_both spell_column spell_default
 
-memory_back : (o : Option MemoryPart) → first_altered o ≡ (keyword key.InMemory) → Makes Some Any o
-memory_back None e = absurd cc
-memory_back (Some m) e = record { of = m; is = refl; is_good = tt }
+abbrev goes_defaulted : ColumnPart × Option Lit → Token → Bool
+goes_defaulted = goes_both spell_default never goes_default
 
-no_memory_back : (o : Option MemoryPart) → first_altered o ≡ (keyword key.No) → Makes (λ (u : Unit {0}). None) Any o
-no_memory_back None e = record { of = tt; is = refl; is_good = tt }
-no_memory_back (Some m) e = absurd cc
+-- a closing parenthesis ends a column and its default
+defaulted_ends : (c : ColumnPart) (d : Option Lit) → goes_defaulted (c, d) (token.Sign sign.RightParen) ≡ false
+defaulted_ends c None = refl
+defaulted_ends c (Some v) = refl
+
+abbrev pub spell_altered : Alteration → List Token
+spell_altered altered.NoMemory = word key.No ∷ word key.InMemory ∷ []
+spell_altered (altered.Memory m) = spell_memory m
+spell_altered (altered.Column c d) = spell_added c d
+
+abbrev pub goes_altered : Alteration → Token → Bool
+goes_altered altered.NoMemory t = false
+goes_altered (altered.Memory m) t = goes_memory m t
+goes_altered (altered.Column c d) t = false
+
+-- which of them may stand behind the name of a table
+abbrev pub IsAlteration : Alteration → Type 0
+IsAlteration altered.NoMemory = Unit {0}
+IsAlteration (altered.Memory m) = Unit {0}
+IsAlteration (altered.Column c d) = IsColumn c
+
+abbrev first_altered : Alteration → Lead
+first_altered altered.NoMemory = keyword key.No
+first_altered (altered.Memory m) = keyword key.InMemory
+first_altered (altered.Column c d) = keyword key.Add
+
+altered_firsts : (x : Alteration) → IsAlteration x → FirstKind lead (first_altered x) (spell_altered x)
+altered_firsts altered.NoMemory g = first_kind (word key.No) _ refl
+altered_firsts (altered.Memory m) g = first_kind (word key.InMemory) _ refl
+altered_firsts (altered.Column c d) g = first_kind (word key.Add) _ refl
+
+memory_back : (x : Alteration) → first_altered x ≡ (keyword key.InMemory) → Makes altered.Memory Any x
+memory_back altered.NoMemory e = absurd cc
+memory_back (altered.Memory m) e = record { of = m; is = refl; is_good = tt }
+memory_back (altered.Column c d) e = absurd cc
+
+no_memory_back : (x : Alteration) → first_altered x ≡ (keyword key.No) → Makes (λ (u : Unit {0}). altered.NoMemory) Any x
+no_memory_back altered.NoMemory e = record { of = tt; is = refl; is_good = tt }
+no_memory_back (altered.Memory m) e = absurd cc
+no_memory_back (altered.Column c d) e = absurd cc
+
+added_back : (x : Alteration) → IsAlteration x → first_altered x ≡ (keyword key.Add) → Makes added_of (GoodBoth IsColumn (GoodOptional Any)) x
+added_back altered.NoMemory g e = absurd cc
+added_back (altered.Memory m) g e = absurd cc
+added_back (altered.Column c d) g e = record { of = (c, d); is = refl; is_good = (g, any_default d) }
+
+added_law : Reads spell_altered (GoodFirst IsAlteration first_altered (keyword key.Add)) goes_altered added_at
+unfolding added_at
+added_law =
+    made_law spell_altered (GoodFirst IsAlteration first_altered (keyword key.Add)) goes_altered added_of
+    (after_word_law key.Add (after_law left_mark
+    (before_law right_mark (both_law column_law default_law (λ c d _ _. Ends-never c (spell_default d))) (λ x g. defaulted_ends x.0 x.1))))
+    (λ x g. record { is_good = g.0; is_first = refl }) (λ x g. added_back x g.is_good g.is_first) (λ x. refl) (λ x t. refl)
 
 abbrev is_altered : Lead → Bool
 is_altered (keyword key.InMemory) = true
 is_altered (keyword key.No) = true
+is_altered (keyword key.Add) = true
 is_altered l = false
 
-all_altered : (o : Option MemoryPart) → Any o → is_altered (first_altered o) ≡ true
-all_altered None g = refl
-all_altered (Some m) g = refl
+all_altered : (x : Alteration) → IsAlteration x → is_altered (first_altered x) ≡ true
+all_altered altered.NoMemory g = refl
+all_altered (altered.Memory m) g = refl
+all_altered (altered.Column c d) g = refl
 
-altered_choices : (l : Lead) → Choice spell_altered Any goes_altered first_altered l (altered_by l)
+altered_choices : (l : Lead) → Choice spell_altered IsAlteration goes_altered first_altered l (altered_by l)
 altered_choices (keyword key.InMemory) =
-    chosen (made_law spell_altered (GoodFirst Any first_altered (keyword key.InMemory)) goes_altered Some memory_law
-    (λ m g. record { is_good = tt; is_first = refl }) (λ o g. memory_back o g.is_first) (λ m. refl) (λ m t. refl))
+    chosen (made_law spell_altered (GoodFirst IsAlteration first_altered (keyword key.InMemory)) goes_altered altered.Memory memory_law
+    (λ m g. record { is_good = tt; is_first = refl }) (λ x g. memory_back x g.is_first) (λ m. refl) (λ m t. refl))
 altered_choices (keyword key.No) =
-    chosen (made_law spell_altered (GoodFirst Any first_altered (keyword key.No)) goes_altered (λ u. None) (after_word_law key.No (word_law key.InMemory))
-    (λ u g. record { is_good = tt; is_first = refl }) (λ o g. no_memory_back o g.is_first) (λ u. refl) (λ u t. refl))
-altered_choices l = none_chosen (λ ts. refl) (unknown is_altered Any first_altered all_altered l refl)
+    chosen (made_law spell_altered (GoodFirst IsAlteration first_altered (keyword key.No)) goes_altered (λ u. altered.NoMemory)
+    (after_word_law key.No (word_law key.InMemory))
+    (λ u g. record { is_good = tt; is_first = refl }) (λ x g. no_memory_back x g.is_first) (λ u. refl) (λ u t. refl))
+altered_choices (keyword key.Add) = chosen added_law
+altered_choices l = none_chosen (λ ts. refl) (unknown is_altered IsAlteration first_altered all_altered l refl)
 
-pub altered_law : Reads spell_altered Any goes_altered altered_at
+pub altered_law : Reads spell_altered IsAlteration goes_altered altered_at
 unfolding altered_at
-altered_law = picked_law spell_altered Any goes_altered lead altered_by first_altered None tt altered_firsts altered_choices
+altered_law = picked_law spell_altered IsAlteration goes_altered lead altered_by first_altered altered.NoMemory tt altered_firsts altered_choices

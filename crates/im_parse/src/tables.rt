@@ -1,14 +1,17 @@
+ghost use Rattle.std.specs.Prelude.{◌≡◌};
 ghost use Rattle.im_readers.specs.Reading.{Found};
 ghost use Rattle.im_readers.specs.Answers.{Gives};
 ghost use Rattle.im_parse.specs.inner.Marks as marks;
 ghost use Rattle.im_parse.specs.inner.Tables as tables;
 
-use crate::marks::{begins, is_comma, left_paren, level, name, number, peek, right_paren, word};
+use crate::marks::{
+    begins, is_comma, left_paren, level, lit, name, number, peek, right_paren, word,
+};
 use im_readers::{Halt, Part, list_up_to};
 use im_syntax::limits::MOST_TEXT_BYTES;
-use im_syntax::{ColumnPart, Keyword, KindWord, MemoryPart, Stmt, Token};
+use im_syntax::{ColumnPart, Keyword, KindWord, Lit, MemoryPart, Stmt, Token};
 use im_values::limits::{MOST_COLUMNS, MOST_IN_SHAPE};
-use im_values::{List, Priority};
+use im_values::{List, Name, Priority};
 use std::alloc::Global;
 
 /// The length of a VARCHAR2, in bytes.
@@ -177,22 +180,74 @@ pub fn create(alloc: Global, tokens: &[Token]) -> Result<(Stmt, &[Token]), Halt>
     ))
 }
 
-/// What stands behind the name in ALTER TABLE: an INMEMORY clause, or NO INMEMORY and so none.
+/// DEFAULT and a value, where it is written.
+#[tactic(auto, unfolding(crate::specs::inner::Tables::default_at))]
+fn default(alloc: Global, tokens: &[Token]) -> Result<(Option<Lit>, &[Token]), Halt>
+    ensures { Gives (λ x. Found x.0 x.1.now) result (tables.default_at tokens.now) }
+{
+    if !begins(tokens, Keyword::Default) {
+        return Ok((None, tokens));
+    }
+    let rest = word(tokens, Keyword::Default)?;
+    let (value, rest) = lit(alloc, rest)?;
+    Ok((Some(value), rest))
+}
+
+/// What stands behind the name in ALTER TABLE.
+#[derive(Drop)]
+pub enum Alteration {
+    /// An INMEMORY clause.
+    Memory(MemoryPart),
+    /// NO INMEMORY.
+    NoMemory,
+    /// ADD, and a column with its default in parentheses.
+    Column(ColumnPart, Option<Lit>),
+}
+
+/// ADD, and a column with its default in parentheses.
+#[tactic(auto, unfolding(crate::specs::inner::Tables::added_at))]
+fn added(alloc: Global, tokens: &[Token]) -> Result<(Alteration, &[Token]), Halt>
+    ensures { Gives (λ x. Found x.0 x.1.now) result (tables.added_at tokens.now) }
+{
+    let rest = word(tokens, Keyword::Add)?;
+    let rest = left_paren(rest)?;
+    let (column, rest) = column(alloc, rest)?;
+    let (default, rest) = default(alloc, rest)?;
+    let rest = right_paren(rest)?;
+    Ok((Alteration::Column(column, default), rest))
+}
+
 #[tactic(auto, unfolding(crate::specs::inner::Tables::altered_at))]
-fn altered(tokens: &[Token]) -> Result<(Option<MemoryPart>, &[Token]), Halt>
+fn altered(alloc: Global, tokens: &[Token]) -> Result<(Alteration, &[Token]), Halt>
     ensures { Gives (λ x. Found x.0 x.1.now) result (tables.altered_at tokens.now) }
 {
     match peek(tokens)? {
         Token::Keyword(Keyword::InMemory) => {
             let (memory, rest) = memory(tokens)?;
-            Ok((Some(memory), rest))
+            Ok((Alteration::Memory(memory), rest))
         }
         Token::Keyword(Keyword::No) => {
             let rest = word(tokens, Keyword::No)?;
             let rest = word(rest, Keyword::InMemory)?;
-            Ok((None, rest))
+            Ok((Alteration::NoMemory, rest))
         }
+        Token::Keyword(Keyword::Add) => added(alloc, tokens),
         _ => Err(Halt::Left(tokens.len())),
+    }
+}
+
+/// The statement that an alteration of the table of a name is.
+fn statement_of(name: Name, alteration: Alteration) -> Stmt
+    ensures { result ≡ tables.alter_of (name, alteration) }
+{
+    match alteration {
+        Alteration::Memory(memory) => Stmt::AlterMemory { name, memory },
+        Alteration::NoMemory => Stmt::AlterNoMemory { name },
+        Alteration::Column(column, default) => Stmt::AddColumn {
+            name,
+            column,
+            default,
+        },
     }
 }
 
@@ -204,9 +259,6 @@ pub fn alter(alloc: Global, tokens: &[Token]) -> Result<(Stmt, &[Token]), Halt>
     let rest = word(tokens, Keyword::Alter)?;
     let rest = word(rest, Keyword::Table)?;
     let (name, rest) = name(alloc, rest)?;
-    let (memory, rest) = altered(rest)?;
-    match memory {
-        Some(memory) => Ok((Stmt::AlterMemory { name, memory }, rest)),
-        None => Ok((Stmt::AlterNoMemory { name }, rest)),
-    }
+    let (alteration, rest) = altered(alloc, rest)?;
+    Ok((statement_of(name, alteration), rest))
 }

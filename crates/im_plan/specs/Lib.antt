@@ -1,3 +1,4 @@
 pub mod Alone
+pub mod Altered
 pub mod Goes
 pub mod Plan

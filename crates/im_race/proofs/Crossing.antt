@@ -11,6 +11,7 @@ use denote.Struct.Field.{row_field, bool-field, u32-field, u64-field}
 use denote.Struct.Tuple.{TupleAt, type_at}
 use Rattle.std.proofs.Crossing.{crosses}
 use Rattle.std.specs.contracts.option.Option as option
+use Rattle.im_values.specs.contracts.row.Row as row
 use Rattle.im_values.specs.contracts.schema.Column as column
 use Rattle.im_values.specs.contracts.schema.Schema as schema
 use Rattle.im_syntax.proofs.Crossing.{bound_send, name_send, name_sync, statement_sync}
@@ -75,10 +76,36 @@ column_sync = search (sendable, crosses, name_sync) depth 60 fits 10000
 schema_send : IsSend schema.the_row
 schema_send = search (sendable, crosses, column_send, column_sync) depth 60 fits 10000
 
+row_send : IsSend row.the_row
+row_send = search (sendable, crosses) depth 60 fits 10000
+
 seen_send : IsSend view.the_row
 seen_send =
-    declared_send view.the_type
-    (u64_send, (u32_send, (u64_send, (u64_send, (u64_send, (u64_send, (as_row_send schema.the_field schema_send, (as_row_send own.the_field own_send, tt))))))))
+    declared_send view.the_type (
+      u64_send,
+      (
+        u32_send,
+        (
+          u64_send,
+          (
+            u64_send,
+            (
+              u64_send,
+              (
+                u64_send,
+                (
+                  as_row_send schema.the_field schema_send,
+                  (
+                    as_row_send row.the_field row_send,
+                    (as_row_send own.the_field own_send, tt),
+                  ),
+                ),
+              ),
+            ),
+          ),
+        ),
+      ),
+    )
 
 cursor_send : IsSend cursor.the_row
 cursor_send =

@@ -10,3 +10,4 @@ pub mod OutcomesLemmas
 mod PlayingLemmas
 pub mod RaceLemmas
 pub mod SetUpLemmas
+pub mod TellingLaws

@@ -3,3 +3,4 @@ pub mod Jobs
 pub mod Lines
 pub mod Race
 pub mod Report
+pub mod Telling

@@ -6,6 +6,7 @@
 //!
 //! The main promise is that of [`race`]: its report is that of a lawful race. It stands on
 //! [`a_job_is_judged_by_the_whole_history`]: what a session did, as far as it knew the history when it left, holds of the whole one.
+//! What a refused line tells of columns that others added meanwhile is [`a_race_tells_of_columns`].
 //!
 //! Start with `specs/Race.antt`, then `racing.rt` and `course.rt`.
 #![tactic(auto)]
@@ -23,6 +24,6 @@ mod report;
 mod sorting;
 
 pub use course::RaceOptions;
-pub use laws::a_job_is_judged_by_the_whole_history;
+pub use laws::{a_job_is_judged_by_the_whole_history, a_race_tells_of_columns};
 pub use racing::race;
 pub use report::Report;

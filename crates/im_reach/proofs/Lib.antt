@@ -1,1 +1,2 @@
+pub mod AlteredLaws
 pub mod RestLaws

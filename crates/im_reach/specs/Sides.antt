@@ -5,6 +5,7 @@ use Rattle.im_core.specs.declared.answers.Offer.TheVariants.{Task, Idle}
 use Rattle.im_core.specs.declared.answers.Switched.{Switched}
 use Rattle.im_core.specs.declared.answers.Switched.TheVariants.{Done, AreaFull, Cancelled}
 use Rattle.im_core.specs.Answers.{content_in, killed_of, task_bytes}
+use Rattle.im_history.specs.declared.entry.Entry.{Entry}
 use Rattle.im_history.specs.declared.entry.What.{What}
 use Rattle.im_history.specs.declared.entry.What.TheVariants.{Switch, Cancel}
 use Rattle.im_history.specs.declared.limits.Limits.{Limits}
@@ -15,6 +16,7 @@ use Rattle.im_history.specs.History.{History, behind}
 use Rattle.im_history.specs.Leaves.{leaves}
 use Rattle.im_history.specs.Queue.{build_of, next, task_of}
 use Rattle.im_history.specs.Units.{Content, held_at, unit_content}
+use Rattle.im_plan.specs.Altered.{GotColumn as Got}
 use Rattle.im_plan.specs.Goes.{After}
 use Rattle.im_turn.specs.Turns.{TurnId}
 
@@ -76,6 +78,10 @@ pub record Added (old new : Known) (who : ℕ) (adds : History → What) (holds 
   pub after : After (AreOthers old.side) old.log at
   pub now : new ≡ record old { log = at ++ record { who = who; what = adds at } ∷ [] }
   pub fact : holds at
+
+-- a table got its last column at this place, by an entry that others added behind what was known
+abbrev pub GotColumn : StoreSide → History → History → ℕ → ℕ → Type 0
+GotColumn side known at table place = Got (speaks side) (length known) table place at
 
 -- a call began no build: others may have gone on before it, and this was found of the history at that moment
 pub record Missed (old new : Known) (holds : History → Type 0) : Type 0 where

@@ -1,25 +1,27 @@
-ghost use Rattle.std.specs.Prelude.{◌≡◌, ◌+◌, ◌<◌, ◌≤◌, length, true, false, Some, None, IfOk, IfErr};
+ghost use Rattle.std.specs.Prelude.{◌≡◌, ◌+◌, ◌<◌, ◌≤◌, length, true, false, IsTrue, Some, None, IfOk, IfErr};
+ghost use Rattle.std.specs.Option.{option_or};
+ghost use Rattle.im_values.specs.Fits.{may_stand};
 ghost use Rattle.im_history.specs.declared.entry.What.TheVariants as what;
 ghost use Rattle.im_history.specs.Area.{used};
 ghost use Rattle.im_history.specs.Commits.{scn};
 ghost use Rattle.im_history.specs.Cursors.{is_cursor_open};
 ghost use Rattle.im_history.specs.History.{behind};
-ghost use Rattle.im_history.specs.Legal.{Exists, IsLawful, MayInsert, MayLeave, MaySetMemory, MayWrite, put_from};
+ghost use Rattle.im_history.specs.Legal.{Exists, IsLawful, MayLeave, MaySetMemory, MayWrite, put_from};
 ghost use Rattle.im_history.specs.Queue.{credits};
-ghost use Rattle.im_history.specs.Refusals.{begin_refusal, create_refusal, insert_refusal, open_refusal, write_refusal};
+ghost use Rattle.im_history.specs.Refusals.{add_refusal, altered, begin_refusal, create_refusal, insert_refusal, open_refusal, write_refusal};
 ghost use Rattle.im_history.specs.Tables.{tables, given};
 ghost use Rattle.im_history.specs.Transactions.{is_open};
 ghost use Rattle.im_history.specs.Views.{look_at, view_at};
-ghost use Rattle.im_core.specs.Answers.{IsRefusal, content_in, cursor_view, evict_refusal};
+ghost use Rattle.im_core.specs.Answers.{IsRefusal, MayPut, content_in, cursor_view, evict_refusal};
 ghost use Rattle.im_core.specs.Tasks.{task_fetched, task_lent};
 ghost use Rattle.im_history.specs.Serving.{fetched_in, read_in, serving_content};
-ghost use Rattle.im_history.specs.Units.{IsOwn, opening_at, task_content, unit_content};
+ghost use Rattle.im_history.specs.Units.{IsOwn, task_content, unit_content};
 ghost use Rattle.im_reach.specs.Sides.{Added, Found, IsSwitched, Known, Missed, Offered, sole, speaks};
 
-use im_core::{Begun, Committed, Evicted, Made, Offer, Pin, Switched, Wrote};
+use im_core::{AddedColumn, Begun, Committed, Evicted, Made, Offer, Pin, Switched, Wrote};
 use im_history::{Change, Look, Mode, Opening, Priority, Refused, Shape, Task, UnitLike, View};
 use im_values::limits::{MOST_ROWS, NUMBERS};
-use im_values::{Name, Rows, Schema, Steps};
+use im_values::{Column, Name, Rows, Schema, Steps, Value};
 use std::sync::ledger::Ledger;
 use std::sync::{Arc, Wait};
 
@@ -66,6 +68,27 @@ pub trait Reach<U: UnitLike> {
             IsRefusal at (create_refusal at name) why)) }
         ensures lawful { IsLawful (known self.new).limits (known self.new).log };
 
+    /// Adds a column to a table behind those that it has, and its default. It is refused where a column of the table has the name, and
+    /// then where the table has [`MOST_COLUMNS`](im_values::limits::MOST_COLUMNS) columns.
+    fn add_column<R: Wait>(
+        &mut self,
+        rt: &R,
+        who: u32,
+        table: u32,
+        column: Column,
+        default: Value,
+    ) -> Result<AddedColumn, Refused>
+        requires session { who < NUMBERS }
+        requires speaks { speaks (known self.old).side who ≡ true }
+        requires exists { Exists (known self.old).log table }
+        requires idle { is_open (known self.old).log who ≡ false }
+        requires fits { IsTrue (may_stand column.kind default) }
+        ensures ok { IfOk result (λ added. Added (known self.old) (known self.new) who (λ at. what.Add table column default) (λ at.
+            (add_refusal at table column.name ≡ None) × (added ≡ record { place = length at; scn = scn at + 1 }))) }
+        ensures err { IfErr result (λ why. Found (known self.old) (known self.new) (λ at.
+            IsRefusal at (add_refusal at table column.name) why)) }
+        ensures lawful { IsLawful (known self.new).limits (known self.new).log };
+
     /// Begins a transaction of a mode. It is refused where one is open.
     fn begin<R: Wait>(&mut self, rt: &R, who: u32, mode: Mode) -> Result<Begun, Refused>
         requires session { who < NUMBERS }
@@ -93,8 +116,8 @@ pub trait Reach<U: UnitLike> {
         ensures added { Added (known self.old) (known self.new) who (λ at. what.Rollback) (λ at. result ≡ length at) }
         ensures lawful { IsLawful (known self.new).limits (known self.new).log };
 
-    /// Opens a cursor on a table: what it sees is fixed here. It is refused where this cursor is open, and then where
-    /// [`MOST_CURSORS`](im_values::limits::MOST_CURSORS) are open beside its statements' own.
+    /// Opens a cursor on a table: what it sees is fixed here. It is refused where the table has got columns since the caller saw it, then
+    /// where this cursor is open, and then where [`MOST_CURSORS`](im_values::limits::MOST_CURSORS) are open beside its statements' own.
     fn open_cursor<R: Wait>(
         &mut self,
         rt: &R,
@@ -105,13 +128,14 @@ pub trait Reach<U: UnitLike> {
         requires session { who < NUMBERS }
         requires speaks { speaks (known self.old).side who ≡ true }
         requires exists { Exists (known self.old).log opening.table }
-        requires seen { opening ≡ opening_at (known self.old).log opening.table }
         ensures ok { IfOk result (λ view. Added (known self.old) (known self.new) who (λ at. what.Open cursor opening.table) (λ at.
-            (open_refusal at who cursor ≡ None) × (view ≡ view_at at who opening.table))) }
+            (altered at opening.table opening.columns ≡ None)
+            × (open_refusal at who cursor ≡ None)
+            × (view ≡ view_at at who opening.table))) }
         ensures few { IfOk result (λ view. view.rows ≤ MOST_ROWS) }
         ensures some { IfOk result (λ view. 1 ≤ view.per) }
         ensures err { IfErr result (λ why. Found (known self.old) (known self.new) (λ at.
-            IsRefusal at (open_refusal at who cursor) why)) }
+            IsRefusal at (option_or (altered at opening.table opening.columns) (open_refusal at who cursor)) why)) }
         ensures lawful { IsLawful (known self.new).limits (known self.new).log };
 
     /// Reads what a scan needs of an extent: its current column unit, unless that is newer than the cursor's SCN, and the
@@ -148,8 +172,8 @@ pub trait Reach<U: UnitLike> {
         ensures added { Added (known self.old) (known self.new) who (λ at. what.Shut cursor) (λ at. result ≡ length at) }
         ensures lawful { IsLawful (known self.new).limits (known self.new).log };
 
-    /// Inserts rows into a table, at its next row numbers. It is refused where the transaction is READ ONLY, then where it
-    /// would have too many changes, and then where the store would be too full.
+    /// Inserts rows into a table, at its next row numbers. It is refused where the table has got columns since the caller saw it, then
+    /// where the transaction is READ ONLY, then where it would have too many changes, and then where the store would be too full.
     fn insert<R: Wait>(
         &mut self,
         rt: &R,
@@ -159,14 +183,15 @@ pub trait Reach<U: UnitLike> {
     ) -> Result<Wrote, Refused>
         requires session { who < NUMBERS }
         requires speaks { speaks (known self.old).side who ≡ true }
-        requires seen { opening ≡ opening_at (known self.old).log opening.table }
-        requires may { MayInsert (known self.old).log opening.table rows }
+        requires may { MayPut (known self.old).log opening rows }
         ensures ok { IfOk result (λ wrote. Added (known self.old) (known self.new) who
             (λ at. what.Write (put_from opening.table (given at opening.table) rows)) (λ at.
-            (insert_refusal (known self.old).limits at who (put_from opening.table (given at opening.table) rows) ≡ None)
+            (altered at opening.table opening.columns ≡ None)
+            × (insert_refusal (known self.old).limits at who (put_from opening.table (given at opening.table) rows) ≡ None)
             × (wrote ≡ record { place = length at; first = given at opening.table }))) }
         ensures err { IfErr result (λ why. Found (known self.old) (known self.new) (λ at.
-            IsRefusal at (insert_refusal (known self.old).limits at who (put_from opening.table (given at opening.table) rows)) why)) }
+            IsRefusal at (option_or (altered at opening.table opening.columns)
+            (insert_refusal (known self.old).limits at who (put_from opening.table (given at opening.table) rows))) why)) }
         ensures lawful { IsLawful (known self.new).limits (known self.new).log };
 
     /// Writes changes to rows that an open cursor saw, and answers the place of the entry. It is refused where the

@@ -4,10 +4,10 @@ ghost use Rattle.im_history.specs.Units.{IsOwn, task_content};
 ghost use Rattle.im_reach.specs.Sides.{IsSwitched, missed, sole};
 
 use crate::reach::Reach;
-use im_core::{Begun, Committed, Core, Evicted, Made, Offer, Pin, Switched, Wrote};
+use im_core::{AddedColumn, Begun, Committed, Core, Evicted, Made, Offer, Pin, Switched, Wrote};
 use im_history::{Change, Look, Mode, Opening, Priority, Refused, Shape, Task, UnitLike, View};
 use im_values::limits::NUMBERS;
-use im_values::{Name, Rows, Schema, Steps};
+use im_values::{Column, Name, Rows, Schema, Steps, Value};
 use std::sync::ledger::Ledger;
 use std::sync::{Arc, Wait};
 
@@ -40,6 +40,19 @@ impl<U: UnitLike> Reach<U> for Sole<U> {
         shape: Shape,
     ) -> Result<Made, Refused> {
         let answer = self.core.create(who, name, schema, shape);
+        self.core.known();
+        answer
+    }
+
+    fn add_column<R: Wait>(
+        &mut self,
+        _rt: &R,
+        who: u32,
+        table: u32,
+        column: Column,
+        default: Value,
+    ) -> Result<AddedColumn, Refused> {
+        let answer = self.core.add_column(who, table, column, default);
         self.core.known();
         answer
     }

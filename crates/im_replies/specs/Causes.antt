@@ -9,13 +9,18 @@ use Rattle.im_replies.specs.declared.fault.Fault.{Fault}
 use Rattle.im_replies.specs.declared.fault.Fault.TheVariants as fault
 
 -- the fault of a call that was to do this and was refused for this cause, before its line made an entry. Only a creation is refused for
--- a name that is taken, only an opening for a cursor that is open, and only an eviction for an extent without a unit: of another call
--- these three say nothing, and stand as the want of memory
+-- a name that is taken, and so only one more column; only an opening or an insert for a table that got columns, only an opening for a
+-- cursor that is open, and only an eviction for an extent without a unit: of another call these say nothing, and stand as the want of
+-- memory
 abbrev pub fault_of : Aim → Why → Fault
 fault_of (aim.Creating name) (why.TableExists table) = fault.TableExists name
-fault_of (aim.Opening cursor) why.CursorOpen = fault.CursorOpen cursor
+fault_of (aim.Adding name) why.ColumnExists = fault.RepeatedColumn name
+fault_of (aim.Opening table cursor) (why.Altered place) = fault.TableAltered table place
+fault_of (aim.Opening table cursor) why.CursorOpen = fault.CursorOpen cursor
+fault_of (aim.Inserting table) (why.Altered place) = fault.TableAltered table place
 fault_of (aim.Evicting table extent) why.NoUnit = fault.NoUnit table extent
 fault_of other why.TooManyTables = fault.TooManyTables
+fault_of other why.TooManyColumns = fault.TooManyColumns
 fault_of other (why.TransactionOpen place) = fault.TransactionOpen place
 fault_of other why.ReadOnly = fault.ReadOnly
 fault_of other why.TooManyCursors = fault.TooManyCursors
@@ -25,6 +30,8 @@ fault_of other (why.TooManyChanges need left) = fault.TooManyChanges need left
 fault_of other (why.StoreFull need left) = fault.StoreFull need left
 fault_of other why.NoMemory = fault.Memory 0
 fault_of other (why.TableExists table) = fault.Memory 0
+fault_of other why.ColumnExists = fault.Memory 0
+fault_of other (why.Altered place) = fault.Memory 0
 fault_of other why.CursorOpen = fault.Memory 0
 fault_of other why.NoUnit = fault.Memory 0
 

@@ -8,10 +8,22 @@ pub enum Aim {
         /// Its name.
         name: Name,
     },
+    /// To add a column to a table.
+    Adding {
+        /// The column's name.
+        name: Name,
+    },
     /// To open a cursor.
     Opening {
+        /// The number of the table that it is to see, from 1.
+        table: u32,
         /// The session's number for the cursor. The cursor of a statement's own scan is 0.
         cursor: u32,
+    },
+    /// To insert rows.
+    Inserting {
+        /// The number of the table that they are put into, from 1.
+        table: u32,
     },
     /// To evict the unit of an extent.
     Evicting {

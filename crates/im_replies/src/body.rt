@@ -14,7 +14,7 @@ pub enum Body {
         /// The SCN after its creation.
         scn: u64,
     },
-    /// ALTER TABLE changed whether, or with which priority, a table has column units.
+    /// ALTER TABLE changed whether, or with which priority, a table has column units, or gave it a column.
     Altered {
         /// The table's number, from 1.
         table: u32,

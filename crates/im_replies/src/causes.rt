@@ -13,6 +13,7 @@ fn plain(cause: Why) -> Fault
 {
     match cause {
         Why::TooManyTables => Fault::TooManyTables,
+        Why::TooManyColumns => Fault::TooManyColumns,
         Why::TransactionOpen { place } => Fault::TransactionOpen { place },
         Why::ReadOnly => Fault::ReadOnly,
         Why::TooManyCursors => Fault::TooManyCursors,
@@ -20,9 +21,12 @@ fn plain(cause: Why) -> Fault
         Why::Serialize { row, scn } => Fault::CannotSerialize { row, scn },
         Why::TooManyChanges { need, left } => Fault::TooManyChanges { need, left },
         Why::StoreFull { need, left } => Fault::StoreFull { need, left },
-        Why::TableExists { .. } | Why::CursorOpen | Why::NoUnit | Why::NoMemory => {
-            Fault::Memory { k: 0 }
-        }
+        Why::TableExists { .. }
+        | Why::ColumnExists
+        | Why::Altered { .. }
+        | Why::CursorOpen
+        | Why::NoUnit
+        | Why::NoMemory => Fault::Memory { k: 0 },
     }
 }
 
@@ -33,7 +37,16 @@ impl Fault {
     {
         match (aim, cause) {
             (Aim::Creating { name }, Why::TableExists { .. }) => Fault::TableExists { name },
-            (Aim::Opening { cursor }, Why::CursorOpen) => Fault::CursorOpen { cursor },
+            (Aim::Adding { name }, Why::ColumnExists) => Fault::RepeatedColumn { name },
+            (Aim::Opening { table, .. }, Why::Altered { place }) => Fault::TableAltered {
+                table,
+                place,
+            },
+            (Aim::Opening { cursor, .. }, Why::CursorOpen) => Fault::CursorOpen { cursor },
+            (Aim::Inserting { table }, Why::Altered { place }) => Fault::TableAltered {
+                table,
+                place,
+            },
             (Aim::Evicting { table, extent }, Why::NoUnit) => Fault::NoUnit { table, extent },
             (_, cause) => plain(cause),
         }

@@ -23,7 +23,7 @@ pub enum Fault {
         /// The name as written, in capitals.
         name: Name,
     },
-    /// The name stands twice among the columns that are created, inserted or set.
+    /// The name stands twice among the columns that are created, inserted or set, or a column of the table has the name already.
     RepeatedColumn {
         /// The name that stands twice.
         name: Name,
@@ -114,6 +114,15 @@ pub enum Fault {
         table: u32,
         /// The extent as asked for.
         extent: u64,
+    },
+    /// The table has the most columns that it may have.
+    TooManyColumns,
+    /// The table got a column after the statement's names were looked up.
+    TableAltered {
+        /// The table's number, from 1.
+        table: u32,
+        /// The place in the history of the entry that added its last column.
+        place: u64,
     },
     /// Out of memory. The entries made so far stay, and no row was changed.
     Memory {

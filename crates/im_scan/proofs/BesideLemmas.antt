@@ -1,13 +1,12 @@
 -- What was fetched and what a view's own changes left, merged by row number.
 use Rattle.std.proofs.Common.{◌≡◌, ℕ, zero, suc, ◌+◌, ◌<◌, ◌≤◌, ◌==◌, ◌&&◌, Bool, true, false, if◌then◌else◌, List, [], ◌∷◌, ◌++◌, ◌⊎◌, inl, inr, length, drop, get_or, map, All, Option, Some, None, refl, sym, ap, subst, ◌∙◌, ⊎_elim, arith, append_assoc}
 use Rattle.std.specs.List.{AllByRecursion, fold}
-use Rattle.std.specs.Option.{option_copied, unwrap_or}
+use Rattle.std.specs.Option.{unwrap_or}
 use Rattle.std.proofs.lemmas.Bool.{cases_lt}
 use Rattle.std.proofs.lemmas.Bool.Decides.{nat_tests}
-use Rattle.std.proofs.lemmas.List.{drop_all, length-map}
+use Rattle.std.proofs.lemmas.List.{drop_all}
 use Rattle.std.proofs.lemmas.List.Elements.{All-head, All-tail}
 use Rattle.std.proofs.Math.Seq.{drop-cons}
-use denote.Ref.{Bor}
 use Rattle.im_syntax.specs.declared.bound.Bound.{Bound}
 use Rattle.im_history.specs.declared.change.Change.{Change}
 use Rattle.im_history.specs.declared.view.View.{View}
@@ -18,7 +17,6 @@ use Rattle.im_scan.specs.Parts.{MayAsk, fetched_after}
 use Rattle.im_scan.specs.inner.Beside.{AreBeside, Beside, ComesOf, IsIn, IsPassed, IsRising, SkipsEqual}
 use Rattle.im_scan.specs.inner.Left.{AreBetween}
 use Rattle.im_scan.specs.inner.Steps.{IsUnchanged}
-use Rattle.im_scan.specs.inner.Walk.{lent_beside}
 
 -- ---- lists
 
@@ -325,13 +323,13 @@ passed-more fetched from at row old rows more inside is pushed whole =
     ∙ (ap (λ (r : ℕ × Option Row). rows ++ r ∷ drop (at + 1) fetched) is
     ∙ (ap (λ (l : Beside). rows ++ l) (sym (rest-cons fetched at inside)) ∙ whole)))
 
--- ---- one that is lent
+-- the same one once more
+pub pushed-again : (rows more : Beside) (row again : ℕ × Option Row) → more ≡ rows ++ again ∷ [] → again ≡ row → more ≡ rows ++ row ∷ []
+pushed-again rows more row again pushed same = pushed ∙ ap (λ (r : ℕ × Option Row). rows ++ r ∷ []) same
 
-pub at-lent : (fetched : List (ℕ × Option (Bor Row))) (at : ℕ) (row : ℕ × Option (Bor Row)) → at < length fetched → row ≡ get_or fetched at row →
-    (row.0, option_copied row.1) ≡ get_or (lent_beside fetched) at (0, None)
-at-lent [] at row inside is = absurd (omega (arith, inside))
-at-lent (f ∷ fetched) zero row inside is = ap (λ (r : ℕ × Option (Bor Row)). (r.0, option_copied r.1)) is
-at-lent (f ∷ fetched) (suc at) row inside is = at-lent fetched at row (omega (arith, inside)) is
-
-pub length-lent : (fetched : List (ℕ × Option (Bor Row))) → length (lent_beside fetched) ≡ length fetched
-length-lent fetched = length-map fetched (λ (r : ℕ × Option (Bor Row)). (r.0, option_copied r.1))
+-- one that is there, whatever stands for one that is not
+pub at-within : (fetched : Beside) (at : ℕ) (row : ℕ × Option Row) → at < length fetched → row ≡ get_or fetched at row →
+    row ≡ get_or fetched at (0, None)
+at-within [] at row inside is = absurd (omega (arith, inside))
+at-within (f ∷ fetched) zero row inside is = is
+at-within (f ∷ fetched) (suc at) row inside is = at-within fetched at row (omega (arith, inside)) is

@@ -1,17 +1,15 @@
 -- A query may be asked of each row that a scan takes.
-use Rattle.std.proofs.Common.{◌≡◌, ℕ, zero, suc, ◌+◌, ◌-◌, ◌<◌, ◌==◌, ◌&&◌, Bool, true, false, if◌then◌else◌, List, [], ◌∷◌, length, get_or, map, Option, Some, None, refl, sym, subst, arith}
+use Rattle.std.proofs.Common.{◌≡◌, ℕ, zero, suc, ◌+◌, ◌-◌, ◌<◌, ◌==◌, ◌&&◌, Bool, true, false, if◌then◌else◌, List, [], ◌∷◌, length, get_or, Option, Some, None, refl, sym, subst, arith}
 use Rattle.std.specs.Prelude.{nat_lt}
 use Rattle.std.specs.List.{AllByRecursion, fold}
-use Rattle.std.specs.Option.{ForSome, option_copied}
-use denote.Ref.{Bor}
+use Rattle.std.specs.Option.{ForSome}
 use Rattle.im_syntax.specs.declared.bound.Bound.{Bound}
 use Rattle.im_history.specs.declared.change.Change.{Change}
 use Rattle.im_history.specs.declared.view.View.{View}
 use Rattle.im_history.specs.Rows.{Row, row_after}
 use Rattle.im_history.specs.Units.{Content}
-use Rattle.im_scan.specs.Parts.{MayAsk, row_in_unit, fetched_after, taken_row}
-use Rattle.im_scan.specs.inner.Steps.{MayScan}
-use Rattle.im_scan.specs.inner.Walk.{lent_beside}
+use Rattle.im_scan.specs.Parts.{MayAsk, row_in_unit, fetched_after}
+use Rattle.im_scan.specs.inner.Steps.{MayScan, laid_row}
 use Rattle.im_scan.proofs.SlotLemmas.{AreTaken}
 
 no_row : (bound : Bound) → MayAsk bound None
@@ -59,7 +57,7 @@ own-fits bound (change ∷ own) table rid row all fits =
     (one-fits bound ((change.table == table) && (change.rid == rid)) change.row row all.0 fits)
 
 taken-fits : (bound : Bound) (unit : Option Content) (fetched : List (ℕ × Option Row)) (view : View) (rid : ℕ)
-    → MayScan bound unit fetched view.own → MayAsk bound (taken_row unit fetched view rid)
+    → MayScan bound unit fetched view.own → MayAsk bound (laid_row unit fetched view rid)
 taken-fits bound unit fetched view rid may =
     own-fits bound view.own view.table rid (fold (fetched_after rid) (row_in_unit unit rid) fetched) may.own_fits
     (fetched-fits bound fetched rid (row_in_unit unit rid) may.fetched_fits (unit-fits bound unit rid may.unit_fits))
@@ -72,10 +70,10 @@ slots-fit bound unit fetched view first count slots may taken =
 
 -- ---- one of them
 
-pub slot-fits : (bound : Bound) (slots : List (Option (Bor Row))) (i : ℕ) (row : Option (Bor Row)) → i < length slots → row ≡ get_or slots i row
-    → AllByRecursion (MayAsk bound) (map option_copied slots) → MayAsk bound (option_copied row)
+pub slot-fits : (bound : Bound) (slots : List (Option Row)) (i : ℕ) (row : Option Row) → i < length slots → row ≡ get_or slots i row
+    → AllByRecursion (MayAsk bound) slots → MayAsk bound row
 slot-fits bound [] i row within is all = absurd (omega (arith, within))
-slot-fits bound (slot ∷ slots) zero row within is all = subst (λ (o : Option (Bor Row)). MayAsk bound (option_copied o)) (sym is) all.0
+slot-fits bound (slot ∷ slots) zero row within is all = subst (MayAsk bound) (sym is) all.0
 slot-fits bound (slot ∷ slots) (suc i) row within is all = slot-fits bound slots i row (omega (arith, within)) is all.1
 
 pub row-fits : (bound : Bound) (fetched : List (ℕ × Option Row)) (i : ℕ) (row : ℕ × Option Row) → i < length fetched → row ≡ get_or fetched i row
@@ -83,9 +81,3 @@ pub row-fits : (bound : Bound) (fetched : List (ℕ × Option Row)) (i : ℕ) (r
 row-fits bound [] i row within is all = absurd (omega (arith, within))
 row-fits bound (f ∷ fetched) zero row within is all = subst (λ (o : ℕ × Option Row). MayAsk bound o.1) (sym is) all.0
 row-fits bound (f ∷ fetched) (suc i) row within is all = row-fits bound fetched i row (omega (arith, within)) is all.1
-
-pub beside-fits : (bound : Bound) (rows : List (ℕ × Option (Bor Row))) (i : ℕ) (row : ℕ × Option (Bor Row)) → i < length rows → row ≡ get_or rows i row
-    → AllByRecursion (λ r. MayAsk bound r.1) (lent_beside rows) → MayAsk bound (option_copied row.1)
-beside-fits bound [] i row within is all = absurd (omega (arith, within))
-beside-fits bound (r ∷ rows) zero row within is all = subst (λ (o : ℕ × Option (Bor Row)). MayAsk bound (option_copied o.1)) (sym is) all.0
-beside-fits bound (r ∷ rows) (suc i) row within is all = beside-fits bound rows i row (omega (arith, within)) is all.1

@@ -1,30 +1,38 @@
 -- What callers know of the parts of a scan: what each may be asked, how they are merged, and what all of them are.
-use Rattle.std.proofs.Common.{◌≡◌, ℕ, zero, suc, ◌+◌, ◌-◌, ◌*◌, ◌/◌, ◌<◌, ◌≤◌, ◌^◌, min, Bool, true, false, if◌then◌else◌, List, [], ◌∷◌, ◌++◌, length, map, Option, Some, None, refl, sym, subst, ap, ◌∙◌, ⊎_elim, arith, append-nil}
+use Rattle.std.proofs.Common.{◌≡◌, ℕ, zero, suc, ◌+◌, ◌-◌, ◌*◌, ◌/◌, ◌<◌, ◌≤◌, ◌^◌, min, Bool, true, false, if◌then◌else◌, All, List, [], ◌∷◌, ◌++◌, length, map, Option, Some, None, refl, sym, subst, ap, ◌∙◌, ⊎_elim, arith, append-nil}
 use Rattle.std.specs.Prelude.{nat_le}
 use Rattle.std.specs.List.{AllByRecursion, fold, range_with_len, filter_map, cons_option}
 use Rattle.std.specs.Option.{ForSome, option_map}
 use Rattle.std.proofs.Math.Nat.{lt-mul-div-succ}
 use Rattle.std.proofs.lemmas.Bool.{cases_lt}
 use Rattle.std.proofs.lemmas.Bool.Decides.{nat_tests}
-use Rattle.std.proofs.lemmas.List.Elements.{filter_map-append}
+use Rattle.std.proofs.lemmas.List.{length-take-le}
+use Rattle.std.proofs.lemmas.List.Elements.{All-take, filter_map-append}
 use Rattle.im_syntax.specs.declared.bound.Bound.{Bound}
 use Rattle.im_history.specs.declared.view.View.{View}
 use Rattle.im_history.specs.Commits.{scn}
 use Rattle.im_history.specs.Grid.{extents_for}
 use Rattle.im_history.specs.History.{History}
 use Rattle.im_history.specs.Rows.{Row, rows, row_after, seen, present}
-use Rattle.im_history.specs.Units.{Content, content_at, rows_of_extent, stale, unit as current}
-use Rattle.im_history.specs.Views.{per_at, seen_by}
+use Rattle.im_history.specs.Legal.{IsLegal}
+use Rattle.im_history.specs.Units.{Content, content_at, rows_of_extent, stale, unit as current, unit_row}
+use Rattle.im_history.specs.Views.{per_at, seen_by, shown}
+use Rattle.im_history.specs.declared.limits.Limits.{Limits}
+use Rattle.im_history.proofs.FitLaws.{fits-length, fits-short}
 use Rattle.im_history.proofs.RowLaws.{rows-append}
+use Rattle.im_history.proofs.ShapeLaws.{are-narrow, defaults-fit}
+use Rattle.im_history.proofs.StaleLaws.{defaults-first}
+use Rattle.im_history.proofs.ViewLaws.{HasColumns}
+use Rattle.im_column.specs.Forms.{IsShort}
 use Rattle.im_history.specs.Serving.{not_newer, serving, serving_content, rows_in, fetched_by, fetched_in, shown_all}
 use Rattle.im_group.specs.Partials.{Numbered, Parts, partial, merged, CanMerge}
 use Rattle.im_group.proofs.ForCallers.{merged-partial, CanMerge-partial}
 use Rattle.im_scan.specs.declared.faces.Face.{Face}
 use Rattle.im_scan.specs.declared.faces.Face.TheVariants.{Whole, Edges, Bare}
 use Rattle.im_scan.specs.Faces.{Shows, unit_of}
-use Rattle.im_scan.specs.Parts.{MayAsk}
-use Rattle.im_scan.specs.Pinned.{Serves, IsPinned, seen_in, seen_to, seen_all}
-use Rattle.im_scan.proofs.PinLemmas.{pinned-read, present-same}
+use Rattle.im_scan.specs.Parts.{AreDefaults, AreShown, MayAsk, MayAskShown}
+use Rattle.im_scan.specs.Pinned.{HasDefaults, Serves, IsPinned, seen_in, seen_to, seen_all}
+use Rattle.im_scan.proofs.PinLemmas.{are-shown, present-same, unit-shown}
 
 -- ---- what was pinned
 
@@ -36,11 +44,11 @@ not_newer-old scn (Some unit_scn) n is = by (nat_le unit_scn scn) refl is
     by true within some = let same : unit_scn ≡ n = cc in grind (arith, nat_tests, same, within)
     by false newer some = absurd cc
 
-pinned-at : (h : History) (view : View) (extent : ℕ) (current : Option ℕ) → view.per ≡ per_at h view.table
+pinned-at : (h : History) (view : View) (extent : ℕ) (current : Option ℕ) → view.per ≡ per_at h view.table → HasDefaults h view
     → ((n : ℕ) → current ≡ Some n → n ≤ view.scn)
     → IsPinned h view extent (option_map (content_at h view.table extent) current) (shown_all view (fetched_by h view extent current))
-pinned-at h view extent None per old = record { per = per; serves = λ content some. absurd cc; is = refl }
-pinned-at h view extent (Some n) per old = record { per = per; serves = served; is = refl }
+pinned-at h view extent None per has old = record { per = per; defaults = has; serves = λ content some. absurd cc; is = refl }
+pinned-at h view extent (Some n) per has old = record { per = per; defaults = has; serves = served; is = refl }
   where
     served : (content : Content) → Some (content_at h view.table extent n) ≡ Some content → Serves h view extent content
     served content some =
@@ -50,48 +58,66 @@ pinned-at h view extent (Some n) per old = record { per = per; serves = served; 
 
 -- an extent that was pinned: the unit that serves the view was lent, and what is to be fetched beside it was fetched
 pub pinned-serving : (h : History) (view : View) (extent : ℕ) (unit : Option Content) (fetched : List (ℕ × Option Row))
-    → view.per ≡ per_at h view.table → unit ≡ serving_content h view extent
+    → view.per ≡ per_at h view.table → HasColumns h view → unit ≡ serving_content h view extent
     → fetched ≡ fetched_in h view extent → IsPinned h view extent unit fetched
-pinned-serving h view extent unit fetched per lent is =
-    rw (lent, is) (pinned-at h view extent (serving h view extent) per
+pinned-serving h view extent unit fetched per has lent is =
+    rw (lent, is) (pinned-at h view extent (serving h view extent) per (λ at old. defaults-first h view at has old)
     (not_newer-old view.scn (current h view.table extent)))
 
--- a query may be asked of each row that was ever committed to a table
-pub record MayAskOf (bound : Bound) (history : History) (table : ℕ) : Type 0 where
-  pub each : (n rid : ℕ) → MayAsk bound (rows history table n rid)
+-- what was fetched is as the view shows it
+pub fetched-shown : (h : History) (view : View) (extent : ℕ) (unit : Option Content) (fetched : List (ℕ × Option Row))
+    → IsPinned h view extent unit fetched → AreShown view fetched
+fetched-shown h view extent unit fetched pinned =
+    are-shown view fetched (fetched_by h view extent (option_map (λ content. content.scn) unit)) pinned.is
 
-each-mapped : (bound : Bound) (row_at : ℕ → Option Row) (rids : List ℕ) → ((rid : ℕ) → MayAsk bound (row_at rid))
-    → AllByRecursion (MayAsk bound) (map row_at rids)
-each-mapped bound row_at [] each = tt
-each-mapped bound row_at (rid ∷ rids) each = (each rid, each-mapped bound row_at rids each)
+-- in a legal history the view of a cursor has a default for each of its columns, and none is a text that is too long
+pub defaults-are : (limits : Limits) (h : History) (view : View) → IsLegal limits h → HasColumns h view → AreDefaults view
+defaults-are limits h view legal has =
+    let fit = defaults-fit limits h view.table has.made legal has.is in
+    let narrow = are-narrow limits h view.table has.made legal has.is in
+    let long = fits-length has.made.defaults has.made.schema fit in
+    let few = has.few in
+    record {
+      each = ap length has.defaults ∙ length-take-le (length view.columns) has.made.defaults (omega (arith, few, long));
+      short = subst (All IsShort) (sym has.defaults) (All-take IsShort (length view.columns) has.made.defaults (fits-short has.made.defaults has.made.schema fit narrow));
+    }
 
-each-fetched : (bound : Bound) (row_at : ℕ → Option Row) (rids : List ℕ) → ((rid : ℕ) → MayAsk bound (row_at rid))
-    → AllByRecursion (λ (row : ℕ × Option Row). MayAsk bound row.1) (map (λ rid. (rid, row_at rid)) rids)
-each-fetched bound row_at [] each = tt
-each-fetched bound row_at (rid ∷ rids) each = (each rid, each-fetched bound row_at rids each)
+-- a query may be asked of each row that was committed up to a view's SCN, as the view shows it
+pub record MayAskOf (bound : Bound) (history : History) (view : View) : Type 0 where
+  pub each : (n rid : ℕ) → n ≤ view.scn → MayAskShown bound view (rows history view.table n rid)
 
--- it may then be asked of each row of a unit that was lent
+each-mapped : (bound : Bound) (view : View) (row_at : ℕ → Option Row) (rids : List ℕ) → ((rid : ℕ) → MayAskShown bound view (row_at rid))
+    → AllByRecursion (MayAskShown bound view) (map row_at rids)
+each-mapped bound view row_at [] each = tt
+each-mapped bound view row_at (rid ∷ rids) each = (each rid, each-mapped bound view row_at rids each)
+
+each-fetched : (bound : Bound) (view : View) (row_at : ℕ → Option Row) (rids : List ℕ) → ((rid : ℕ) → MayAskShown bound view (row_at rid))
+    → AllByRecursion (λ (row : ℕ × Option Row). MayAsk bound row.1) (shown_all view (map (λ rid. (rid, row_at rid)) rids))
+each-fetched bound view row_at [] each = tt
+each-fetched bound view row_at (rid ∷ rids) each = (each rid, each-fetched bound view row_at rids each)
+
+-- it may then be asked of each row of a unit that was lent, as the view shows it
 pub unit-may : (bound : Bound) (h : History) (view : View) (extent : ℕ) (unit : Option Content)
     (fetched : List (ℕ × Option Row))
-    → IsPinned h view extent unit fetched → MayAskOf bound h view.table
-    → ForSome unit (λ content. AllByRecursion (MayAsk bound) content.rows)
+    → IsPinned h view extent unit fetched → MayAskOf bound h view
+    → ForSome unit (λ content. AllByRecursion (MayAskShown bound view) content.rows)
 unit-may bound h view extent unit fetched pinned may content is =
     let serves = pinned.serves content is in
-    rw serves.holds (each-mapped bound (rows h view.table content.scn) (rows_of_extent (per_at h view.table) extent)
-    (may.each content.scn))
+    rw serves.holds (each-mapped bound view (unit_row h view.table content.scn) (rows_of_extent (per_at h view.table) extent)
+    (λ rid. subst (MayAsk bound) (sym (unit-shown h view content.scn rid pinned.defaults serves.old)) (may.each content.scn rid serves.old)))
 
 -- and of each row that was fetched
 pub fetched-may : (bound : Bound) (h : History) (view : View) (extent : ℕ) (unit : Option Content)
     (fetched : List (ℕ × Option Row))
-    → IsPinned h view extent unit fetched → MayAskOf bound h view.table → AllByRecursion (λ row. MayAsk bound row.1) fetched
+    → IsPinned h view extent unit fetched → MayAskOf bound h view → AllByRecursion (λ row. MayAsk bound row.1) fetched
 fetched-may bound h view extent None fetched pinned may =
-    rw (pinned-read h view extent None fetched pinned)
-    (each-fetched bound (rows h view.table view.scn) (range_with_len (extent * view.per) (rows_in view extent))
-    (may.each view.scn))
+    rw pinned.is
+    (each-fetched bound view (rows h view.table view.scn) (range_with_len (extent * view.per) (rows_in view extent))
+    (λ rid. may.each view.scn rid (omega arith)))
 fetched-may bound h view extent (Some content) fetched pinned may =
-    rw (pinned-read h view extent (Some content) fetched pinned)
-    (each-fetched bound (rows h view.table view.scn) (stale h view.table extent content.scn view.scn)
-    (may.each view.scn))
+    rw pinned.is
+    (each-fetched bound view (rows h view.table view.scn) (stale h view.table extent content.scn view.scn)
+    (λ rid. may.each view.scn rid (omega arith)))
 
 -- what holds of a unit holds of the one whose rows a face shows
 pub shown-may : (face : Face) (unit : Option Content) (bound : Bound) (P : Content → Type 0) → Shows face unit bound → ForSome unit P →
@@ -111,7 +137,7 @@ pub seen_by-later : (h more : History) (view : View) (rid : ℕ) → view.scn �
     → seen_by (h ++ more) view rid ≡ seen_by h view rid
 unfolding seen
 seen_by-later h more view rid known =
-    ap (λ (row : Option Row). fold (row_after view.table rid) row view.own) (rows-append h more view.table view.scn rid known)
+    ap (λ (row : Option Row). shown view (fold (row_after view.table rid) row view.own)) (rows-append h more view.table view.scn rid known)
 
 pub seen_in-later : (h more : History) (view : View) (extent : ℕ) → view.scn ≤ scn h
     → seen_in (h ++ more) view extent ≡ seen_in h view extent

@@ -4,7 +4,6 @@ use Rattle.std.specs.Prelude.{is_some, nat_lt}
 use Rattle.std.specs.List.{fold}
 use Rattle.std.proofs.lemmas.Bool.{cases_lt}
 use Rattle.std.proofs.lemmas.Bool.Decides.{nat_tests}
-use denote.Ref.{Bor}
 use Rattle.std.proofs.lemmas.List.{drop_all, length-replicate, length-set, take_more}
 use Rattle.std.proofs.lemmas.List.Sums.{fold_push}
 use Rattle.im_history.specs.Rows.{Row}
@@ -13,7 +12,6 @@ use Rattle.im_lanes.specs.Masks.{filled, joined}
 use Rattle.im_unit.specs.Holding.{count_present, present_rows, spot_of}
 use Rattle.im_unit.proofs.ForCallers.{present-at}
 use Rattle.im_scan.specs.inner.Left.{AreBetween, cut_at, is_left, spots_where, without, without_all}
-use Rattle.im_scan.specs.inner.Walk.{lent_beside}
 
 -- ---- one row number is hidden
 
@@ -219,15 +217,15 @@ hidden-more content beside i row old spots new inside is so_far now =
     ∙ fold_push (λ (left : List Bool) r. without (spot_of content r.0) left) old (take i beside) row))
 
 -- rows from a place on, the first of which is this one
-pub between-more : (from end i : ℕ) (rows : List (ℕ × Option (Bor Row))) (row : ℕ × Option (Bor Row)) → i < length rows → row ≡ get_or rows i row →
-    from ≤ row.0 → row.0 < end → AreBetween (row.0 + 1) end (lent_beside (drop (i + 1) rows)) → AreBetween from end (lent_beside (drop i rows))
+pub between-more : (from end i : ℕ) (rows : List (ℕ × Option Row)) (row : ℕ × Option Row) → i < length rows → row ≡ get_or rows i row →
+    from ≤ row.0 → row.0 < end → AreBetween (row.0 + 1) end (drop (i + 1) rows) → AreBetween from end (drop i rows)
 between-more from end i [] row inside is low high rest = absurd (omega (arith, inside))
 between-more from end zero (r ∷ rows) row inside is low high rest =
-    subst (λ (x : ℕ × Option (Bor Row)). AreBetween from end (lent_beside (x ∷ rows))) is (low, high, rest)
+    subst (λ (x : ℕ × Option Row). AreBetween from end (x ∷ rows)) is (low, high, rest)
 between-more from end (suc i) (r ∷ rows) row inside is low high rest =
     let next : suc i + 1 ≡ suc (i + 1) = omega arith in
     between-more from end i rows row (omega (arith, inside)) is low high
-    (subst (λ (n : ℕ). AreBetween (row.0 + 1) end (lent_beside (drop n (r ∷ rows)))) next rest)
+    (subst (λ (n : ℕ). AreBetween (row.0 + 1) end (drop n (r ∷ rows))) next rest)
 
-pub between-none : (from end i : ℕ) (rows : List (ℕ × Option (Bor Row))) → length rows ≤ i → AreBetween from end (lent_beside (drop i rows))
-between-none from end i rows past = subst (λ (l : List (ℕ × Option (Bor Row))). AreBetween from end (lent_beside l)) (sym (drop_all i rows past)) tt
+pub between-none : (from end i : ℕ) (rows : List (ℕ × Option Row)) → length rows ≤ i → AreBetween from end (drop i rows)
+between-none from end i rows past = subst (λ (l : List (ℕ × Option Row)). AreBetween from end (l)) (sym (drop_all i rows past)) tt

@@ -2,11 +2,10 @@
 use Rattle.std.proofs.Common.{◌≡◌, ℕ, zero, suc, ◌+◌, ◌-◌, ◌<◌, ◌≤◌, ◌^◌, ◌==◌, Bool, true, false, if◌then◌else◌, List, [], ◌∷◌, ◌++◌, length, take, map, get_or, Option, Some, None, refl, sym, ap, subst, ◌∙◌, ⊎_elim, arith, append-nil}
 use Rattle.std.specs.Prelude.{nat_lt}
 use Rattle.std.specs.List.{cons_option, fold}
-use Rattle.std.specs.Option.{option_copied, option_map}
-use denote.Ref.{Bor}
+use Rattle.std.specs.Option.{option_map}
 use Rattle.std.proofs.lemmas.Bool.{cases_lt}
 use Rattle.std.proofs.lemmas.Bool.Decides.{nat_tests}
-use Rattle.std.proofs.lemmas.List.{length-append, length-take-le, map_more}
+use Rattle.std.proofs.lemmas.List.{length-append, length-take-le, take_more}
 use Rattle.im_syntax.specs.declared.bound.Bound.{Bound}
 use Rattle.im_history.specs.Rows.{Row, present}
 use Rattle.im_history.specs.Units.{Content}
@@ -21,7 +20,7 @@ use Rattle.im_scan.specs.inner.Beside.{Beside}
 use Rattle.im_scan.specs.inner.Left.{AreBetween, IsPartOfChosen, is_left, left_at, spots_where}
 use Rattle.im_scan.specs.inner.Pieces.{HasRoomFor, numbered_all}
 use Rattle.im_scan.specs.inner.Steps.{GoesOnBy, numbered}
-use Rattle.im_scan.specs.inner.Walk.{lent_beside, standing}
+use Rattle.im_scan.specs.inner.Walk.{standing}
 use Rattle.im_scan.proofs.PieceLemmas.{few-all, numbered-append}
 use Rattle.im_scan.proofs.WalkLemmas.{goes-on}
 
@@ -61,16 +60,6 @@ before-left from end rid [] are before within = grind (arith, nat_tests, within)
 before-left from end rid (row ∷ beside) are before within =
     other-left end rid row beside (λ e. let low = are.0 in omega (arith, e, low, before))
     ∙ before-left (row.0 + 1) end rid beside are.2 (let low = are.0 in omega (arith, low, before)) within
-
--- the same row numbers are left by rows that are lent
-pub left-lent : (end : ℕ) (beside : List (ℕ × Option (Bor Row))) → is_left end beside ≡ is_left end (lent_beside beside)
-left-lent end beside = λ i rid. by rid beside (nat_lt rid end) i
-  where
-    by : (rid : ℕ) (beside : List (ℕ × Option (Bor Row))) (b : Bool) →
-        fold (λ left row. if row.0 == rid then false else left) b beside ≡
-        fold (λ left row. if row.0 == rid then false else left) b (lent_beside beside)
-    by rid [] b = refl
-    by rid (row ∷ beside) b = by rid beside (if row.0 == rid then false else b)
 
 -- ---- what is left, by columns and by row numbers
 
@@ -299,36 +288,30 @@ numbered-push rows rid row =
     numbered-append rows ((rid, row) ∷ [])
     ∙ ap (λ (l : List Numbered). numbered_all rows ++ l) (append-nil (numbered rid row))
 
-pub length-lent : (rows : List (ℕ × Option (Bor Row))) → length (lent_beside rows) ≡ length rows
-length-lent [] = refl
-length-lent (row ∷ rows) = ap suc (length-lent rows)
-
 -- one more may come
-pub few-beside : (bound : Bound) (i : ℕ) (rows : List (ℕ × Option (Bor Row))) (old part : Parts) → HasRoomFor bound (length rows) old → i < length rows →
-    GoesOnBy bound old (numbered_all (lent_beside (take i rows))) part → IsPartOfFew bound part
+pub few-beside : (bound : Bound) (i : ℕ) (rows : Beside) (old part : Parts) → HasRoomFor bound (length rows) old → i < length rows →
+    GoesOnBy bound old (numbered_all (take i rows)) part → IsPartOfFew bound part
 few-beside bound i rows old part has inside goes = record {
-  rows = has.rows ++ numbered_all (lent_beside (take i rows));
+  rows = has.rows ++ numbered_all (take i rows);
   is = goes.goes has.rows has.is;
   few =
       let few = has.few in
-      let less = few-all (lent_beside (take i rows)) in
-      let long = length-lent (take i rows) ∙ length-take-le i rows (omega (arith, inside)) in
-      let both = length-append has.rows (numbered_all (lent_beside (take i rows))) in
+      let less = few-all (take i rows) in
+      let long = length-take-le i rows (omega (arith, inside)) in
+      let both = length-append has.rows (numbered_all (take i rows)) in
       omega (arith, few, less, long, both, inside);
 }
 
 -- one more came
-pub beside-more : (bound : Bound) (i : ℕ) (rows : List (ℕ × Option (Bor Row))) (row : ℕ × Option (Bor Row)) (old part new : Parts) → i < length rows →
-    row ≡ get_or rows i row → GoesOnBy bound old (numbered_all (lent_beside (take i rows))) part →
-    GoesOnBy bound part (numbered row.0 (option_copied row.1)) new → GoesOnBy bound old (numbered_all (lent_beside (take (i + 1) rows))) new
+pub beside-more : (bound : Bound) (i : ℕ) (rows : Beside) (row : ℕ × Option Row) (old part new : Parts) → i < length rows →
+    row ≡ get_or rows i row → GoesOnBy bound old (numbered_all (take i rows)) part →
+    GoesOnBy bound part (numbered row.0 row.1) new → GoesOnBy bound old (numbered_all (take (i + 1) rows)) new
 beside-more bound i rows row old part new inside is goes more =
     subst (λ (l : List Numbered). GoesOnBy bound old l new) (sym all)
-    (goes-on bound old part new (numbered_all (lent_beside (take i rows))) (numbered row.0 (option_copied row.1)) goes more)
+    (goes-on bound old part new (numbered_all (take i rows)) (numbered row.0 row.1) goes more)
   where
-    longer : lent_beside (take (i + 1) rows) ≡ lent_beside (take i rows) ++ (row.0, option_copied row.1) ∷ []
-    longer =
-        map_more (λ r. (r.0, option_copied r.1)) rows i row inside
-        ∙ ap (λ r. lent_beside (take i rows) ++ (r.0, option_copied r.1) ∷ []) (sym is)
+    longer : take (i + 1) rows ≡ take i rows ++ row ∷ []
+    longer = take_more rows i row inside ∙ ap (λ (r : ℕ × Option Row). take i rows ++ r ∷ []) (sym is)
 
-    all : numbered_all (lent_beside (take (i + 1) rows)) ≡ numbered_all (lent_beside (take i rows)) ++ numbered row.0 (option_copied row.1)
-    all = ap numbered_all longer ∙ numbered-push (lent_beside (take i rows)) row.0 (option_copied row.1)
+    all : numbered_all (take (i + 1) rows) ≡ numbered_all (take i rows) ++ numbered row.0 row.1
+    all = ap numbered_all longer ∙ numbered-push (take i rows) row.0 row.1

@@ -1,4 +1,5 @@
 mod SlotLemmas
+mod ShownLemmas
 mod InPlace
 mod PieceLemmas
 mod FitLemmas

@@ -7,18 +7,19 @@ use Rattle.std.proofs.lemmas.List.{drop_all, drop-drop, length-drop, length-map,
 use Rattle.std.proofs.lemmas.List.Elements.{All-head, All-tail}
 use Rattle.std.proofs.Math.Seq.{drop-cons}
 use Rattle.im_syntax.specs.declared.bound.Bound.{Bound}
-use Rattle.im_history.specs.declared.fetched.Piece.{Piece}
+use Rattle.im_scan.specs.declared.pieces.LentPiece.{LentPiece}
 use Rattle.im_history.specs.declared.view.View.{View}
-use Rattle.im_history.specs.Fetched.{in_piece, in_pieces, run_from}
+use Rattle.im_history.specs.Fetched.{run_from}
+use Rattle.im_scan.specs.inner.LentPieces.{in_lent_piece, in_lent_pieces}
 use Rattle.im_history.specs.Last.{Slot, AreLast, change_of, last_at}
 use Rattle.im_history.specs.Rows.{Row, present}
 use Rattle.im_history.proofs.LastLaws.{last-suffices}
 use Rattle.im_group.specs.Partials.{partial}
-use Rattle.im_scan.specs.Parts.{MayAsk, fetched_after, taken_row}
+use Rattle.im_scan.specs.Parts.{MayAsk, fetched_after}
 use Rattle.im_scan.specs.inner.Beside.{Beside}
 use Rattle.im_scan.specs.inner.Overlaid.{IsChangedIn, changed_by, left_of}
 use Rattle.im_scan.specs.inner.Pieces.{AreInOrder, numbered_all}
-use Rattle.im_scan.specs.inner.Steps.{MayScan}
+use Rattle.im_scan.specs.inner.Steps.{MayScan, laid_row}
 use Rattle.im_scan.proofs.BesideLemmas.{last-each}
 use Rattle.im_scan.proofs.FitLemmas.{own-fits}
 use Rattle.im_scan.proofs.InPlace.{first-of, found, numbers_of, others-of, rows_of}
@@ -128,49 +129,49 @@ change-before rid row old new rest is = record {
 
 -- ---- pieces from a place on
 
-pub left-whole : (pieces : List Piece) → left_of pieces 0 ≡ in_pieces pieces
+pub left-whole : (pieces : List LentPiece) → left_of pieces 0 ≡ in_lent_pieces pieces
 left-whole [] = refl
 left-whole (piece ∷ pieces) = refl
 
-at-cons : (fetched : List Piece) (at : ℕ) (piece : Piece) → at < length fetched → piece ≡ get_or fetched at piece
+at-cons : (fetched : List LentPiece) (at : ℕ) (piece : LentPiece) → at < length fetched → piece ≡ get_or fetched at piece
     → drop at fetched ≡ piece ∷ drop (at + 1) fetched
 at-cons fetched at piece within is =
     let next : suc at ≡ at + 1 = omega arith in
     drop-cons fetched at piece within
-    ∙ (ap (λ (p : Piece). p ∷ drop (suc at) fetched) (sym is) ∙ ap (λ (k : ℕ). piece ∷ drop k fetched) next)
+    ∙ (ap (λ (p : LentPiece). p ∷ drop (suc at) fetched) (sym is) ∙ ap (λ (k : ℕ). piece ∷ drop k fetched) next)
 
 -- what is left, once the rest of a piece is put behind others
-pub left-more : (fetched : List Piece) (at from : ℕ) (piece : Piece) (old new : Beside) → at < length fetched → piece ≡ get_or fetched at piece
-    → new ≡ old ++ drop from (in_piece piece) → new ++ left_of (drop (at + 1) fetched) 0 ≡ old ++ left_of (drop at fetched) from
+pub left-more : (fetched : List LentPiece) (at from : ℕ) (piece : LentPiece) (old new : Beside) → at < length fetched → piece ≡ get_or fetched at piece
+    → new ≡ old ++ drop from (in_lent_piece piece) → new ++ left_of (drop (at + 1) fetched) 0 ≡ old ++ left_of (drop at fetched) from
 left-more fetched at from piece old new within is put =
     ap (λ (l : Beside). l ++ left_of (drop (at + 1) fetched) 0) put
-    ∙ (ap (λ (l : Beside). (old ++ drop from (in_piece piece)) ++ l) (left-whole (drop (at + 1) fetched))
-    ∙ (append_assoc old (drop from (in_piece piece)) (in_pieces (drop (at + 1) fetched))
-    ∙ ap (λ (l : List Piece). old ++ left_of l from) (sym (at-cons fetched at piece within is))))
+    ∙ (ap (λ (l : Beside). (old ++ drop from (in_lent_piece piece)) ++ l) (left-whole (drop (at + 1) fetched))
+    ∙ (append_assoc old (drop from (in_lent_piece piece)) (in_lent_pieces (drop (at + 1) fetched))
+    ∙ ap (λ (l : List LentPiece). old ++ left_of l from) (sym (at-cons fetched at piece within is))))
 
 -- a row of a piece is put in the place of another, and the other pieces are left
-pub change-left : (fetched : List Piece) (at from next rid : ℕ) (piece : Piece) (row : Option Row) (old new : Beside) → at < length fetched
-    → piece ≡ get_or fetched at piece → IsChangedIn rid row (old ++ drop from (in_piece piece)) (new ++ drop next (in_piece piece))
+pub change-left : (fetched : List LentPiece) (at from next rid : ℕ) (piece : LentPiece) (row : Option Row) (old new : Beside) → at < length fetched
+    → piece ≡ get_or fetched at piece → IsChangedIn rid row (old ++ drop from (in_lent_piece piece)) (new ++ drop next (in_lent_piece piece))
     → IsChangedIn rid row (old ++ left_of (drop at fetched) from) (new ++ left_of (drop at fetched) next)
 change-left fetched at from next rid piece row old new within is changed =
-    subst (λ (l : List Piece). IsChangedIn rid row (old ++ left_of l from) (new ++ left_of l next)) (sym (at-cons fetched at piece within is))
+    subst (λ (l : List LentPiece). IsChangedIn rid row (old ++ left_of l from) (new ++ left_of l next)) (sym (at-cons fetched at piece within is))
     (record {
       before = all.before;
       was = all.was;
       behind = all.behind;
-      old_is = sym (append_assoc old (drop from (in_piece piece)) rest) ∙ all.old_is;
-      new_is = sym (append_assoc new (drop next (in_piece piece)) rest) ∙ all.new_is;
+      old_is = sym (append_assoc old (drop from (in_lent_piece piece)) rest) ∙ all.old_is;
+      new_is = sym (append_assoc new (drop next (in_lent_piece piece)) rest) ∙ all.new_is;
     })
   where
     rest : Beside
-    rest = in_pieces (drop (at + 1) fetched)
+    rest = in_lent_pieces (drop (at + 1) fetched)
 
-    all : IsChangedIn rid row ((old ++ drop from (in_piece piece)) ++ rest) ((new ++ drop next (in_piece piece)) ++ rest)
-    all = change-before rid row (old ++ drop from (in_piece piece)) (new ++ drop next (in_piece piece)) rest changed
+    all : IsChangedIn rid row ((old ++ drop from (in_lent_piece piece)) ++ rest) ((new ++ drop next (in_lent_piece piece)) ++ rest)
+    all = change-before rid row (old ++ drop from (in_lent_piece piece)) (new ++ drop next (in_lent_piece piece)) rest changed
 
 -- the end
-pub left-none : (fetched : List Piece) (at from : ℕ) → length fetched ≤ at → left_of (drop at fetched) from ≡ []
-left-none fetched at from past = ap (λ (l : List Piece). left_of l from) (drop_all at fetched past)
+pub left-none : (fetched : List LentPiece) (at from : ℕ) → length fetched ≤ at → left_of (drop at fetched) from ≡ []
+left-none fetched at from past = ap (λ (l : List LentPiece). left_of l from) (drop_all at fetched past)
 
 -- ---- rows in order
 
@@ -335,18 +336,18 @@ module _ (view : View) where
 
   -- the rows with the own changes over them are those that a scan takes
   pub laid-part : (bound : Bound) (first count : ℕ) (fetched : Beside) → AreInOrder first fetched → length fetched ≡ count
-      → partial bound (numbered_all (map (changed_by view) fetched)) ≡ partial bound (present (taken_row None fetched view) first count)
+      → partial bound (numbered_all (map (changed_by view) fetched)) ≡ partial bound (present (laid_row None fetched view) first count)
   laid-part bound first count fetched are long =
       ap (partial bound)
       (numbered-in-order first (map (changed_by view) fetched) (order-laid first fetched are)
-      ∙ (numbered_from-present (taken_row None fetched view) first (rows_of (map (changed_by view) fetched)) each
-      ∙ ap (present (taken_row None fetched view) first) all))
+      ∙ (numbered_from-present (laid_row None fetched view) first (rows_of (map (changed_by view) fetched)) each
+      ∙ ap (present (laid_row None fetched view) first) all))
     where
       all : length (rows_of (map (changed_by view) fetched)) ≡ count
       all = length-map (map (changed_by view) fetched) (λ row. row.1) ∙ (length-map fetched (changed_by view) ∙ long)
 
       each : (i : ℕ) → i < length (rows_of (map (changed_by view) fetched))
-          → get_or (rows_of (map (changed_by view) fetched)) i None ≡ taken_row None fetched view (first + i)
+          → get_or (rows_of (map (changed_by view) fetched)) i None ≡ laid_row None fetched view (first + i)
       each i within =
           let inside : i < length fetched = omega (arith, within, all, long) in
           at-laid first i fetched are inside

@@ -1,9 +1,6 @@
 -- What a part is made of.
 use Rattle.std.proofs.Common.{◌≡◌, ℕ, ◌+◌, ◌*◌, ◌<◌, ◌≤◌, ◌^◌, List, [], ◌∷◌, length, Option, None, Some, sym, ap, subst, ◌∙◌, arith}
 use Rattle.std.specs.List.{AllByRecursion}
-use Rattle.std.specs.Option.{option_copied}
-use Rattle.std.proofs.lemmas.List.{length-map}
-use denote.Ref.{Bor}
 use Rattle.im_syntax.specs.declared.bound.Bound.{Bound}
 use Rattle.im_history.specs.declared.view.View.{View}
 use Rattle.im_history.specs.Grid.{extents_for}
@@ -11,8 +8,8 @@ use Rattle.im_history.specs.Rows.{Row, present}
 use Rattle.im_history.specs.Units.{Content}
 use Rattle.im_history.proofs.GridLaws.{first_within}
 use Rattle.im_group.specs.Partials.{Parts, partial, IsPartOfFew}
-use Rattle.im_scan.specs.Parts.{MayAsk, row_in_unit, taken_row}
-use Rattle.im_scan.specs.inner.Steps.{IsUnchanged, MayScan, lent, gathered, numbered_from, unit_rows, with_fetched}
+use Rattle.im_scan.specs.Parts.{MayAsk, row_in_unit}
+use Rattle.im_scan.specs.inner.Steps.{IsUnchanged, MayScan, gathered, laid_row, numbered_from, unit_rows, with_fetched}
 use Rattle.im_scan.specs.declared.faces.Face.{Face}
 use Rattle.im_scan.specs.Faces.{unit_of}
 use Rattle.std.proofs.lemmas.List.FromFn.{length-map-range_with_len}
@@ -29,25 +26,24 @@ begins view extent cut within = first_within view.rows view.per extent (rw cut a
 
 module _ (unit : Option Content) (fetched : List (ℕ × Option Row)) (view : View) (first count : ℕ) where
   -- these slots were gathered
-  pub record AreGathered (slots : List (Option (Bor Row))) : Type 0 where
-    pub is : lent slots ≡ gathered unit fetched view first count
+  pub record AreGathered (slots : List (Option Row)) : Type 0 where
+    pub is : slots ≡ gathered unit fetched view first count
 
-  pub slots-within : (slots : List (Option (Bor Row))) → AreGathered slots → first + count < 2 ^ 64
+  pub slots-within : (slots : List (Option Row)) → AreGathered slots → first + count < 2 ^ 64
       → first + length slots < 2 ^ 64
   slots-within slots are within =
-      let long : length slots ≡ count = sym (length-map slots option_copied) ∙
-      (ap length are.is ∙ (are_taken unit fetched view first count).long) in
+      let long : length slots ≡ count = ap length are.is ∙ (are_taken unit fetched view first count).long in
       omega (arith, within, long)
 
-  pub slots-may : (bound : Bound) (slots : List (Option (Bor Row))) → AreGathered slots → MayScan bound unit fetched view.own
-      → AllByRecursion (MayAsk bound) (lent slots)
+  pub slots-may : (bound : Bound) (slots : List (Option Row)) → AreGathered slots → MayScan bound unit fetched view.own
+      → AllByRecursion (MayAsk bound) slots
   slots-may bound slots are may =
       subst (AllByRecursion (MayAsk bound)) (sym are.is)
       (slots-fit bound unit fetched view first count (gathered unit fetched view first count) may (are_taken unit fetched view first count))
 
   -- the part of these slots is that of the rows that a scan takes
-  pub slots-part : (bound : Bound) (slots : List (Option (Bor Row))) → AreGathered slots
-      → partial bound (numbered_from first (lent slots)) ≡ partial bound (present (taken_row unit fetched view) first count)
+  pub slots-part : (bound : Bound) (slots : List (Option Row)) → AreGathered slots
+      → partial bound (numbered_from first slots) ≡ partial bound (present (laid_row unit fetched view) first count)
   slots-part bound slots are =
       ap (partial bound) (ap (numbered_from first) are.is ∙ gathered-present unit fetched view first count)
 
@@ -70,13 +66,13 @@ pub fetched-part : (bound : Bound) (face : Face) (fetched : List (ℕ × Option 
     → unit_of face ≡ None → length fetched ≡ count
     → IsUnchanged view first count
     → partial bound (numbered_from first (with_fetched first (unit_rows None first (length fetched)) fetched))
-    ≡ partial bound (present (taken_row (unit_of face) fetched view) first count)
+    ≡ partial bound (present (laid_row (unit_of face) fetched view) first count)
 fetched-part bound face fetched view first count bare same none =
     ap (partial bound)
     (ap (λ (n : ℕ). numbered_from first (with_fetched first (unit_rows None first n) fetched)) same
     ∙ (ap (numbered_from first) (sym (own-none view first count slots none long))
     ∙ (gathered-present None fetched view first count
-    ∙ ap (λ (u : Option Content). present (taken_row u fetched view) first count) (sym bare))))
+    ∙ ap (λ (u : Option Content). present (laid_row u fetched view) first count) (sym bare))))
   where
     slots : List (Option Row)
     slots = with_fetched first (unit_rows None first count) fetched
@@ -86,6 +82,6 @@ fetched-part bound face fetched view first count bare same none =
 
 -- what stands at the row numbers with the rows beside the unit is what a scan takes there
 pub beside-part : (unit : Option Content) (fetched : Beside) (view : View) (first count : ℕ) (rows : Beside) → AreBeside fetched view first count rows →
-    present (standing unit rows) first count ≡ present (taken_row unit fetched view) first count
+    present (standing unit rows) first count ≡ present (laid_row unit fetched view) first count
 beside-part unit fetched view first count rows are =
-    present-same (standing unit rows) (taken_row unit fetched view) first count (λ rid from below. are.at rid from below (row_in_unit unit rid))
+    present-same (standing unit rows) (laid_row unit fetched view) first count (λ rid from below. are.at rid from below (row_in_unit unit rid))

@@ -1,16 +1,15 @@
 -- What was fetched in pieces, piece by piece and row by row.
 use Rattle.std.proofs.Common.{◌≡◌, ℕ, zero, suc, ◌+◌, ◌-◌, ◌<◌, ◌≤◌, ◌^◌, Bool, true, false, if◌then◌else◌, List, [], ◌∷◌, ◌++◌, length, take, get_or, map, Option, None, Some, refl, sym, ap, subst, ◌∙◌, arith, append_assoc, append-nil}
-use Rattle.std.specs.List.{AllByRecursion, range_with_len, slice_get}
+use Rattle.std.specs.List.{AllByRecursion, flat_map, range_with_len, slice_get}
 use Rattle.std.proofs.lemmas.Grind.{flat_map-append}
 use Rattle.std.proofs.lemmas.List.{length-append, length-take-le, map-append, take_more}
 use Rattle.im_values.specs.declared.content.Content.{Content as Value}
 use Rattle.im_syntax.specs.Condition.{CondOf}
 use Rattle.im_syntax.specs.declared.bound.Bound.{Bound}
 use Rattle.im_syntax.specs.BoundFits.{BoundFits}
-use Rattle.im_history.specs.declared.fetched.Piece.{Piece}
-use Rattle.im_history.specs.Fetched.{each_at, in_piece, in_pieces, run_from}
+use Rattle.im_history.specs.Fetched.{all_widened, each_at, run_from}
 use Rattle.im_history.specs.Rows.{Row}
-use Rattle.im_history.proofs.FetchedLaws.{each_at-next, in_pieces-push, length-each_at, length-run_from, run_from-next}
+use Rattle.im_history.proofs.FetchedLaws.{each_at-next, length-each_at, length-run_from, length-widened, numbers-widened, run_from-next}
 use Rattle.im_group.specs.Partials.{GoesOnWith, IsPartOfFew, IsPartOfSoFew, Numbered, Parts, keeps, partial}
 use Rattle.im_scan.specs.Parts.{MayAsk}
 use Rattle.im_scan.specs.inner.Pieces.{AreInOrder, HasRoomFor, TakesAt, numbered_all}
@@ -25,26 +24,35 @@ numbers-run first (row ∷ rows) = ap (λ (l : List ℕ). first ∷ l) (numbers-
 
 -- ---- one piece more
 
-pub pieces-more : (pieces : List Piece) (i : ℕ) (piece : Piece) → i < length pieces → piece ≡ get_or pieces i piece
-    → in_pieces (take (i + 1) pieces) ≡ in_pieces (take i pieces) ++ in_piece piece
-pieces-more pieces i piece within is =
-    ap in_pieces (take_more pieces i piece within ∙ ap (λ (p : Piece). take i pieces ++ p ∷ []) (sym is))
-    ∙ in_pieces-push (take i pieces) piece
+module _ {X : Type 0} (rows_in : X → List (ℕ × Option Row)) where
+  abbrev all_in : List X → List (ℕ × Option Row)
+  all_in pieces = flat_map rows_in pieces
 
-few-pieces : (pieces : List Piece) (i : ℕ) → length (in_pieces (take i pieces)) ≤ length (in_pieces pieces)
-few-pieces [] zero = omega arith
-few-pieces [] (suc i) = omega arith
-few-pieces (p ∷ pieces) zero = omega arith
-few-pieces (p ∷ pieces) (suc i) =
-    let less = few-pieces pieces i in
-    omega (arith, less, length-append (in_piece p) (in_pieces (take i pieces)), length-append (in_piece p) (in_pieces pieces))
+  -- a piece behind others
+  pub pieces-push : (pieces : List X) (piece : X) → flat_map rows_in (pieces ++ piece ∷ []) ≡ flat_map rows_in pieces ++ rows_in piece
+  pieces-push pieces piece =
+      flat_map-append rows_in pieces (piece ∷ []) ∙ ap (λ (last : List (ℕ × Option Row)). all_in pieces ++ last) (append-nil (rows_in piece))
 
-pub pieces-within : (pieces : List Piece) (i : ℕ) (piece : Piece) → i < length pieces → piece ≡ get_or pieces i piece
-    → length (in_pieces (take i pieces)) + length (in_piece piece) ≤ length (in_pieces pieces)
-pieces-within pieces i piece within is =
-    let more = ap length (pieces-more pieces i piece within is) ∙ length-append (in_pieces (take i pieces)) (in_piece piece) in
-    let less = few-pieces pieces (i + 1) in
-    omega (arith, more, less)
+  pub pieces-more : (pieces : List X) (i : ℕ) (piece : X) → i < length pieces → piece ≡ get_or pieces i piece
+      → flat_map rows_in (take (i + 1) pieces) ≡ flat_map rows_in (take i pieces) ++ rows_in piece
+  pieces-more pieces i piece within is =
+      ap all_in (take_more pieces i piece within ∙ ap (λ (p : X). take i pieces ++ p ∷ []) (sym is))
+      ∙ pieces-push (take i pieces) piece
+
+  few-pieces : (pieces : List X) (i : ℕ) → length (all_in (take i pieces)) ≤ length (all_in pieces)
+  few-pieces [] zero = omega arith
+  few-pieces [] (suc i) = omega arith
+  few-pieces (p ∷ pieces) zero = omega arith
+  few-pieces (p ∷ pieces) (suc i) =
+      let less = few-pieces pieces i in
+      omega (arith, less, length-append (rows_in p) (all_in (take i pieces)), length-append (rows_in p) (all_in pieces))
+
+  pub pieces-within : (pieces : List X) (i : ℕ) (piece : X) → i < length pieces → piece ≡ get_or pieces i piece
+      → length (flat_map rows_in (take i pieces)) + length (rows_in piece) ≤ length (flat_map rows_in pieces)
+  pieces-within pieces i piece within is =
+      let more = ap length (pieces-more pieces i piece within is) ∙ length-append (all_in (take i pieces)) (rows_in piece) in
+      let less = few-pieces pieces (i + 1) in
+      omega (arith, more, less)
 
 -- ---- row numbers in order
 
@@ -94,19 +102,26 @@ next-more first rid count next fetched piece are here numbers = record {
     all : length (fetched ++ piece) ≡ length fetched + length piece
     all = length-append fetched piece
 
-pub in-order-more : (first rid count next i : ℕ) (pieces : List Piece) (piece : Piece) → i < length pieces → piece ≡ get_or pieces i piece
-    → IsNextTo first (in_pieces (take i pieces)) next → rid ≡ next → numbers_of (in_piece piece) ≡ range_with_len rid count
-    → IsNextTo first (in_pieces (take (i + 1) pieces)) (next + count)
-in-order-more first rid count next i pieces piece within is are here numbers =
-    subst (λ (l : List (ℕ × Option Row)). IsNextTo first l (next + count)) (sym (pieces-more pieces i piece within is))
-    (next-more first rid count next (in_pieces (take i pieces)) (in_piece piece) are here numbers)
+module _ {X : Type 0} (rows_in : X → List (ℕ × Option Row)) where
+  pub in-order-more : (first rid count next i : ℕ) (pieces : List X) (piece : X) → i < length pieces → piece ≡ get_or pieces i piece
+      → IsNextTo first (flat_map rows_in (take i pieces)) next → rid ≡ next → numbers_of (rows_in piece) ≡ range_with_len rid count
+      → IsNextTo first (flat_map rows_in (take (i + 1) pieces)) (next + count)
+  in-order-more first rid count next i pieces piece within is are here numbers =
+      subst (λ (l : List (ℕ × Option Row)). IsNextTo first l (next + count)) (sym (pieces-more rows_in pieces i piece within is))
+      (next-more first rid count next (flat_map rows_in (take i pieces)) (rows_in piece) are here numbers)
 
--- no row number overflows
-pub next-within : (first rid count next i : ℕ) (pieces : List Piece) (piece : Piece) → i < length pieces → piece ≡ get_or pieces i piece
-    → IsNextTo first (in_pieces (take i pieces)) next → numbers_of (in_piece piece) ≡ range_with_len rid count
-    → first + length (in_pieces pieces) < 2 ^ 64 → next + count < 2 ^ 64
-next-within first rid count next i pieces piece within is are numbers few =
-    omega (arith, are.next_is, long-span rid count (in_piece piece) numbers, pieces-within pieces i piece within is, few)
+  -- no row number overflows
+  pub next-within : (first rid count next i : ℕ) (pieces : List X) (piece : X) → i < length pieces → piece ≡ get_or pieces i piece
+      → IsNextTo first (flat_map rows_in (take i pieces)) next → numbers_of (rows_in piece) ≡ range_with_len rid count
+      → first + length (flat_map rows_in pieces) < 2 ^ 64 → next + count < 2 ^ 64
+  next-within first rid count next i pieces piece within is are numbers few =
+      omega (arith, are.next_is, long-span rid count (rows_in piece) numbers, pieces-within rows_in pieces i piece within is, few)
+
+-- rows that are lengthened are as much in order
+pub order-widened : (defaults : List Value) (first : ℕ) (rows : List (ℕ × Option Row)) → AreInOrder first rows
+    → AreInOrder first (all_widened defaults rows)
+order-widened defaults first rows are =
+    numbers-widened defaults rows ∙ (are ∙ ap (range_with_len first) (sym (length-widened defaults rows)))
 
 -- in order, the rows each with its number are those from the first number on
 pub numbered-in-order : (first : ℕ) (fetched : List (ℕ × Option Row)) → AreInOrder first fetched
@@ -128,14 +143,15 @@ all-back : {X : Type 0} (P : X → Type 0) (xs ys : List X) → AllByRecursion P
 all-back P [] ys all = all
 all-back P (x ∷ xs) ys all = all-back P xs ys all.1
 
-pub piece-fits : (bound : Bound) (pieces : List Piece) (i : ℕ) (piece : Piece) → i < length pieces → piece ≡ get_or pieces i piece
-    → AllByRecursion (λ row. MayAsk bound row.1) (in_pieces pieces) → AllByRecursion (λ row. MayAsk bound row.1) (in_piece piece)
-piece-fits bound [] i piece within is all = absurd (omega (arith, within))
-piece-fits bound (p ∷ pieces) zero piece within is all =
-    subst (λ (q : Piece). AllByRecursion (λ row. MayAsk bound row.1) (in_piece q)) (sym is)
-    (all-front (λ row. MayAsk bound row.1) (in_piece p) (in_pieces pieces) all)
-piece-fits bound (p ∷ pieces) (suc i) piece within is all =
-    piece-fits bound pieces i piece (omega (arith, within)) is (all-back (λ row. MayAsk bound row.1) (in_piece p) (in_pieces pieces) all)
+pub piece-fits : {X : Type 0} (rows_in : X → List (ℕ × Option Row)) (bound : Bound) (pieces : List X) (i : ℕ) (piece : X) → i < length pieces
+    → piece ≡ get_or pieces i piece → AllByRecursion (λ row. MayAsk bound row.1) (flat_map rows_in pieces)
+    → AllByRecursion (λ row. MayAsk bound row.1) (rows_in piece)
+piece-fits rows_in bound [] i piece within is all = absurd (omega (arith, within))
+piece-fits rows_in bound (p ∷ pieces) zero piece within is all =
+    subst (λ q. AllByRecursion (λ row. MayAsk bound row.1) (rows_in q)) (sym is)
+    (all-front (λ row. MayAsk bound row.1) (rows_in p) (flat_map rows_in pieces) all)
+piece-fits rows_in bound (p ∷ pieces) (suc i) piece within is all =
+    piece-fits rows_in bound pieces i piece (omega (arith, within)) is (all-back (λ row. MayAsk bound row.1) (rows_in p) (flat_map rows_in pieces) all)
 
 pub run-fits : (bound : Bound) (first : ℕ) (rows : List Row) → AllByRecursion (λ row. MayAsk bound row.1) (run_from first rows)
     → AllByRecursion (λ row. BoundFits row bound) rows
@@ -262,22 +278,23 @@ pub few-all : (fetched : List (ℕ × Option Row)) → length (numbered_all fetc
 few-all [] = omega arith
 few-all (f ∷ fetched) = few-one f.0 (length fetched) f.1 (numbered_all fetched) (few-all fetched)
 
-pub room-piece : (bound : Bound) (pieces : List Piece) (i : ℕ) (piece : Piece) (part : Parts) → i < length pieces → piece ≡ get_or pieces i piece
-    → length (in_pieces pieces) < 2 ^ 64 → part ≡ partial bound (numbered_all (in_pieces (take i pieces)))
-    → HasRoomFor bound (length (in_piece piece)) part
-room-piece bound pieces i piece part within is few so_far = record {
-  rows = numbered_all (in_pieces (take i pieces));
-  is = so_far;
-  few = omega (arith, few-all (in_pieces (take i pieces)), pieces-within pieces i piece within is, few);
-}
+module _ {X : Type 0} (rows_in : X → List (ℕ × Option Row)) where
+  pub room-piece : (bound : Bound) (pieces : List X) (i : ℕ) (piece : X) (part : Parts) → i < length pieces → piece ≡ get_or pieces i piece
+      → length (flat_map rows_in pieces) < 2 ^ 64 → part ≡ partial bound (numbered_all (flat_map rows_in (take i pieces)))
+      → HasRoomFor bound (length (rows_in piece)) part
+  room-piece bound pieces i piece part within is few so_far = record {
+    rows = numbered_all (flat_map rows_in (take i pieces));
+    is = so_far;
+    few = omega (arith, few-all (flat_map rows_in (take i pieces)), pieces-within rows_in pieces i piece within is, few);
+  }
 
-pub pieces-taken : (bound : Bound) (pieces : List Piece) (i : ℕ) (piece : Piece) (part new : Parts) → i < length pieces → piece ≡ get_or pieces i piece
-    → part ≡ partial bound (numbered_all (in_pieces (take i pieces))) → GoesOnBy bound part (numbered_all (in_piece piece)) new
-    → new ≡ partial bound (numbered_all (in_pieces (take (i + 1) pieces)))
-pieces-taken bound pieces i piece part new within is so_far goes =
-    goes.goes (numbered_all (in_pieces (take i pieces))) so_far
-    ∙ ap (partial bound)
-    (sym (ap numbered_all (pieces-more pieces i piece within is) ∙ numbered-append (in_pieces (take i pieces)) (in_piece piece)))
+  pub pieces-taken : (bound : Bound) (pieces : List X) (i : ℕ) (piece : X) (part new : Parts) → i < length pieces → piece ≡ get_or pieces i piece
+      → part ≡ partial bound (numbered_all (flat_map rows_in (take i pieces))) → GoesOnBy bound part (numbered_all (rows_in piece)) new
+      → new ≡ partial bound (numbered_all (flat_map rows_in (take (i + 1) pieces)))
+  pieces-taken bound pieces i piece part new within is so_far goes =
+      goes.goes (numbered_all (flat_map rows_in (take i pieces))) so_far
+      ∙ ap (partial bound)
+      (sym (ap numbered_all (pieces-more rows_in pieces i piece within is) ∙ numbered-append (flat_map rows_in (take i pieces)) (rows_in piece)))
 
 -- a run has as many row numbers as rows
 pub room-run : (bound : Bound) (first : ℕ) (rows : List Row) (part : Parts) → HasRoomFor bound (length (run_from first rows)) part
@@ -391,25 +408,30 @@ goes-each bound rids rows old new same goes = record {
 
 -- ---- pieces behind other rows
 
-pub room-piece-behind : (bound : Bound) (pieces : List Piece) (i : ℕ) (piece : Piece) (old part : Parts) → i < length pieces → piece ≡ get_or pieces i piece
-    → HasRoomFor bound (length (in_pieces pieces)) old → GoesOnBy bound old (numbered_all (in_pieces (take i pieces))) part
-    → HasRoomFor bound (length (in_piece piece)) part
-room-piece-behind bound pieces i piece old part within is room so_far = record {
-  rows = room.rows ++ numbered_all (in_pieces (take i pieces));
-  is = so_far.goes room.rows room.is;
-  few =
-      let all = length-append room.rows (numbered_all (in_pieces (take i pieces))) in
-      omega (arith, all, few-all (in_pieces (take i pieces)), pieces-within pieces i piece within is, room.few);
-}
+module _ {X : Type 0} (rows_in : X → List (ℕ × Option Row)) where
+  abbrev taken : List X → List Numbered
+  taken pieces = numbered_all (flat_map rows_in pieces)
 
-pub pieces-taken-behind : (bound : Bound) (pieces : List Piece) (i : ℕ) (piece : Piece) (old part new : Parts) → i < length pieces
-    → piece ≡ get_or pieces i piece → GoesOnBy bound old (numbered_all (in_pieces (take i pieces))) part
-    → GoesOnBy bound part (numbered_all (in_piece piece)) new → GoesOnBy bound old (numbered_all (in_pieces (take (i + 1) pieces))) new
-pieces-taken-behind bound pieces i piece old part new within is so_far goes = record {
-  goes = λ front begins.
-      goes.goes (front ++ numbered_all (in_pieces (take i pieces))) (so_far.goes front begins)
-      ∙ ap (partial bound)
-      (append_assoc front (numbered_all (in_pieces (take i pieces))) (numbered_all (in_piece piece))
-      ∙ ap (λ (l : List Numbered). front ++ l)
-      (sym (ap numbered_all (pieces-more pieces i piece within is) ∙ numbered-append (in_pieces (take i pieces)) (in_piece piece))));
-}
+  pub room-piece-behind : (bound : Bound) (pieces : List X) (i : ℕ) (piece : X) (old part : Parts) → i < length pieces → piece ≡ get_or pieces i piece
+      → HasRoomFor bound (length (flat_map rows_in pieces)) old → GoesOnBy bound old (numbered_all (flat_map rows_in (take i pieces))) part
+      → HasRoomFor bound (length (rows_in piece)) part
+  room-piece-behind bound pieces i piece old part within is room so_far = record {
+    rows = room.rows ++ taken (take i pieces);
+    is = so_far.goes room.rows room.is;
+    few =
+        let all = length-append room.rows (taken (take i pieces)) in
+        omega (arith, all, few-all (flat_map rows_in (take i pieces)), pieces-within rows_in pieces i piece within is, room.few);
+  }
+
+  pub pieces-taken-behind : (bound : Bound) (pieces : List X) (i : ℕ) (piece : X) (old part new : Parts) → i < length pieces
+      → piece ≡ get_or pieces i piece → GoesOnBy bound old (numbered_all (flat_map rows_in (take i pieces))) part
+      → GoesOnBy bound part (numbered_all (rows_in piece)) new → GoesOnBy bound old (numbered_all (flat_map rows_in (take (i + 1) pieces))) new
+  pieces-taken-behind bound pieces i piece old part new within is so_far goes = record {
+    goes = λ front begins.
+        goes.goes (front ++ taken (take i pieces)) (so_far.goes front begins)
+        ∙ ap (partial bound)
+        (append_assoc front (taken (take i pieces)) (numbered_all (rows_in piece))
+        ∙ ap (λ (l : List Numbered). front ++ l)
+        (sym (ap numbered_all (pieces-more rows_in pieces i piece within is)
+        ∙ numbered-append (flat_map rows_in (take i pieces)) (rows_in piece))));
+  }

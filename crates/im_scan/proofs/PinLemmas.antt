@@ -1,22 +1,25 @@
 -- The row that a scan takes of an extent that was pinned is the row that its view sees.
-use Rattle.std.proofs.Common.{◌≡◌, ℕ, zero, suc, ◌+◌, ◌-◌, ◌*◌, ◌<◌, ◌≤◌, ◌==◌, ◌&&◌, ◌||◌, Bool, true, false, if◌then◌else◌, List, [], ◌∷◌, get_or, map, filter, Option, Some, None, refl, ap, ◌∙◌, arith}
+use Rattle.std.proofs.Common.{◌≡◌, ℕ, zero, suc, ◌+◌, ◌-◌, ◌*◌, ◌<◌, ◌≤◌, ◌==◌, ◌&&◌, ◌||◌, Bool, true, false, if◌then◌else◌, List, [], ◌∷◌, get_or, map, filter, take, Option, Some, None, refl, sym, ap, ◌∙◌, arith}
 use Rattle.std.specs.Prelude.{nat_lt}
 use Rattle.std.specs.List.{fold, range_with_len, list_any, cons_option}
 use Rattle.std.specs.Option.{option_map}
 use Rattle.std.proofs.lemmas.Bool.Decides.{nat_tests}
 use Rattle.std.proofs.lemmas.List.FromFn.{get_or-map-range_with_len}
 use Rattle.std.proofs.lemmas.Map.Views.{any-filter_same}
+use Rattle.im_values.specs.declared.content.Content.{Content as Value}
+use Rattle.im_values.specs.Widened.{widened}
+use Rattle.im_values.proofs.WideLaws.{widened-again}
 use Rattle.im_history.specs.declared.view.View.{View}
 use Rattle.im_history.specs.History.{History}
-use Rattle.im_history.specs.Rows.{Row, rows, row_after, seen, present}
-use Rattle.im_history.specs.Units.{Content, content_at, rows_of_extent, stale, touched_between}
-use Rattle.im_history.specs.Views.{per_at, seen_by}
-use Rattle.im_history.proofs.StaleLaws.{rows-mended}
-use Rattle.im_history.proofs.ViewLaws.{shown_all-same}
-use Rattle.im_history.specs.Serving.{rows_in, committed_in, fetched_by}
+use Rattle.im_history.specs.Rows.{Row, rows, seen, present}
+use Rattle.im_history.specs.Units.{Content, content_at, rows_of_extent, stale, touched_between, unit_row}
+use Rattle.im_history.specs.Views.{per_at, seen_by, shown}
+use Rattle.im_history.proofs.StaleLaws.{fold-shown, rows-untouched, shown-again}
+use Rattle.im_history.specs.Columns.{columns_at, defaults_at}
+use Rattle.im_history.specs.Serving.{rows_in, committed_in, fetched_by, shown_all}
 use Rattle.im_unit.specs.Holding.{row_of}
-use Rattle.im_scan.specs.Parts.{row_in_unit, fetched_after, taken_row, taken_rows}
-use Rattle.im_scan.specs.Pinned.{Serves, IsPinned, seen_in}
+use Rattle.im_scan.specs.Parts.{AreShown, row_in_unit, fetched_after, taken_row, taken_rows}
+use Rattle.im_scan.specs.Pinned.{HasDefaults, Serves, IsPinned, seen_in}
 
 -- ---- a row number among those fetched
 
@@ -61,62 +64,97 @@ among-filter p rids rid among =
 
 -- ---- the row before the view's own changes
 
+-- what was read of row numbers, as the view shows it
+shown-among : (view : View) (f : ℕ → Option Row) (rids : List ℕ) → shown_all view (map (λ r. (r, f r)) rids) ≡ map (λ r. (r, shown view (f r))) rids
+shown-among view f [] = refl
+shown-among view f (rid ∷ rids) = ap (λ (l : List (ℕ × Option Row)). (rid, shown view (f rid)) ∷ l) (shown-among view f rids)
+
 fetched-committed : (h : History) (view : View) (extent rid : ℕ) → extent * view.per ≤ rid
     → rid < extent * view.per + rows_in view extent
-    → fold (fetched_after rid) None (committed_in h view extent) ≡ rows h view.table view.scn rid
+    → fold (fetched_after rid) None (shown_all view (committed_in h view extent)) ≡ shown view (rows h view.table view.scn rid)
 fetched-committed h view extent rid from below =
-    looked-up (rows h view.table view.scn) (range_with_len (extent * view.per) (rows_in view extent)) rid None
-    ∙ ap (λ (b : Bool). if b then rows h view.table view.scn rid else None)
-    (among-range (extent * view.per) (rows_in view extent) rid from below)
+    ap (fold (fetched_after rid) None)
+    (shown-among view (rows h view.table view.scn) (range_with_len (extent * view.per) (rows_in view extent)))
+    ∙ (looked-up (λ r. shown view (rows h view.table view.scn r)) (range_with_len (extent * view.per) (rows_in view extent)) rid None
+    ∙ ap (λ (b : Bool). if b then shown view (rows h view.table view.scn rid) else None)
+    (among-range (extent * view.per) (rows_in view extent) rid from below))
 
 content-row : (h : History) (table extent n rid : ℕ) → extent * per_at h table ≤ rid
-    → rid < extent * per_at h table + per_at h table → row_of (content_at h table extent n) rid ≡ rows h table n rid
+    → rid < extent * per_at h table + per_at h table → row_of (content_at h table extent n) rid ≡ unit_row h table n rid
 content-row h table extent n rid from below =
     let inside : nat_lt rid (extent * per_at h table) ≡ false = grind (arith, nat_tests) in
-    ap (λ (b : Bool). if b then None else get_or (map (rows h table n) (rows_of_extent (per_at h table) extent))
+    ap (λ (b : Bool). if b then None else get_or (map (unit_row h table n) (rows_of_extent (per_at h table) extent))
     (rid - extent * per_at h table) None) inside
-    ∙ get_or-map-range_with_len (rows h table n) (extent * per_at h table) (per_at h table) (rid - extent * per_at h table) rid
+    ∙ get_or-map-range_with_len (unit_row h table n) (extent * per_at h table) (per_at h table) (rid - extent * per_at h table) rid
     None (omega (arith, from, below)) (omega (arith, from))
 
 fetched-stale : (h : History) (view : View) (extent rid : ℕ) (content : Content) (row : Option Row)
     → extent * per_at h view.table ≤ rid → rid < extent * per_at h view.table + per_at h view.table
-    → fold (fetched_after rid) row (fetched_by h view extent (Some content.scn)) ≡
-    (if touched_between h content.scn view.scn view.table rid then rows h view.table view.scn rid else row)
+    → fold (fetched_after rid) row (shown_all view (fetched_by h view extent (Some content.scn))) ≡
+    (if touched_between h content.scn view.scn view.table rid then shown view (rows h view.table view.scn rid) else row)
 fetched-stale h view extent rid content row from below =
-    looked-up (rows h view.table view.scn) (stale h view.table extent content.scn view.scn) rid row
-    ∙ ap (λ (b : Bool). if b then rows h view.table view.scn rid else row)
+    ap (fold (fetched_after rid) row)
+    (shown-among view (rows h view.table view.scn) (stale h view.table extent content.scn view.scn))
+    ∙ (looked-up (λ r. shown view (rows h view.table view.scn r)) (stale h view.table extent content.scn view.scn) rid row
+    ∙ ap (λ (b : Bool). if b then shown view (rows h view.table view.scn rid) else row)
     (among-filter (touched_between h content.scn view.scn view.table) (rows_of_extent (per_at h view.table) extent) rid
-    (among-range (extent * per_at h view.table) (per_at h view.table) rid from below))
+    (among-range (extent * per_at h view.table) (per_at h view.table) rid from below)))
 
-served-row : (h : History) (view : View) (extent rid : ℕ) (content : Content) → Serves h view extent content
+wide-again : (first both : List Value) (n : ℕ) (row : Option Row) → first ≡ take n both
+    → option_map (widened both) (option_map (widened first) row) ≡ option_map (widened both) row
+wide-again first both n None is = refl
+wide-again first both n (Some row) is = ap (λ (l : List Value). Some (widened both (widened l row))) is ∙ ap Some (widened-again both n row)
+
+-- a view shows the row of an older unit as it shows the row that was committed there
+pub unit-shown : (h : History) (view : View) (n rid : ℕ) → HasDefaults h view → n ≤ view.scn
+    → shown view (unit_row h view.table n rid) ≡ shown view (rows h view.table n rid)
+unit-shown h view n rid has old =
+    wide-again (defaults_at h view.table n) view.defaults (columns_at h view.table n) (rows h view.table n rid) (has n old)
+
+served-row : (h : History) (view : View) (extent rid : ℕ) (content : Content) → HasDefaults h view → Serves h view extent content
     → extent * per_at h view.table ≤ rid → rid < extent * per_at h view.table + per_at h view.table
-    → fold (fetched_after rid) (row_of content rid) (fetched_by h view extent (Some content.scn)) ≡ rows h view.table view.scn rid
-served-row h view extent rid content serves from below =
-    fetched-stale h view extent rid content (row_of content rid) from below
-    ∙ (ap (λ (row : Option Row). if touched_between h content.scn view.scn view.table rid then rows h view.table view.scn rid
-    else row)
-    (ap (λ (c : Content). row_of c rid) serves.holds ∙ content-row h view.table extent content.scn rid from below)
-    ∙ rows-mended h view.table content.scn view.scn rid serves.old)
+    → shown view (fold (fetched_after rid) (row_of content rid) (shown_all view (fetched_by h view extent (Some content.scn))))
+    ≡ shown view (rows h view.table view.scn rid)
+served-row h view extent rid content has serves from below =
+    ap (shown view)
+    (fetched-stale h view extent rid content (row_of content rid) from below
+    ∙ ap (λ (row : Option Row). if touched_between h content.scn view.scn view.table rid then shown view (rows h view.table view.scn rid) else row)
+    (ap (λ (c : Content). row_of c rid) serves.holds ∙ content-row h view.table extent content.scn rid from below))
+    ∙ by (touched_between h content.scn view.scn view.table rid) refl
+  where
+    by : (b : Bool) → touched_between h content.scn view.scn view.table rid ≡ b
+        → shown view (if b then shown view (rows h view.table view.scn rid) else unit_row h view.table content.scn rid)
+        ≡ shown view (rows h view.table view.scn rid)
+    by true touched = shown-again view (rows h view.table view.scn rid)
+    by false none =
+        unit-shown h view content.scn rid has serves.old
+        ∙ ap (shown view) (sym (rows-untouched h content.scn view.scn view.table rid serves.old none))
 
 -- the extent's row numbers that the view has are the extent's
 within-per : (view : View) (extent per rid : ℕ) → view.per ≡ per → extent * view.per ≤ rid
     → rid < extent * view.per + rows_in view extent → (extent * per ≤ rid) × (rid < extent * per + per)
 within-per view extent per rid is from below = rw (← is) (from, omega (arith, below))
 
--- what was fetched is what was read of the versions
-pub pinned-read : (h : History) (view : View) (extent : ℕ) (unit : Option Content) (fetched : List (ℕ × Option Row))
-    → IsPinned h view extent unit fetched → fetched ≡ fetched_by h view extent (option_map (λ content. content.scn) unit)
-pinned-read h view extent unit fetched pinned = pinned.is ∙ shown_all-same view (fetched_by h view extent (option_map (λ content. content.scn) unit))
-
 committed-row : (h : History) (view : View) (extent rid : ℕ) (unit : Option Content) (fetched : List (ℕ × Option Row))
     → IsPinned h view extent unit fetched → extent * view.per ≤ rid → rid < extent * view.per + rows_in view extent
-    → fold (fetched_after rid) (row_in_unit unit rid) fetched ≡ rows h view.table view.scn rid
+    → shown view (fold (fetched_after rid) (row_in_unit unit rid) fetched) ≡ shown view (rows h view.table view.scn rid)
 committed-row h view extent rid None fetched pinned from below =
-    ap (fold (fetched_after rid) None) (pinned-read h view extent None fetched pinned) ∙ fetched-committed h view extent rid from below
+    ap (λ (l : List (ℕ × Option Row)). shown view (fold (fetched_after rid) None l)) pinned.is
+    ∙ (ap (shown view) (fetched-committed h view extent rid from below) ∙ shown-again view (rows h view.table view.scn rid))
 committed-row h view extent rid (Some content) fetched pinned from below =
     let inside = within-per view extent (per_at h view.table) rid pinned.per from below in
-    ap (fold (fetched_after rid) (row_of content rid)) (pinned-read h view extent (Some content) fetched pinned)
-    ∙ served-row h view extent rid content (pinned.serves content refl) inside.0 inside.1
+    ap (λ (l : List (ℕ × Option Row)). shown view (fold (fetched_after rid) (row_of content rid) l)) pinned.is
+    ∙ served-row h view extent rid content pinned.defaults (pinned.serves content refl) inside.0 inside.1
+
+-- what was fetched is as the view shows it
+pub are-shown : (view : View) (fetched read : List (ℕ × Option Row)) → fetched ≡ shown_all view read → AreShown view fetched
+are-shown view fetched read is = ap (shown_all view) is ∙ (again read ∙ sym is)
+  where
+    again : (rows : List (ℕ × Option Row)) → shown_all view (shown_all view rows) ≡ shown_all view rows
+    again [] = refl
+    again (row ∷ rows) =
+        ap (λ (r : Option Row). (row.0, r) ∷ shown_all view (shown_all view rows)) (shown-again view row.1)
+        ∙ ap (λ (l : List (ℕ × Option Row)). (row.0, shown view row.1) ∷ l) (again rows)
 
 -- ---- the row that the view sees
 
@@ -125,7 +163,7 @@ taken-seen : (h : History) (view : View) (extent rid : ℕ) (unit : Option Conte
     → taken_row unit fetched view rid ≡ seen_by h view rid
 unfolding seen
 taken-seen h view extent rid unit fetched pinned from below =
-    ap (λ (row : Option Row). fold (row_after view.table rid) row view.own)
+    fold-shown view rid (fold (fetched_after rid) (row_in_unit unit rid) fetched) (rows h view.table view.scn rid) view.own
     (committed-row h view extent rid unit fetched pinned from below)
 
 pub present-same : (f g : ℕ → Option Row) (first count : ℕ) → ((rid : ℕ) → first ≤ rid → rid < first + count → f rid ≡ g rid)

@@ -2,13 +2,12 @@
 use Rattle.std.proofs.Common.{◌≡◌, ℕ, suc, ◌+◌, ◌-◌, ◌<◌, ◌≤◌, ◌==◌, ◌&&◌, Bool, true, false, if◌then◌else◌, List, [], ◌∷◌, ◌++◌, length, take, drop, get_or, Option, Some, None, refl, sym, ap, ◌∙◌, ⊎_elim, arith, append_assoc, append-nil}
 use Rattle.std.specs.Prelude.{nat_lt, slice_set}
 use Rattle.std.specs.List.{fold, cons_option}
-use Rattle.std.specs.Option.{option_copied, option_map, unwrap_or}
+use Rattle.std.specs.Option.{option_map, unwrap_or}
 use Rattle.std.proofs.lemmas.Bool.{cases_lt}
 use Rattle.std.proofs.lemmas.Bool.Decides.{nat_tests}
-use Rattle.std.proofs.lemmas.List.{take_all, drop_all, get_or-set_same, get_or-set_other, length-map, length-set, length-take-le, map-set, map_more, map_push, ext_get_or}
+use Rattle.std.proofs.lemmas.List.{take_all, take_more, drop_all, get_or-set_same, get_or-set_other, length-set, length-take-le, ext_get_or}
 use Rattle.std.proofs.lemmas.List.FromFn.{length-map-range_with_len, get_or-map-range_with_len, map-range_with_len_more}
 use Rattle.std.proofs.lemmas.List.Elements.{All-nil}
-use denote.Ref.{Bor}
 use Rattle.im_history.specs.declared.change.Change.{Change}
 use Rattle.im_history.specs.declared.view.View.{View}
 use Rattle.im_history.specs.Last.{Slot, ArePut, change_of}
@@ -16,18 +15,16 @@ use Rattle.im_history.specs.Rows.{Row, row_after, present}
 use Rattle.im_history.proofs.LastLaws.{put-more, put-all}
 use Rattle.im_history.specs.Units.{Content}
 use Rattle.im_group.specs.Partials.{Numbered}
-use Rattle.im_scan.specs.Parts.{row_in_unit, fetched_after, taken_row}
-use Rattle.im_scan.specs.inner.Steps.{IsUnchanged, lent, unit_rows, put_at, with_fetched, with_change, with_changes, gathered, numbered, numbered_from}
+use Rattle.im_scan.specs.Parts.{row_in_unit, fetched_after}
+use Rattle.im_scan.specs.inner.Steps.{ArePutBehind, IsUnchanged, gathered, laid_row, numbered, numbered_from, put_at, unit_rows, with_change, with_changes, with_fetched}
 
 -- ---- one row put
 
-pub lent-put : (first : ℕ) (slots : List (Option (Bor Row))) (rid : ℕ) (row : Option (Bor Row)) (now : Option Row) → first ≤ rid
-    → option_copied row ≡ now → lent (slice_set slots (rid - first) row) ≡ put_at first (lent slots) rid now
-lent-put first slots rid row now from is =
+pub put-from : (first : ℕ) (slots : List (Option Row)) (rid : ℕ) (row : Option Row) → first ≤ rid
+    → slice_set slots (rid - first) row ≡ put_at first slots rid row
+put-from first slots rid row from =
     let inside : nat_lt rid first ≡ false = grind (arith, nat_tests) in
-    map-set option_copied slots (rid - first) row
-    ∙ (ap (λ (r : Option Row). slice_set (lent slots) (rid - first) r) is
-    ∙ ap (λ (b : Bool). if b then lent slots else slice_set (lent slots) (rid - first) now) (sym inside))
+    ap (λ (b : Bool). if b then slots else slice_set slots (rid - first) row) (sym inside)
 
 length-put_at : (first : ℕ) (slots : List (Option Row)) (rid : ℕ) (row : Option Row)
     → length (put_at first slots rid row) ≡ length slots
@@ -67,18 +64,17 @@ at-put_at first slots rid i row within =
 
 -- ---- what a unit has, one row number more
 
-pub unit_rows-more : (unit : Option Content) (first rid : ℕ) (row : Option (Bor Row)) (slots longer : List (Option (Bor Row)))
-    → first ≤ rid → lent slots ≡ unit_rows unit first (rid - first) → option_copied row ≡ row_in_unit unit rid
-    → longer ≡ slots ++ row ∷ [] → lent longer ≡ unit_rows unit first (rid + 1 - first)
+pub unit_rows-more : (unit : Option Content) (first rid : ℕ) (row : Option Row) (slots longer : List (Option Row))
+    → first ≤ rid → slots ≡ unit_rows unit first (rid - first) → row ≡ row_in_unit unit rid
+    → longer ≡ slots ++ row ∷ [] → longer ≡ unit_rows unit first (rid + 1 - first)
 unit_rows-more unit first rid row slots longer from so_far is pushed =
     let more : rid - first + 1 ≡ rid + 1 - first = omega (arith, from) in
     let here : first + (rid - first) ≡ rid = omega (arith, from) in
-    ap lent pushed
-    ∙ (map_push option_copied slots row
-    ∙ (ap (λ (l : List (Option Row)). l ++ option_copied row ∷ []) so_far
+    pushed
+    ∙ (ap (λ (l : List (Option Row)). l ++ row ∷ []) so_far
     ∙ (ap (λ (r : Option Row). unit_rows unit first (rid - first) ++ r ∷ []) is
     ∙ (sym (map-range_with_len_more (row_in_unit unit) first (rid - first) rid here)
-    ∙ ap (unit_rows unit first) more))))
+    ∙ ap (unit_rows unit first) more)))
 
 -- ---- all that was fetched, and all changes
 
@@ -165,7 +161,7 @@ own-none view first count slots none long =
 pub record AreTaken (unit : Option Content) (fetched : List (ℕ × Option Row)) (view : View) (first count : ℕ)
     (slots : List (Option Row)) : Type 0 where
   pub long : length slots ≡ count
-  pub at : (i : ℕ) → i < length slots → get_or slots i None ≡ taken_row unit fetched view (first + i)
+  pub at : (i : ℕ) → i < length slots → get_or slots i None ≡ laid_row unit fetched view (first + i)
 
 pub are_taken : (unit : Option Content) (fetched : List (ℕ × Option Row)) (view : View) (first count : ℕ)
     → AreTaken unit fetched view first count (gathered unit fetched view first count)
@@ -187,7 +183,7 @@ are_taken unit fetched view first count = record {
     all = length-with_changes view.table first (with_fetched first shown fetched) view.own ∙ fetched_long
 
     each : (i : ℕ) → i < count
-        → get_or (gathered unit fetched view first count) i None ≡ taken_row unit fetched view (first + i)
+        → get_or (gathered unit fetched view first count) i None ≡ laid_row unit fetched view (first + i)
     each i inside =
         at-with_changes view.table first (with_fetched first shown fetched) view.own i (omega (arith, inside, fetched_long))
         ∙ ap (λ (row : Option Row). fold (row_after view.table (first + i)) row view.own)
@@ -202,37 +198,49 @@ written_back n xs ys n_is long =
     let none : drop (length xs) ys ≡ [] = drop_all (length xs) ys (omega (arith, long)) in
     rw (none, append-nil xs) (take_all n xs (omega (arith, n_is, long)))
 
-lent-back : (n : ℕ) (slots new : List (Option (Bor Row))) → n ≡ length slots → length (lent new) ≡ length (lent slots)
-    → lent (take n (new ++ drop (length new) slots)) ≡ lent new
-lent-back n slots new n_is same =
-    ap lent (written_back n new slots n_is (sym (length-map new option_copied) ∙ (same ∙ length-map slots option_copied)))
-
--- there are as many slots as row numbers
-pub length-committed : (unit : Option Content) (fetched : List (ℕ × Option Row)) (first count : ℕ) (slots : List (Option (Bor Row)))
-    → lent slots ≡ with_fetched first (unit_rows unit first count) fetched → length slots ≡ count
-length-committed unit fetched first count slots is =
-    sym (length-map slots option_copied)
-    ∙ (ap length is
-    ∙ (length-with_fetched first (unit_rows unit first count) fetched ∙ length-map-range_with_len (row_in_unit unit) first count))
-
 -- what was fetched, put over what the unit has
-pub fetched-back : (unit : Option Content) (fetched : List (ℕ × Option Row)) (first count n : ℕ)
-    (slots new : List (Option (Bor Row)))
-    → n ≡ length slots → lent slots ≡ unit_rows unit first count → lent new ≡ with_fetched first (lent slots) fetched
-    → lent (take n (new ++ drop (length new) slots)) ≡ with_fetched first (unit_rows unit first count) fetched
+pub fetched-back : (unit : Option Content) (fetched : List (ℕ × Option Row)) (first count n : ℕ) (slots new : List (Option Row))
+    → n ≡ length slots → slots ≡ unit_rows unit first count → new ≡ with_fetched first slots fetched
+    → take n (new ++ drop (length new) slots) ≡ with_fetched first (unit_rows unit first count) fetched
 fetched-back unit fetched first count n slots new n_is shown put =
-    lent-back n slots new n_is (ap length put ∙ length-with_fetched first (lent slots) fetched)
+    written_back n new slots n_is (ap length put ∙ length-with_fetched first slots fetched)
     ∙ (put ∙ ap (λ (l : List (Option Row)). with_fetched first l fetched) shown)
 
--- and the view's own changes, put over that
-pub gathered-back : (unit : Option Content) (fetched : List (ℕ × Option Row)) (view : View) (first count n : ℕ)
-    (slots new : List (Option (Bor Row)))
-    → n ≡ length slots → lent slots ≡ with_fetched first (unit_rows unit first count) fetched
-    → lent new ≡ with_changes view.table first (lent slots) view.own
-    → lent (take n (new ++ drop (length new) slots)) ≡ gathered unit fetched view first count
-gathered-back unit fetched view first count n slots new n_is shown put =
-    lent-back n slots new n_is (ap length put ∙ length-with_changes view.table first (lent slots) view.own)
-    ∙ (put ∙ ap (λ (l : List (Option Row)). with_changes view.table first l view.own) shown)
+-- what is put behind others is put over them
+with_fetched-append : (first : ℕ) (slots : List (Option Row)) (rows more : List (ℕ × Option Row))
+    → with_fetched first slots (rows ++ more) ≡ with_fetched first (with_fetched first slots rows) more
+with_fetched-append first slots [] more = refl
+with_fetched-append first slots (row ∷ rows) more = with_fetched-append first (put_at first slots row.0 row.1) rows more
+
+own-put : (view : View) (first : ℕ) (left : List Slot) (before now : List (Option Row)) → ArePut view.own view.table first left before now
+    → with_fetched first now left ≡ with_changes view.table first before view.own
+own-put view first [] before now are = own-all view first before now are
+own-put view first (slot ∷ left) before now are =
+    own-put view first left before (put_at first now slot.0 slot.1)
+    (own-more view first slot.0 slot.1 left before now (put_at first now slot.0 slot.1) are refl)
+
+-- what the own changes left, put over what was fetched, is gathered
+pub gathered-own : (unit : Option Content) (fetched : List (ℕ × Option Row)) (view : View) (first count : ℕ) (rows : List (ℕ × Option Row))
+    → ArePutBehind view first count fetched rows
+    → with_fetched first (unit_rows unit first count) rows ≡ gathered unit fetched view first count
+gathered-own unit fetched view first count rows are =
+    ap (with_fetched first (unit_rows unit first count)) are.is
+    ∙ (with_fetched-append first (unit_rows unit first count) fetched are.own ∙ own-put view first are.own before before none)
+  where
+    before : List (Option Row)
+    before = with_fetched first (unit_rows unit first count) fetched
+
+    long : length before ≡ count
+    long = length-with_fetched first (unit_rows unit first count) fetched ∙ length-map-range_with_len (row_in_unit unit) first count
+
+    none : ArePut view.own view.table first are.own before before
+    none = record {
+      long = refl;
+      each = are.last.each;
+      at = λ place within.
+          ap (λ (o : Option (Option Row)). unwrap_or o (get_or before place None))
+          (are.last.found (first + place) (omega arith) (omega (arith, within, long)));
+    }
 
 -- ---- those that there are
 
@@ -256,11 +264,11 @@ numbered_from-present row_at first (slot ∷ slots) each =
     by (Some row) e = rw (← e) refl
 
 pub gathered-present : (unit : Option Content) (fetched : List (ℕ × Option Row)) (view : View) (first count : ℕ)
-    → numbered_from first (gathered unit fetched view first count) ≡ present (taken_row unit fetched view) first count
+    → numbered_from first (gathered unit fetched view first count) ≡ present (laid_row unit fetched view) first count
 gathered-present unit fetched view first count =
     let taken = are_taken unit fetched view first count in
-    numbered_from-present (taken_row unit fetched view) first (gathered unit fetched view first count) taken.at
-    ∙ ap (present (taken_row unit fetched view) first) taken.long
+    numbered_from-present (laid_row unit fetched view) first (gathered unit fetched view first count) taken.at
+    ∙ ap (present (laid_row unit fetched view) first) taken.long
 
 -- ---- one more row numbered
 
@@ -276,18 +284,16 @@ numbered_from-push first (s ∷ slots) slot rid is =
     ap (λ (l : List Numbered). numbered first s ++ l) (numbered_from-push (first + 1) slots slot rid (omega (arith, is)))
     ∙ sym (append_assoc (numbered first s) (numbered_from (first + 1) slots) (numbered rid slot))
 
-pub numbered-more : (first : ℕ) (slots : List (Option (Bor Row))) (i : ℕ) (row : Option (Bor Row))
-    (rows longer : List Numbered)
-    → i < length slots → row ≡ get_or slots i row → rows ≡ numbered_from first (lent (take i slots))
-    → longer ≡ rows ++ numbered (first + i) (option_copied row)
-    → longer ≡ numbered_from first (lent (take (i + 1) slots))
+pub numbered-more : (first : ℕ) (slots : List (Option Row)) (i : ℕ) (row : Option Row) (rows longer : List Numbered)
+    → i < length slots → row ≡ get_or slots i row → rows ≡ numbered_from first (take i slots)
+    → longer ≡ rows ++ numbered (first + i) row
+    → longer ≡ numbered_from first (take (i + 1) slots)
 numbered-more first slots i row rows longer within is so_far pushed =
     pushed
-    ∙ (ap (λ (l : List Numbered). l ++ numbered (first + i) (option_copied row)) so_far
-    ∙ (sym (numbered_from-push first (lent (take i slots)) (option_copied row) (first + i) long)
+    ∙ (ap (λ (l : List Numbered). l ++ numbered (first + i) row) so_far
+    ∙ (sym (numbered_from-push first (take i slots) row (first + i) long)
     ∙ ap (numbered_from first)
-    (sym (map_more option_copied slots i row within ∙ ap
-    (λ (r : Option (Bor Row)). lent (take i slots) ++ option_copied r ∷ []) (sym is)))))
+    (sym (take_more slots i row within ∙ ap (λ (r : Option Row). take i slots ++ r ∷ []) (sym is)))))
   where
-    long : first + length (lent (take i slots)) ≡ first + i
-    long = ap (λ (n : ℕ). first + n) (length-map (take i slots) option_copied ∙ length-take-le i slots (omega (arith, within)))
+    long : first + length (take i slots) ≡ first + i
+    long = ap (λ (n : ℕ). first + n) (length-take-le i slots (omega (arith, within)))

@@ -1,13 +1,15 @@
 -- The part of a query's answer that one extent gives.
-use Rattle.std.specs.Prelude.{ℕ, ◌*◌, ◌==◌, List, fold, Option, Some, None, if◌then◌else◌}
+use Rattle.std.specs.Prelude.{◌≡◌, ℕ, ◌*◌, ◌==◌, List, length, fold, Option, Some, None, if◌then◌else◌}
+use Rattle.std.specs.List.{All}
 use Rattle.std.specs.Option.{ForSome}
 use Rattle.im_syntax.specs.declared.bound.Bound.{Bound}
 use Rattle.im_syntax.specs.BoundFits.{BoundFits}
 use Rattle.im_history.specs.declared.view.View.{View}
 use Rattle.im_history.specs.Rows.{Row, row_after, present}
 use Rattle.im_history.specs.Units.{Content}
-use Rattle.im_history.specs.Serving.{rows_in}
+use Rattle.im_history.specs.Serving.{rows_in, shown_all}
 use Rattle.im_history.specs.Views.{shown}
+use Rattle.im_column.specs.Forms.{IsShort}
 use Rattle.im_group.specs.Partials.{Numbered, Parts, partial}
 use Rattle.im_unit.specs.Holding.{row_of}
 
@@ -41,3 +43,12 @@ MayAsk bound row = ForSome row (λ values. BoundFits values bound)
 -- the same of a row as a view shows it
 abbrev pub MayAskShown : Bound → View → Option Row → Type 0
 MayAskShown bound view row = MayAsk bound (shown view row)
+
+-- what was fetched is as a view shows it
+abbrev pub AreShown : View → List (ℕ × Option Row) → Type 0
+AreShown view fetched = shown_all view fetched ≡ fetched
+
+-- a view has a default for each of its columns, and none is a text that is too long
+pub record AreDefaults (view : View) : Type 0 where
+  pub each : length view.defaults ≡ length view.columns
+  pub short : All IsShort view.defaults

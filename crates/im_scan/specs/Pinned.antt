@@ -1,7 +1,8 @@
 -- What is known of an extent that was pinned for a view.
-use Rattle.std.specs.Prelude.{◌≡◌, ℕ, ◌*◌, ◌≤◌, min, List, Option}
+use Rattle.std.specs.Prelude.{◌≡◌, ℕ, ◌*◌, ◌≤◌, min, take, List, Option}
 use Rattle.std.specs.Option.{ForSome, option_map}
 use Rattle.im_history.specs.declared.view.View.{View}
+use Rattle.im_history.specs.Columns.{columns_at, defaults_at}
 use Rattle.im_history.specs.History.{History}
 use Rattle.im_history.specs.Rows.{Row, present}
 use Rattle.im_history.specs.Units.{Content, content_at}
@@ -18,10 +19,16 @@ pub record Serves (history : History) (view : View) (extent : ℕ) (content : Co
 abbrev pub fetched_in : History → View → ℕ → Option Content → List (ℕ × Option Row)
 fetched_in history view extent unit = shown_all view (fetched_by history view extent (option_map (λ content. content.scn) unit))
 
+-- a view has the columns that its table had at the view's SCN: up to there the table's defaults are the first of the view's
+abbrev pub HasDefaults : History → View → Type 0
+HasDefaults history view =
+    (at : ℕ) → at ≤ view.scn → defaults_at history view.table at ≡ take (columns_at history view.table at) view.defaults
+
 -- an extent was pinned for a view at this history: a unit was lent that serves the view, or none, and this was fetched
 pub record IsPinned (history : History) (view : View) (extent : ℕ) (unit : Option Content) (fetched : List (ℕ × Option Row))
     : Type 0 where
   pub per : view.per ≡ per_at history view.table
+  pub defaults : HasDefaults history view
   pub serves : ForSome unit (Serves history view extent)
   pub is : fetched ≡ fetched_in history view extent unit
 

@@ -11,7 +11,7 @@ ghost use Rattle.im_scan.specs.inner.Lying.{LieIn};
 ghost use Rattle.im_scan.specs.inner.Left.{IsPartOfChosen, is_left, spots_where};
 ghost use Rattle.im_scan.specs.inner.Pieces.{HasRoomFor, numbered_all};
 ghost use Rattle.im_scan.specs.inner.Steps.{GoesOnBy};
-ghost use Rattle.im_scan.specs.inner.Walk.{lent_beside, standing};
+ghost use Rattle.im_scan.specs.inner.Walk.{standing};
 
 use crate::beside::RowsBeside;
 use crate::by_code::{coded, coded_key};
@@ -62,12 +62,12 @@ fn take_lent(
     rows: &[LentRow<'_>],
     part: &mut Partial,
 ) -> Result<(), NoMemory>
-    requires fits { AllByRecursion (λ row. MayAsk asking.now row.1) (lent_beside rows.now) }
+    requires fits { AllByRecursion (λ row. MayAsk asking.now row.1) rows.now }
     requires few { HasRoomFor asking.now (length rows.now) part.old }
-    ensures { OnOk result (GoesOnBy asking.now part.old (numbered_all (lent_beside rows.now)) part.new) }
+    ensures { OnOk result (GoesOnBy asking.now part.old (numbered_all rows.now) part.new) }
 {
     for (rid, row) in rows {
-        take_row(alloc, asking, *rid, *row, part)?;
+        take_row(alloc, asking, *rid, row, part)?;
     }
     Ok(())
 }
@@ -80,9 +80,9 @@ fn take_beside(
     part: &mut Partial,
 ) -> Result<(), NoMemory>
     requires lie { LieIn beside }
-    requires fits { AllByRecursion (λ row. MayAsk asking.now row.1) (lent_beside beside.rows.now) }
+    requires fits { AllByRecursion (λ row. MayAsk asking.now row.1) beside.rows.now }
     requires few { HasRoomFor asking.now (length beside.rows.now) part.old }
-    ensures { OnOk result (GoesOnBy asking.now part.old (numbered_all (lent_beside beside.entry.rows.now)) part.new) }
+    ensures { OnOk result (GoesOnBy asking.now part.old (numbered_all beside.entry.rows.now) part.new) }
 {
     match beside.pieces {
         Some(pieces) => take_pieces(alloc, asking, pieces, part),
@@ -122,9 +122,9 @@ fn left_part(
     requires within { unit.now.first + count < 2 ^ 64 }
     requires fits { AllByRecursion (MayAsk asking.now) unit.now.rows }
     requires lie { LieIn beside }
-    requires beside_fits { AllByRecursion (λ row. MayAsk asking.now row.1) (lent_beside beside.rows.now) }
+    requires beside_fits { AllByRecursion (λ row. MayAsk asking.now row.1) beside.rows.now }
     ensures { IfOk result (λ part. ForSome part (λ part.
-        part ≡ group.partial asking.now (present (standing (Some unit.now) (lent_beside beside.entry.rows.now)) unit.now.first count))) }
+        part ≡ group.partial asking.now (present (standing (Some unit.now) beside.entry.rows.now) unit.now.first count))) }
 {
     let first = unit.first();
     if !are_between(beside.rows, first, first + count) {
@@ -153,9 +153,9 @@ pub fn column_part(
     requires within { first + count < 2 ^ 64 }
     requires fits { AllByRecursion (MayAsk asking.now) unit.now.rows }
     requires lie { LieIn beside }
-    requires beside_fits { AllByRecursion (λ row. MayAsk asking.now row.1) (lent_beside beside.rows.now) }
+    requires beside_fits { AllByRecursion (λ row. MayAsk asking.now row.1) beside.rows.now }
     ensures { IfOk result (λ part. ForSome part (λ part.
-        part ≡ group.partial asking.now (present (standing (Some unit.now) (lent_beside beside.entry.rows.now)) first count))) }
+        part ≡ group.partial asking.now (present (standing (Some unit.now) beside.entry.rows.now) first count))) }
 {
     if unit.first() != first || !is_by_columns(asking.bound(), unit) {
         return Ok(None);

@@ -1,23 +1,25 @@
-ghost use Rattle.std.specs.Prelude.{◌≡◌, ◌+◌, ◌^◌, ◌≤◌, ◌<◌, ◌++◌, All, false, get_or, length, map, true, None, Some, IfOk, OnOk};
+ghost use Rattle.std.specs.Prelude.{◌≡◌, ◌+◌, ◌^◌, ◌≤◌, ◌<◌, All, false, get_or, length, map, true, None, Some, IfOk, OnOk};
 ghost use Rattle.std.specs.List.{AllByRecursion, range_with_len};
 ghost use Rattle.std.specs.Option.{ForSome};
 ghost use Rattle.im_history.specs.Fetched as kept;
 ghost use Rattle.im_group.specs.Partials as group;
 ghost use Rattle.im_syntax.specs.BoundFits.{BoundFits, FilterFits};
 ghost use Rattle.im_scan.specs.Parts.{MayAsk};
+ghost use Rattle.im_scan.specs.inner.LentPieces.{HasLentNumbers, in_lent_piece, in_lent_pieces, in_lying};
 ghost use Rattle.im_scan.specs.inner.Pieces.{AreInOrder, HasRoomFor, TakesAt, numbered_all};
 ghost use Rattle.im_scan.specs.inner.Steps.{GoesOnBy, numbered_from, unit_rows, with_fetched};
 
 use crate::every_row::EveryRow;
 use crate::kept::next_chosen;
 use crate::parts::take_row;
+use crate::pieces::{LentPiece, lent_piece};
 use crate::summed_run::sums_together;
 use im_codepred::select_rows;
 use im_group::{Asking, Partial};
-use im_history::{Fetched, Piece, lent_values};
+use im_history::{Lying, Piece, ShownRows};
 use im_lanes::{Mask, count};
 use im_syntax::Filter;
-use im_values::{NoMemory, Row, Rows, clone_row};
+use im_values::{NoMemory, WideRun};
 use std::alloc::Global;
 
 /// As few rows of a run as this are each asked the condition: a mask would cost more.
@@ -34,13 +36,13 @@ fn span(piece: &Piece) -> Option<(u64, u64)>
     }
 }
 
-/// Whether pieces are of all row numbers from the first on, in order.
-pub fn are_in_order(first: u64, pieces: &[Piece]) -> bool
-    requires { first + length (kept.in_pieces pieces.now) < 2 ^ 64 }
-    ensures { result ≡ true → AreInOrder first (kept.in_pieces pieces.now) }
+/// Whether what was read is of all row numbers from the first on, in order.
+pub fn are_in_order(first: u64, lying: Lying<'_>) -> bool
+    requires { first + length (in_lying lying) < 2 ^ 64 }
+    ensures { result ≡ true → AreInOrder first (in_lying lying.entry) }
 {
     let mut next = first;
-    for piece in pieces {
+    for piece in lying.pieces {
         let Some((rid, count)) = span(piece) else {
             return false;
         };
@@ -52,12 +54,12 @@ pub fn are_in_order(first: u64, pieces: &[Piece]) -> bool
     true
 }
 
-/// The part takes a row of a run. The row stays where it is.
+/// The part takes a row of a run. The row stays where it is, and is shared where the query keeps it and it lacks no column.
 fn take_at(
     alloc: Global,
     asking: &Asking<'_>,
     rid: u64,
-    rows: &Rows,
+    rows: &WideRun<'_>,
     at: usize,
     part: &mut Partial,
 ) -> Result<(), NoMemory>
@@ -66,11 +68,11 @@ fn take_at(
     requires few { group.IsPartOfFew asking.now part.old }
     ensures { OnOk result (TakesAt asking.now rid rows.now at part.old part.new) }
 {
-    if asking.bound().grouped {
-        part.take(alloc, asking, rid, rows.values(at))
-    } else {
-        let row = rows.row(at)?;
+    if rows.is_whole() && !asking.bound().grouped {
+        let row = rows.row(alloc, at)?;
         part.take_shared(alloc, asking, rid, &row)
+    } else {
+        part.take(alloc, asking, rid, &rows.values(at))
     }
 }
 
@@ -79,7 +81,7 @@ fn take_each(
     alloc: Global,
     asking: &Asking<'_>,
     first: u64,
-    rows: &Rows,
+    rows: &WideRun<'_>,
     part: &mut Partial,
 ) -> Result<(), NoMemory>
     requires numbers { first + length rows.now ≤ 2 ^ 63 }
@@ -98,7 +100,7 @@ fn take_apart(
     alloc: Global,
     asking: &Asking<'_>,
     rids: &[u64],
-    rows: &Rows,
+    rows: &WideRun<'_>,
     part: &mut Partial,
 ) -> Result<(), NoMemory>
     requires long { length rids.now ≡ length rows.now }
@@ -117,7 +119,7 @@ fn take_chosen(
     alloc: Global,
     asking: &Asking<'_>,
     rid: u64,
-    rows: &Rows,
+    rows: &WideRun<'_>,
     at: usize,
     part: &mut Partial,
 ) -> Result<(), NoMemory>
@@ -127,7 +129,7 @@ fn take_chosen(
     requires few { group.IsPartOfFew asking.now part.old }
     ensures { OnOk result (TakesAt asking.now rid rows.now at part.old part.new) }
 {
-    let row = rows.row(at)?;
+    let row = rows.row(alloc, at)?;
     part.take_made(alloc, asking, rid, row)
 }
 
@@ -136,7 +138,7 @@ fn take_handed(
     alloc: Global,
     asking: &Asking<'_>,
     first: u64,
-    rows: &Rows,
+    rows: &WideRun<'_>,
     mask: &Mask,
     part: &mut Partial,
 ) -> Result<(), NoMemory>
@@ -159,7 +161,7 @@ fn take_masked(
     alloc: Global,
     asking: &Asking<'_>,
     first: u64,
-    rows: &Rows,
+    rows: &WideRun<'_>,
     mask: &Mask,
     part: &mut Partial,
 ) -> Result<(), NoMemory>
@@ -181,7 +183,7 @@ fn take_kept(
     alloc: Global,
     asking: &Asking<'_>,
     first: u64,
-    rows: &Rows,
+    rows: &WideRun<'_>,
     mask: &Mask,
     part: &mut Partial,
 ) -> Result<(), NoMemory>
@@ -201,7 +203,7 @@ fn take_kept(
 }
 
 /// Of which rows of a run a condition is true.
-fn chosen(alloc: Global, filter: &Filter, rows: &Rows) -> Result<Mask, NoMemory>
+fn chosen(alloc: Global, filter: &Filter, rows: &WideRun<'_>) -> Result<Mask, NoMemory>
     requires few { length rows.now < 2 ^ 31 }
     requires fits { All (λ row. FilterFits row filter.now) rows.now }
     ensures { IfOk result (λ mask. mask ≡ map (group.keeps (Some filter.now)) rows.now) }
@@ -215,7 +217,7 @@ fn take_where(
     asking: &Asking<'_>,
     filter: &Filter,
     first: u64,
-    rows: &Rows,
+    rows: &WideRun<'_>,
     part: &mut Partial,
 ) -> Result<(), NoMemory>
     requires filter { asking.now.filter ≡ Some filter.now }
@@ -234,7 +236,7 @@ fn take_all(
     alloc: Global,
     asking: &Asking<'_>,
     first: u64,
-    rows: &Rows,
+    rows: &WideRun<'_>,
     every: &mut EveryRow,
     part: &mut Partial,
 ) -> Result<(), NoMemory>
@@ -255,7 +257,7 @@ fn take_run(
     alloc: Global,
     asking: &Asking<'_>,
     first: u64,
-    rows: &Rows,
+    rows: &WideRun<'_>,
     every: &mut EveryRow,
     part: &mut Partial,
 ) -> Result<(), NoMemory>
@@ -278,7 +280,7 @@ fn hand_scattered(
     alloc: Global,
     asking: &Asking<'_>,
     rids: &[u64],
-    rows: &Rows,
+    rows: &WideRun<'_>,
     mask: &Mask,
     part: &mut Partial,
 ) -> Result<(), NoMemory>
@@ -303,7 +305,7 @@ fn take_picked(
     alloc: Global,
     asking: &Asking<'_>,
     rids: &[u64],
-    rows: &Rows,
+    rows: &WideRun<'_>,
     mask: &Mask,
     part: &mut Partial,
 ) -> Result<(), NoMemory>
@@ -326,7 +328,7 @@ fn take_scattered(
     alloc: Global,
     asking: &Asking<'_>,
     rids: &[u64],
-    rows: &Rows,
+    rows: &WideRun<'_>,
     every: &mut EveryRow,
     part: &mut Partial,
 ) -> Result<(), NoMemory>
@@ -354,21 +356,19 @@ fn take_scattered(
 fn take_piece(
     alloc: Global,
     asking: &Asking<'_>,
-    piece: &Piece,
+    piece: &LentPiece<'_>,
     every: &mut EveryRow,
     part: &mut Partial,
 ) -> Result<(), NoMemory>
-    requires numbers { kept.HasNumbers piece.now }
-    requires fits { AllByRecursion (λ row. MayAsk asking.now row.1) (kept.in_piece piece.now) }
-    requires few { HasRoomFor asking.now (length (kept.in_piece piece.now)) part.old }
-    ensures { OnOk result (GoesOnBy asking.now part.old (numbered_all (kept.in_piece piece.now)) part.new) }
+    requires numbers { HasLentNumbers piece.now }
+    requires fits { AllByRecursion (λ row. MayAsk asking.now row.1) (in_lent_piece piece.now) }
+    requires few { HasRoomFor asking.now (length (in_lent_piece piece.now)) part.old }
+    ensures { OnOk result (GoesOnBy asking.now part.old (numbered_all (in_lent_piece piece.now)) part.new) }
 {
     match piece {
-        Piece::Run(first, rows) => take_run(alloc, asking, *first, rows, every, part),
-        Piece::Each(rids, rows) => {
-            take_scattered(alloc, asking, rids.as_slice(), rows, every, part)
-        }
-        Piece::One(rid, row) => take_row(alloc, asking, *rid, lent_values(row), part),
+        LentPiece::Run(first, rows) => take_run(alloc, asking, *first, rows, every, part),
+        LentPiece::Each(rids, rows) => take_scattered(alloc, asking, rids, rows, every, part),
+        LentPiece::One(rid, row) => take_row(alloc, asking, *rid, row, part),
     }
 }
 
@@ -376,17 +376,18 @@ fn take_piece(
 pub fn take_pieces(
     alloc: Global,
     asking: &Asking<'_>,
-    pieces: &[Piece],
+    lying: Lying<'_>,
     part: &mut Partial,
 ) -> Result<(), NoMemory>
-    requires numbers { All kept.HasNumbers pieces.now }
-    requires fits { AllByRecursion (λ row. MayAsk asking.now row.1) (kept.in_pieces pieces.now) }
-    requires few { HasRoomFor asking.now (length (kept.in_pieces pieces.now)) part.old }
-    ensures { OnOk result (GoesOnBy asking.now part.old (numbered_all (kept.in_pieces pieces.now)) part.new) }
+    requires numbers { All kept.HasNumbers lying.pieces.now }
+    requires fits { AllByRecursion (λ row. MayAsk asking.now row.1) (in_lying lying) }
+    requires few { HasRoomFor asking.now (length (in_lying lying)) part.old }
+    ensures { OnOk result (GoesOnBy asking.now part.old (numbered_all (in_lying lying.entry)) part.new) }
 {
     let mut every = EveryRow::new(alloc)?;
-    for piece in pieces {
-        take_piece(alloc, asking, piece, &mut every, part)?;
+    for piece in lying.pieces {
+        let lent = lent_piece(piece, lying.defaults);
+        take_piece(alloc, asking, &lent, &mut every, part)?;
     }
     Ok(())
 }
@@ -395,15 +396,34 @@ pub fn take_pieces(
 pub fn part_of_pieces(
     alloc: Global,
     asking: &Asking<'_>,
-    pieces: &[Piece],
+    lying: Lying<'_>,
 ) -> Result<Partial, NoMemory>
-    requires numbers { All kept.HasNumbers pieces.now }
-    requires few { length (kept.in_pieces pieces.now) < 2 ^ 64 }
-    requires fits { AllByRecursion (λ row. MayAsk asking.now row.1) (kept.in_pieces pieces.now) }
-    ensures { IfOk result (λ part. part ≡ group.partial asking.now (numbered_all (kept.in_pieces pieces.now))) }
+    requires numbers { All kept.HasNumbers lying.pieces.now }
+    requires few { length (in_lying lying) < 2 ^ 64 }
+    requires fits { AllByRecursion (λ row. MayAsk asking.now row.1) (in_lying lying) }
+    ensures { IfOk result (λ part. part ≡ group.partial asking.now (numbered_all (in_lying lying.entry))) }
 {
     let mut part = Partial::new(alloc, asking)?;
-    take_pieces(alloc, asking, pieces, &mut part)?;
+    take_pieces(alloc, asking, lying, &mut part)?;
+    Ok(part)
+}
+
+/// What the rows of pieces give that are lent.
+pub fn part_of_lent(
+    alloc: Global,
+    asking: &Asking<'_>,
+    pieces: &[LentPiece<'_>],
+) -> Result<Partial, NoMemory>
+    requires numbers { All HasLentNumbers pieces.now }
+    requires few { length (in_lent_pieces pieces.now) < 2 ^ 64 }
+    requires fits { AllByRecursion (λ row. MayAsk asking.now row.1) (in_lent_pieces pieces.now) }
+    ensures { IfOk result (λ part. part ≡ group.partial asking.now (numbered_all (in_lent_pieces pieces.now))) }
+{
+    let mut part = Partial::new(alloc, asking)?;
+    let mut every = EveryRow::new(alloc)?;
+    for piece in pieces {
+        take_piece(alloc, asking, piece, &mut every, &mut part)?;
+    }
     Ok(part)
 }
 
@@ -412,87 +432,18 @@ pub fn part_in_place(
     alloc: Global,
     asking: &Asking<'_>,
     first: u64,
-    fetched: &Fetched,
+    fetched: &ShownRows,
 ) -> Result<Option<Partial>, NoMemory>
     requires within { first + length fetched.now < 2 ^ 64 }
     requires fits { AllByRecursion (λ row. MayAsk asking.now row.1) fetched.now }
     ensures { IfOk result (λ part. ForSome part (λ part.
         part ≡ group.partial asking.now (numbered_from first (with_fetched first (unit_rows None first (length fetched.now)) fetched.now)))) }
 {
-    let pieces = fetched.pieces();
-    if are_in_order(first, pieces) {
-        let part = part_of_pieces(alloc, asking, pieces)?;
+    let lying = fetched.lying();
+    if are_in_order(first, lying) {
+        let part = part_of_pieces(alloc, asking, lying)?;
         Ok(Some(part))
     } else {
         Ok(None)
     }
-}
-
-/// Puts the rows of a run behind others, each with its number and shared.
-fn put_run(rows: &mut Vec<(u64, Option<Row>)>, first: u64, run: &Rows) -> Result<(), NoMemory>
-    requires { first + length run.now ≤ 2 ^ 63 }
-    ensures { OnOk result (rows.new.items ≡ rows.old.items ++ kept.run_from first run.now) }
-{
-    for at in 0..run.len() {
-        let row = run.row(at)?;
-        rows.push((first + at as u64, Some(row)))?;
-    }
-    Ok(())
-}
-
-/// Puts rows behind others, each with its own number and shared.
-fn put_scattered(
-    rows: &mut Vec<(u64, Option<Row>)>,
-    rids: &[u64],
-    block: &Rows,
-) -> Result<(), NoMemory>
-    requires { length rids.now ≡ length block.now }
-    ensures { OnOk result (rows.new.items ≡ rows.old.items ++ kept.each_at rids.now block.now) }
-{
-    for at in 0..block.len() {
-        let row = block.row(at)?;
-        rows.push((rids[at], Some(row)))?;
-    }
-    Ok(())
-}
-
-/// The same row once more, or none.
-pub fn shared(alloc: Global, row: &Option<Row>) -> Result<Option<Row>, NoMemory>
-    ensures { IfOk result (λ copy. copy ≡ row.now) }
-{
-    match row {
-        Some(row) => Ok(Some(clone_row(alloc, row)?)),
-        None => Ok(None),
-    }
-}
-
-/// Puts the rows of a piece behind others, each with its number.
-fn put_piece(
-    alloc: Global,
-    rows: &mut Vec<(u64, Option<Row>)>,
-    piece: &Piece,
-) -> Result<(), NoMemory>
-    requires { kept.HasNumbers piece.now }
-    ensures { OnOk result (rows.new.items ≡ rows.old.items ++ kept.in_piece piece.now) }
-{
-    match piece {
-        Piece::Run(first, run) => put_run(rows, *first, run),
-        Piece::Each(rids, block) => put_scattered(rows, rids.as_slice(), block),
-        Piece::One(rid, row) => {
-            let row = shared(alloc, row)?;
-            rows.push((*rid, row))?;
-            Ok(())
-        }
-    }
-}
-
-/// The row numbers that were fetched, each with its row, which is shared or copied, or none.
-pub fn handles(alloc: Global, fetched: &Fetched) -> Result<Vec<(u64, Option<Row>)>, NoMemory>
-    ensures { IfOk result (λ rows. rows.items ≡ fetched.now) }
-{
-    let mut rows = Vec::new(alloc);
-    for piece in fetched.pieces() {
-        put_piece(alloc, &mut rows, piece)?;
-    }
-    Ok(rows)
 }

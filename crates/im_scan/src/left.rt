@@ -6,7 +6,6 @@ ghost use Rattle.im_group.specs.Partials.{keeps};
 ghost use Rattle.im_syntax.specs.BoundFits.{FilterFits};
 ghost use Rattle.im_unit.specs.Holding.{count_present, present_rows, spot_of};
 ghost use Rattle.im_scan.specs.inner.Left.{AreBetween, cut_at, is_left, spots_where, without, without_all};
-ghost use Rattle.im_scan.specs.inner.Walk.{lent_beside};
 
 use crate::kept::kept_spots;
 use im_history::{LentRow, UnitLike};
@@ -19,7 +18,7 @@ use std::alloc::Global;
 /// Whether the row numbers of rows rise from one on and stay below another.
 pub fn are_between(rows: &[LentRow<'_>], first: u64, end: u64) -> bool
     requires { end < 2 ^ 64 }
-    ensures { OnTrue result (AreBetween first end (lent_beside rows.now)) }
+    ensures { OnTrue result (AreBetween first end rows.now) }
 {
     let mut low = first;
     for (rid, _) in rows {

@@ -1,31 +1,33 @@
-ghost use Rattle.std.specs.Prelude.{◌≡◌, ◌+◌, ◌*◌, ◌<◌, ◌^◌, length, Option, None, IfOk, OnOk};
+ghost use Rattle.std.specs.Prelude.{◌≡◌, ◌+◌, ◌*◌, ◌<◌, ◌^◌, length, Option, None, Some, IfOk, OnOk};
 ghost use Rattle.std.specs.List.{AllByRecursion};
-ghost use Rattle.std.specs.Option.{ForSome, option_copied};
+ghost use Rattle.std.specs.Option.{ForSome};
 ghost use Rattle.im_history.specs.Grid.{extents_for};
 ghost use Rattle.im_history.specs.History.{History};
 ghost use Rattle.im_history.specs.Rows.{present};
 ghost use Rattle.im_history.specs.Units.{Content};
 ghost use Rattle.im_group.specs.Partials as group;
 ghost use Rattle.im_scan.specs.Faces.{Shows, unit_of};
-ghost use Rattle.im_scan.specs.Parts.{MayAsk, MayAskShown, part_of, taken_row};
+ghost use Rattle.im_scan.specs.Parts.{AreDefaults, AreShown, MayAsk, MayAskShown, part_of, taken_row};
 ghost use Rattle.im_scan.specs.Pinned.{IsPinned, seen_in};
 ghost use Rattle.im_scan.specs.inner.Lying.{LieIn};
-ghost use Rattle.im_scan.specs.inner.Steps.{GoesOnBy, MayScan, lent, numbered, numbered_from};
-ghost use Rattle.im_scan.specs.inner.Walk.{lent_beside, standing};
+ghost use Rattle.im_scan.specs.inner.Steps.{GoesOnBy, IsShownBy, MayScan, MayScanShown, as_shown, laid_row, numbered, numbered_from};
+ghost use Rattle.im_scan.specs.inner.Walk.{standing};
 
 use crate::beside::{RowsBeside, beside};
 use crate::by_columns::column_part;
 use crate::faces::Face;
-use crate::in_place::{handles, part_in_place, part_of_pieces};
+use crate::in_place::{part_in_place, part_of_pieces};
 use crate::kept::{begins_by, kept_in};
 use crate::left::are_between;
 use crate::overlaid::own_part;
-use crate::slots::{gather, has_own, rows_of};
+use crate::own::{has_own, put_own};
+use crate::slots::{gather, rows_of};
 use crate::walking::walked;
 use im_group::{Asking, Partial};
-use im_history::{Fetched, LentRow, View};
+use im_history::{LentRow, ShownRows, View};
 use im_syntax::Bound;
-use im_values::{NoMemory, Row, Value};
+use im_unit::ColumnUnit;
+use im_values::{NoMemory, RowValues};
 use std::alloc::Global;
 
 /// The part takes what stands at a row number, where there is a row. The row stays where it is.
@@ -33,26 +35,16 @@ pub fn take_row(
     alloc: Global,
     asking: &Asking<'_>,
     rid: u64,
-    row: Option<&[Value]>,
+    row: &Option<RowValues<'_>>,
     part: &mut Partial,
 ) -> Result<(), NoMemory>
-    requires fits { MayAsk asking.now (option_copied row) }
+    requires fits { MayAsk asking.now row.now }
     requires few { group.IsPartOfFew asking.now part.old }
-    ensures { OnOk result (GoesOnBy asking.now part.old (numbered rid (option_copied row.entry)) part.new) }
+    ensures { OnOk result (GoesOnBy asking.now part.old (numbered rid row.now) part.new) }
 {
     match row {
         Some(row) => part.take(alloc, asking, rid, row),
         None => Ok(()),
-    }
-}
-
-/// The values of a row that is lent, or none.
-fn values_of<'a>(row: Option<&'a Row>) -> Option<&'a [Value]>
-    ensures { option_copied result ≡ option_copied row.entry }
-{
-    match row {
-        Some(row) => Some(row.values()),
-        None => None,
     }
 }
 
@@ -61,15 +53,15 @@ fn part_of_slots(
     alloc: Global,
     asking: &Asking<'_>,
     first: u64,
-    slots: &[Option<&Row>],
+    slots: &[Option<RowValues<'_>>],
 ) -> Result<Partial, NoMemory>
     requires within { first + length slots.now < 2 ^ 64 }
-    requires fits { AllByRecursion (MayAsk asking.now) (lent slots.now) }
-    ensures { IfOk result (λ part. part ≡ group.partial asking.now (numbered_from first (lent slots.now))) }
+    requires fits { AllByRecursion (MayAsk asking.now) slots.now }
+    ensures { IfOk result (λ part. part ≡ group.partial asking.now (numbered_from first slots.now)) }
 {
     let mut part = Partial::new(alloc, asking)?;
     for (i, slot) in slots.iter().enumerate() {
-        take_row(alloc, asking, first + i as u64, values_of(*slot), &mut part)?;
+        take_row(alloc, asking, first + i as u64, slot, &mut part)?;
     }
     Ok(part)
 }
@@ -80,15 +72,15 @@ fn fetched_part(
     alloc: Global,
     face: Face<'_>,
     asking: &Asking<'_>,
-    fetched: &Fetched,
+    fetched: &ShownRows,
     view: &View,
     first: u64,
     count: u64,
 ) -> Result<Option<Partial>, NoMemory>
     requires within { first + count < 2 ^ 64 }
-    requires fits { MayScan asking.now (unit_of face) fetched.now view.now.own }
+    requires fits { MayScan asking.now (unit_of face) fetched.now (as_shown view.now).own }
     ensures { IfOk result (λ part. ForSome part (λ part.
-        part ≡ group.partial asking.now (present (taken_row (unit_of face.entry) fetched.now view.now) first count))) }
+        part ≡ group.partial asking.now (present (laid_row (unit_of face.entry) fetched.now (as_shown view.now)) first count))) }
 {
     match face {
         Face::Whole(_) | Face::Edges(_) => Ok(None),
@@ -118,9 +110,9 @@ fn walked_part(
 ) -> Result<Option<Partial>, NoMemory>
     requires within { first + count < 2 ^ 64 }
     requires fits { ForSome (unit_of face) (λ content. AllByRecursion (MayAsk asking.now) content.rows) }
-    requires beside_fits { AllByRecursion (λ row. MayAsk asking.now row.1) (lent_beside beside.now) }
+    requires beside_fits { AllByRecursion (λ row. MayAsk asking.now row.1) beside.now }
     ensures { IfOk result (λ part. ForSome part (λ part.
-        part ≡ group.partial asking.now (present (standing (unit_of face.entry) (lent_beside beside.now)) first count))) }
+        part ≡ group.partial asking.now (present (standing (unit_of face.entry) beside.now) first count))) }
 {
     let kept = kept_in(alloc, face, asking.bound())?;
     if !begins_by(&kept, first) {
@@ -140,17 +132,17 @@ fn pieces_part(
 ) -> Result<Option<Partial>, NoMemory>
     requires within { first + count < 2 ^ 64 }
     requires lie { LieIn beside }
-    requires beside_fits { AllByRecursion (λ row. MayAsk asking.now row.1) (lent_beside beside.rows.now) }
+    requires beside_fits { AllByRecursion (λ row. MayAsk asking.now row.1) beside.rows.now }
     ensures { IfOk result (λ part. ForSome part (λ part.
-        part ≡ group.partial asking.now (present (standing None (lent_beside beside.entry.rows.now)) first count))) }
+        part ≡ group.partial asking.now (present (standing None beside.entry.rows.now) first count))) }
 {
-    let Some(pieces) = beside.pieces else {
+    let Some(lying) = beside.pieces else {
         return Ok(None);
     };
     if !are_between(beside.rows, first, first + count) {
         return Ok(None);
     }
-    let part = part_of_pieces(alloc, asking, pieces)?;
+    let part = part_of_pieces(alloc, asking, lying)?;
     Ok(Some(part))
 }
 
@@ -166,9 +158,9 @@ fn pruned_part(
     requires within { first + count < 2 ^ 64 }
     requires pruned { unit_of face ≡ None }
     requires lie { LieIn beside }
-    requires beside_fits { AllByRecursion (λ row. MayAsk asking.now row.1) (lent_beside beside.rows.now) }
+    requires beside_fits { AllByRecursion (λ row. MayAsk asking.now row.1) beside.rows.now }
     ensures { IfOk result (λ part. ForSome part (λ part.
-        part ≡ group.partial asking.now (present (standing (unit_of face.entry) (lent_beside beside.entry.rows.now)) first count))) }
+        part ≡ group.partial asking.now (present (standing (unit_of face.entry) beside.entry.rows.now) first count))) }
 {
     match pieces_part(alloc, asking, beside, first, count)? {
         Some(part) => Ok(Some(part)),
@@ -188,9 +180,9 @@ fn standing_part(
     requires within { first + count < 2 ^ 64 }
     requires fits { ForSome (unit_of face) (λ content. AllByRecursion (MayAsk asking.now) content.rows) }
     requires lie { LieIn beside }
-    requires beside_fits { AllByRecursion (λ row. MayAsk asking.now row.1) (lent_beside beside.rows.now) }
+    requires beside_fits { AllByRecursion (λ row. MayAsk asking.now row.1) beside.rows.now }
     ensures { IfOk result (λ part. ForSome part (λ part.
-        part ≡ group.partial asking.now (present (standing (unit_of face.entry) (lent_beside beside.entry.rows.now)) first count))) }
+        part ≡ group.partial asking.now (present (standing (unit_of face.entry) beside.entry.rows.now) first count))) }
 {
     match face {
         Face::Bare => Ok(None),
@@ -202,40 +194,20 @@ fn standing_part(
     }
 }
 
-/// What the rows that a scan takes at so many row numbers from the first on give, laid out by row number.
-fn laid_part(
-    alloc: Global,
-    face: Face<'_>,
-    asking: &Asking<'_>,
-    fetched: &[(u64, Option<Row>)],
-    view: &View,
-    first: u64,
-    count: u64,
-) -> Result<Partial, NoMemory>
-    requires within { first + count < 2 ^ 64 }
-    requires fits { MayScan asking.now (unit_of face) fetched.now view.now.own }
-    ensures { IfOk result (λ part.
-        part ≡ group.partial asking.now (present (taken_row (unit_of face.entry) fetched.now view.now) first count)) }
-{
-    let held = rows_of(alloc, face)?;
-    let slots = gather(alloc, face, &held, fetched, view, first, count)?;
-    part_of_slots(alloc, asking, first, slots.as_slice())
-}
-
 /// What an extent with a unit gives that the view has changed, where nothing has to be laid out for it: no row is shared or copied.
 fn beside_part(
     alloc: Global,
     face: Face<'_>,
     asking: &Asking<'_>,
-    fetched: &Fetched,
+    fetched: &ShownRows,
     view: &View,
     first: u64,
     count: u64,
 ) -> Result<Option<Partial>, NoMemory>
     requires within { first + count < 2 ^ 64 }
-    requires fits { MayScan asking.now (unit_of face) fetched.now view.now.own }
+    requires fits { MayScan asking.now (unit_of face) fetched.now (as_shown view.now).own }
     ensures { IfOk result (λ part. ForSome part (λ part.
-        part ≡ group.partial asking.now (present (taken_row (unit_of face.entry) fetched.now view.now) first count))) }
+        part ≡ group.partial asking.now (present (laid_row (unit_of face.entry) fetched.now (as_shown view.now)) first count))) }
 {
     match beside(alloc, fetched, view, first, count)? {
         Some(rows) => {
@@ -249,23 +221,27 @@ fn beside_part(
     }
 }
 
-/// What an extent gives with a handle for each row that was fetched, laid out by row number.
-fn handled_part(
+/// What an extent gives with the rows of its unit, those that were fetched and those that the view's own changes left laid out by row
+/// number. Those of the unit are read back, and the others stay where they are.
+fn laid_out_part<'a>(
     alloc: Global,
     face: Face<'_>,
     asking: &Asking<'_>,
-    fetched: &Fetched,
-    view: &View,
+    fetched: &'a ShownRows,
+    view: &'a View,
     first: u64,
     count: u64,
 ) -> Result<Partial, NoMemory>
     requires within { first + count < 2 ^ 64 }
-    requires fits { MayScan asking.now (unit_of face) fetched.now view.now.own }
+    requires fits { MayScan asking.now (unit_of face) fetched.now (as_shown view.now).own }
     ensures { IfOk result (λ part.
-        part ≡ group.partial asking.now (present (taken_row (unit_of face.entry) fetched.now view.now) first count)) }
+        part ≡ group.partial asking.now (present (laid_row (unit_of face.entry) fetched.now (as_shown view.now)) first count)) }
 {
-    let rows = handles(alloc, fetched)?;
-    laid_part(alloc, face, asking, rows.as_slice(), view, first, count)
+    let mut rows = fetched.lent(alloc)?;
+    put_own(&mut rows, view, first, count)?;
+    let held = rows_of(alloc, face)?;
+    let slots = gather(alloc, face, &held, rows.as_slice(), first, count)?;
+    part_of_slots(alloc, asking, first, slots.as_slice())
 }
 
 /// What an extent gives that the view has changed: what its unit gives beside what was fetched and what the changes left, and else
@@ -274,19 +250,19 @@ fn changed_part(
     alloc: Global,
     face: Face<'_>,
     asking: &Asking<'_>,
-    fetched: &Fetched,
+    fetched: &ShownRows,
     view: &View,
     first: u64,
     count: u64,
 ) -> Result<Partial, NoMemory>
     requires within { first + count < 2 ^ 64 }
-    requires fits { MayScan asking.now (unit_of face) fetched.now view.now.own }
+    requires fits { MayScan asking.now (unit_of face) fetched.now (as_shown view.now).own }
     ensures { IfOk result (λ part.
-        part ≡ group.partial asking.now (present (taken_row (unit_of face.entry) fetched.now view.now) first count)) }
+        part ≡ group.partial asking.now (present (laid_row (unit_of face.entry) fetched.now (as_shown view.now)) first count)) }
 {
     match beside_part(alloc, face, asking, fetched, view, first, count)? {
         Some(part) => Ok(part),
-        None => handled_part(alloc, face, asking, fetched, view, first, count),
+        None => laid_out_part(alloc, face, asking, fetched, view, first, count),
     }
 }
 
@@ -295,15 +271,15 @@ fn lent_part(
     alloc: Global,
     face: Face<'_>,
     asking: &Asking<'_>,
-    fetched: &Fetched,
+    fetched: &ShownRows,
     view: &View,
     first: u64,
     count: u64,
 ) -> Result<Option<Partial>, NoMemory>
     requires within { first + count < 2 ^ 64 }
-    requires fits { MayScan asking.now (unit_of face) fetched.now view.now.own }
+    requires fits { MayScan asking.now (unit_of face) fetched.now (as_shown view.now).own }
     ensures { IfOk result (λ part. ForSome part (λ part.
-        part ≡ group.partial asking.now (present (taken_row (unit_of face.entry) fetched.now view.now) first count))) }
+        part ≡ group.partial asking.now (present (laid_row (unit_of face.entry) fetched.now (as_shown view.now)) first count))) }
 {
     if has_own(view, first, count) {
         return Ok(None);
@@ -311,7 +287,7 @@ fn lent_part(
     let rows = fetched.lent(alloc)?;
     let beside = RowsBeside {
         rows: rows.as_slice(),
-        pieces: Some(fetched.pieces()),
+        pieces: Some(fetched.lying()),
     };
     standing_part(alloc, face, asking, beside, first, count)
 }
@@ -321,19 +297,99 @@ fn mixed_part(
     alloc: Global,
     face: Face<'_>,
     asking: &Asking<'_>,
-    fetched: &Fetched,
+    fetched: &ShownRows,
     view: &View,
     first: u64,
     count: u64,
 ) -> Result<Partial, NoMemory>
     requires within { first + count < 2 ^ 64 }
-    requires fits { MayScan asking.now (unit_of face) fetched.now view.now.own }
+    requires fits { MayScan asking.now (unit_of face) fetched.now (as_shown view.now).own }
     ensures { IfOk result (λ part.
-        part ≡ group.partial asking.now (present (taken_row (unit_of face.entry) fetched.now view.now) first count)) }
+        part ≡ group.partial asking.now (present (laid_row (unit_of face.entry) fetched.now (as_shown view.now)) first count)) }
 {
     match lent_part(alloc, face, asking, fetched, view, first, count)? {
         Some(part) => Ok(part),
         None => changed_part(alloc, face, asking, fetched, view, first, count),
+    }
+}
+
+/// The unit that a face shows, with the columns that a view has and it lacks. None where it lacks none, and where the face shows no
+/// unit.
+fn wide_unit(alloc: Global, face: Face<'_>, view: &View) -> Result<Option<ColumnUnit>, NoMemory>
+    requires { AreDefaults view.now }
+    ensures wide { IfOk result (λ wide. ForSome wide (λ wide. IsShownBy view.now (unit_of face.entry) (Some wide))) }
+    ensures same { IfOk result (λ wide. wide ≡ None → IsShownBy view.now (unit_of face.entry) (unit_of face.entry)) }
+{
+    match face {
+        Face::Whole(unit) => widened(alloc, unit, view),
+        Face::Edges(_) | Face::Bare => Ok(None),
+    }
+}
+
+/// A unit with the columns that a view has and it lacks. None where it lacks none: then it takes no memory.
+fn widened(alloc: Global, unit: &ColumnUnit, view: &View) -> Result<Option<ColumnUnit>, NoMemory>
+    requires { AreDefaults view.now }
+    ensures wide { IfOk result (λ wide. ForSome wide (λ wide. IsShownBy view.now (Some unit.now) (Some wide))) }
+    ensures same { IfOk result (λ wide. wide ≡ None → IsShownBy view.now (Some unit.now) (Some unit.now)) }
+{
+    let columns = view.columns.columns();
+    if unit.columns().len() >= columns.len() {
+        return Ok(None);
+    }
+    let wide = unit.widened(alloc, view.defaults.values())?;
+    Ok(Some(wide))
+}
+
+/// What an extent gives where the unit has the columns of the view and what was fetched is as the view shows it.
+fn laid_part(
+    alloc: Global,
+    face: Face<'_>,
+    asking: &Asking<'_>,
+    fetched: &ShownRows,
+    view: &View,
+    first: u64,
+    count: u64,
+) -> Result<Partial, NoMemory>
+    requires within { first + count < 2 ^ 64 }
+    requires fits { MayScan asking.now (unit_of face) fetched.now (as_shown view.now).own }
+    ensures { IfOk result (λ part.
+        part ≡ group.partial asking.now (present (laid_row (unit_of face.entry) fetched.now (as_shown view.now)) first count)) }
+{
+    match fetched_part(alloc, face, asking, fetched, view, first, count)? {
+        Some(part) => Ok(part),
+        None => mixed_part(alloc, face, asking, fetched, view, first, count),
+    }
+}
+
+/// What an extent gives as the view shows it: where its unit lacks columns that the view has, they are put beside its own for this, each
+/// as one code.
+fn shown_part(
+    alloc: Global,
+    face: Face<'_>,
+    asking: &Asking<'_>,
+    fetched: &ShownRows,
+    view: &View,
+    first: u64,
+    count: u64,
+) -> Result<Partial, NoMemory>
+    requires within { first + count < 2 ^ 64 }
+    requires defaults { AreDefaults view.now }
+    requires shown { AreShown view.now fetched.now }
+    requires fits { MayScanShown asking.now (unit_of face) fetched.now view.now }
+    ensures { IfOk result (λ part.
+        part ≡ group.partial asking.now (present (taken_row (unit_of face.entry) fetched.now view.now) first count)) }
+{
+    match wide_unit(alloc, face, view)? {
+        Some(unit) => laid_part(
+            alloc,
+            Face::Whole(&unit),
+            asking,
+            fetched,
+            view,
+            first,
+            count,
+        ),
+        None => laid_part(alloc, face, asking, fetched, view, first, count),
     }
 }
 
@@ -343,17 +399,21 @@ fn mixed_part(
 /// none. Beside that it costs what was fetched and those of the row numbers that the view's own changes are to. Without a unit what
 /// was fetched stays where it is: of rows that lie together the condition is asked column by column, and only those that it keeps are
 /// gone over. Where the view changed rows of such an extent itself, rows that lie together are taken apart at these, and no handle is
-/// made of another row. What the query asks is worked out once, and of rows that lie together a query without groups copies none.
+/// made of a row. A unit that was built before the last of the view's columns were there has their defaults in them, and a row that was
+/// written before is lent with them. What the query asks is worked out once, and of rows that lie together a query without groups
+/// copies only those that it keeps and that lack a column.
 pub fn part(
     alloc: Global,
     face: Face<'_>,
-    fetched: &Fetched,
+    fetched: &ShownRows,
     view: &View,
     extent: u64,
     bound: &Bound,
 ) -> Result<Partial, NoMemory>
     requires cut { view.now.extents ≡ extents_for view.now.rows view.now.per }
     requires within { extent < view.now.extents }
+    requires defaults { AreDefaults view.now }
+    requires shown { AreShown view.now fetched.now }
     requires unit_fits { ForSome (unit_of face) (λ content. AllByRecursion (MayAskShown bound.now view.now) content.rows) }
     requires fetched_fits { AllByRecursion (λ row. MayAsk bound.now row.1) fetched.now }
     requires own_fits { AllByRecursion (λ change. MayAskShown bound.now view.now change.row) view.now.own }
@@ -367,8 +427,6 @@ pub fn part(
     let first = extent * view.per;
     let count = view.per.min(rows - first);
     let asking = Asking::of(alloc, bound)?;
-    match fetched_part(alloc, face, &asking, fetched, view, first, count)? {
-        Some(part) => Ok(part),
-        None => mixed_part(alloc, face, &asking, fetched, view, first, count),
-    }
+    let part = shown_part(alloc, face, &asking, fetched, view, first, count)?;
+    Ok(part)
 }

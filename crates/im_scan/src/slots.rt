@@ -1,14 +1,14 @@
-ghost use Rattle.std.specs.Prelude.{◌≡◌, ◌+◌, ◌<◌, ◌^◌, false, length, IfOk};
-ghost use Rattle.std.specs.Option.{option_copied};
+ghost use Rattle.std.specs.Prelude.{◌≡◌, ◌+◌, ◌<◌, ◌^◌, IfOk};
 ghost use Rattle.im_scan.specs.Faces.{unit_of};
 ghost use Rattle.im_unit.specs.Holding as holding;
 ghost use Rattle.im_scan.specs.Parts.{row_in_unit};
-ghost use Rattle.im_scan.specs.inner.Steps.{AreRowsOf, IsUnchanged, gathered, lent, put_at, unit_rows, with_changes, with_fetched};
+ghost use Rattle.im_scan.specs.inner.Steps.{AreRowsOf, put_at, unit_rows, with_fetched};
 
 use crate::faces::Face;
-use im_history::View;
+use crate::pieces::values_again;
+use im_history::LentRow;
 use im_unit::ColumnUnit;
-use im_values::{NoMemory, Row};
+use im_values::{NoMemory, Row, RowValues};
 use std::alloc::Global;
 
 /// The rows that a unit holds, read back from its columns. Without a unit there is none, and of a pruned one none is read.
@@ -21,21 +21,31 @@ pub fn rows_of(alloc: Global, face: Face<'_>) -> Result<Vec<Option<Row>>, NoMemo
     }
 }
 
+/// The values of a row, or none, lent.
+fn lent(row: &Option<Row>) -> Option<RowValues<'_>>
+    ensures { result ≡ row.now }
+{
+    match row {
+        Some(row) => Some(RowValues::of(row.values())),
+        None => None,
+    }
+}
+
 /// The row that a unit has at a row number, among the rows that it holds.
-fn row_of<'a>(unit: &ColumnUnit, held: &'a [Option<Row>], rid: u64) -> Option<&'a Row>
+fn row_of<'a>(unit: &ColumnUnit, held: &'a [Option<Row>], rid: u64) -> Option<RowValues<'a>>
     requires { held.now ≡ unit.now.rows }
-    ensures { option_copied result ≡ holding.row_of unit.now rid }
+    ensures { result ≡ holding.row_of unit.now rid }
 {
     if rid < unit.first() || rid - unit.first() >= held.len() as u64 {
         return None;
     }
-    held[(rid - unit.first()) as usize].as_ref()
+    lent(&held[(rid - unit.first()) as usize])
 }
 
 /// The row that a face shows at a row number.
-fn shown<'a>(face: Face<'a>, held: &'a [Option<Row>], rid: u64) -> Option<&'a Row>
+fn shown<'a>(face: Face<'_>, held: &'a [Option<Row>], rid: u64) -> Option<RowValues<'a>>
     requires { AreRowsOf face held.now }
-    ensures { option_copied result ≡ row_in_unit (unit_of face.entry) rid }
+    ensures { result ≡ row_in_unit (unit_of face.entry) rid }
 {
     match face {
         Face::Whole(unit) => row_of(unit, held, rid),
@@ -46,14 +56,14 @@ fn shown<'a>(face: Face<'a>, held: &'a [Option<Row>], rid: u64) -> Option<&'a Ro
 /// The rows that a face shows at so many row numbers from the first on.
 fn shown_rows<'a>(
     alloc: Global,
-    face: Face<'a>,
+    face: Face<'_>,
     held: &'a [Option<Row>],
     first: u64,
     count: u64,
-) -> Result<Vec<Option<&'a Row>>, NoMemory>
+) -> Result<Vec<Option<RowValues<'a>>>, NoMemory>
     requires within { first + count < 2 ^ 64 }
     requires held { AreRowsOf face held.now }
-    ensures { IfOk result (λ slots. lent slots.items ≡ unit_rows (unit_of face.entry) first count) }
+    ensures { IfOk result (λ slots. slots.items ≡ unit_rows (unit_of face.entry) first count) }
 {
     let mut slots = Vec::with_capacity(alloc, count as usize)?;
     for rid in first..first + count {
@@ -63,84 +73,40 @@ fn shown_rows<'a>(
 }
 
 /// Puts a row at a row number, if it is among those from the first on.
-fn put<'a>(slots: &mut [Option<&'a Row>], first: u64, rid: u64, row: &'a Option<Row>)
-    ensures { lent slots.new ≡ put_at first (lent slots.old) rid row.now }
+fn put<'a>(slots: &mut [Option<RowValues<'a>>], first: u64, rid: u64, row: &Option<RowValues<'a>>)
+    ensures { slots.new ≡ put_at first slots.old rid row.now }
 {
     if rid >= first && rid - first < slots.len() as u64 {
-        slots[(rid - first) as usize] = row.as_ref();
+        slots[(rid - first) as usize] = values_again(row);
     }
 }
 
 /// Puts what was fetched in place of what stands there.
-fn put_fetched<'a>(slots: &mut [Option<&'a Row>], first: u64, fetched: &'a [(u64, Option<Row>)])
-    ensures { lent slots.new ≡ with_fetched first (lent slots.old) fetched.now }
+fn put_fetched<'a>(slots: &mut [Option<RowValues<'a>>], first: u64, fetched: &[LentRow<'a>])
+    ensures { slots.new ≡ with_fetched first slots.old fetched.now }
 {
     for (rid, row) in fetched {
         put(slots, first, *rid, row);
     }
 }
 
-/// Puts what the view's own changes left: of each row number what the last change to it left.
+/// The rows that a face shows at so many row numbers from the first on, with others in the place of those of their row numbers. They
+/// stay where they are.
 ///
-/// It costs those of the row numbers that the view's own changes are to.
-fn put_own<'a>(slots: &mut [Option<&'a Row>], first: u64, view: &'a View)
-    requires { first + length slots.old < 2 ^ 64 }
-    ensures { lent slots.new ≡ with_changes view.now.table first (lent slots.old) view.now.own }
-{
-    let count = slots.len() as u64;
-    for (rid, row) in view.own.between(view.table, first, count) {
-        put(slots, first, *rid, row);
-    }
-}
-
-/// The rows that a face shows, with what was fetched in their place.
-fn overlaid<'a>(
-    alloc: Global,
-    face: Face<'a>,
-    held: &'a [Option<Row>],
-    fetched: &'a [(u64, Option<Row>)],
-    first: u64,
-    count: u64,
-) -> Result<Vec<Option<&'a Row>>, NoMemory>
-    requires within { first + count < 2 ^ 64 }
-    requires held { AreRowsOf face held.now }
-    ensures { IfOk result (λ slots. lent slots.items ≡ with_fetched first (unit_rows (unit_of face.entry) first count) fetched.now) }
-{
-    let mut slots = shown_rows(alloc, face, held, first, count)?;
-    put_fetched(slots.as_mut_slice(), first, fetched);
-    Ok(slots)
-}
-
-/// Whether the view's own changes are to any of so many row numbers from the first on.
-///
-/// It costs a search.
-pub fn has_own(view: &View, first: u64, count: u64) -> bool
-    requires { first + count < 2 ^ 64 }
-    ensures { result ≡ false → IsUnchanged view.now first count }
-{
-    match view.own.between(view.table, first, count).next() {
-        Some(_) => true,
-        None => false,
-    }
-}
-
-/// The rows that a scan takes at so many row numbers from the first on. They stay where they are.
-///
-/// It costs the row numbers, what was fetched, and those of the row numbers that the view's own changes are to.
+/// It costs the row numbers and the others.
 pub fn gather<'a>(
     alloc: Global,
-    face: Face<'a>,
+    face: Face<'_>,
     held: &'a [Option<Row>],
-    fetched: &'a [(u64, Option<Row>)],
-    view: &'a View,
+    others: &[LentRow<'a>],
     first: u64,
     count: u64,
-) -> Result<Vec<Option<&'a Row>>, NoMemory>
+) -> Result<Vec<Option<RowValues<'a>>>, NoMemory>
     requires within { first + count < 2 ^ 64 }
     requires held { AreRowsOf face held.now }
-    ensures { IfOk result (λ slots. lent slots.items ≡ gathered (unit_of face.entry) fetched.now view.now first count) }
+    ensures { IfOk result (λ slots. slots.items ≡ with_fetched first (unit_rows (unit_of face.entry) first count) others.now) }
 {
-    let mut slots = overlaid(alloc, face, held, fetched, first, count)?;
-    put_own(slots.as_mut_slice(), first, view);
+    let mut slots = shown_rows(alloc, face, held, first, count)?;
+    put_fetched(slots.as_mut_slice(), first, others);
     Ok(slots)
 }

@@ -12,14 +12,19 @@ use crate::summed::{sums_by, takes_together};
 use im_codepred::tally_rows;
 use im_group::{Asked, Asking, Sums};
 use im_lanes::Mask;
-use im_values::{NoMemory, Rows};
+use im_values::{NoMemory, WideRun};
 use std::alloc::Global;
 
 /// As few rows as this are taken one by one: to sum them up and to join the sums would cost more.
 const FEW: usize = 16;
 
 /// The summary of the chosen values of one column of a run, of what a query asks of it.
-fn run_sum(alloc: Global, asked: Asked, rows: &Rows, mask: &Mask) -> Result<Option<Sums>, NoMemory>
+fn run_sum(
+    alloc: Global,
+    asked: Asked,
+    rows: &WideRun<'_>,
+    mask: &Mask,
+) -> Result<Option<Sums>, NoMemory>
     requires long { length mask.now ≡ length rows.now }
     requires inside { All (λ row. HasColumn row asked.column) rows.now }
     ensures { IfOk result (λ found. ForSome found (λ found.
@@ -32,7 +37,7 @@ fn run_sum(alloc: Global, asked: Asked, rows: &Rows, mask: &Mask) -> Result<Opti
 fn run_sums(
     alloc: Global,
     asked: &[Asked],
-    rows: &Rows,
+    rows: &WideRun<'_>,
     mask: &Mask,
 ) -> Result<Option<Vec<Sums>>, NoMemory>
     requires long { length mask.now ≡ length rows.now }
@@ -55,7 +60,7 @@ fn run_sums(
 pub fn sums_together(
     alloc: Global,
     asking: &Asking<'_>,
-    rows: &Rows,
+    rows: &WideRun<'_>,
     mask: &Mask,
 ) -> Result<Option<Vec<Sums>>, NoMemory>
     requires mask { mask.now ≡ map (group.keeps asking.now.filter) rows.now }

@@ -1,19 +1,19 @@
 ghost use Rattle.std.specs.Prelude.{◌≡◌, ◌+◌, ◌-◌, ◌<◌, ◌≤◌, ◌^◌, Some, true, map, IfOk, OnOk};
 ghost use Rattle.std.specs.List.{AllByRecursion};
-ghost use Rattle.std.specs.Option.{ForSome, option_copied};
+ghost use Rattle.std.specs.Option.{ForSome};
 ghost use Rattle.im_history.specs.Rows.{present};
 ghost use Rattle.im_group.specs.Partials as group;
 ghost use Rattle.im_unit.specs.Holding as holding;
 ghost use Rattle.im_scan.specs.Parts.{MayAsk, row_in_unit};
 ghost use Rattle.im_scan.specs.inner.Steps.{GoesOnBy, numbered};
-ghost use Rattle.im_scan.specs.inner.Walk.{AreKept, BeginsBy, IsPartTo, is_kept, lent_beside, standing, unit_in};
+ghost use Rattle.im_scan.specs.inner.Walk.{AreKept, BeginsBy, IsPartTo, is_kept, standing, unit_in};
 
 use crate::kept::{Kept, next_chosen};
 use crate::parts::take_row;
 use im_group::{Asking, Partial};
 use im_history::LentRow;
 use im_unit::ColumnUnit;
-use im_values::{NoMemory, Value};
+use im_values::{NoMemory, RowValues, Value};
 use std::alloc::Global;
 
 /// The part of a grouped query takes a row of a unit that is kept. It is read into a list that is lent.
@@ -31,7 +31,7 @@ fn take_read(
     ensures { OnOk result (GoesOnBy asking.now part.old (numbered rid (holding.row_of unit.now rid)) part.new) }
 {
     if unit.read(alloc, rid, values)? {
-        part.take_kept(alloc, asking, rid, values.as_slice())?;
+        part.take_kept(alloc, asking, rid, &RowValues::of(values.as_slice()))?;
     }
     Ok(())
 }
@@ -142,9 +142,9 @@ pub fn walked(
     requires begins { BeginsBy first kept.now }
     requires kept { AreKept asking.now.filter kept.now }
     requires fits { ForSome (unit_in kept.now) (λ content. AllByRecursion (MayAsk asking.now) content.rows) }
-    requires beside_fits { AllByRecursion (λ row. MayAsk asking.now row.1) (lent_beside beside.now) }
+    requires beside_fits { AllByRecursion (λ row. MayAsk asking.now row.1) beside.now }
     ensures { IfOk result (λ part. ForSome part (λ part.
-        part ≡ group.partial asking.now (present (standing (unit_in kept.now) (lent_beside beside.now)) first count))) }
+        part ≡ group.partial asking.now (present (standing (unit_in kept.now) beside.now) first count))) }
 {
     let end = first + count;
     let mut part = Partial::new(alloc, asking)?;
@@ -155,7 +155,7 @@ pub fn walked(
             return Ok(None);
         }
         take_unit(alloc, asking, kept, from, *rid, &mut values, &mut part)?;
-        take_row(alloc, asking, *rid, *row, &mut part)?;
+        take_row(alloc, asking, *rid, row, &mut part)?;
         from = *rid + 1;
     }
     take_unit(alloc, asking, kept, from, end, &mut values, &mut part)?;

@@ -15,7 +15,7 @@ use Rattle.im_history.specs.Grid.{Grid}
 use Rattle.im_history.specs.History.{History}
 use Rattle.im_history.specs.Legal.{MaySetMemory}
 use Rattle.im_history.specs.Refusals.{create_refusal}
-use Rattle.im_history.specs.Tables.{table_among, table_at, tables}
+use Rattle.im_history.specs.Tables.{new_table, table_among, table_at, tables}
 use Rattle.im_history.specs.Transactions.{is_open}
 use Rattle.im_history.proofs.Laws.{tables-push}
 use Rattle.im_plan.specs.Plan.{Plan, End}
@@ -88,11 +88,11 @@ module _ (who k : ℕ) (old middle : Known) (name : List ℕ) (schema : List Col
     pub created-may : is_open old.log who ≡ false → MaySetMemory middle.log who made.table
     created-may idle = record {
       exists = record {
-        made = record { name = name; schema = schema; shape = grid; memory = None };
+        made = new_table name schema grid;
         is =
             ap (λ (log : History). table_at log made.table) log-is
             ∙ (ap (λ (ts : List TableInfo). table_among ts made.table) (tables-push at (record { who = who; what = what.Create name schema grid }))
-            ∙ among-last (tables at) (record { name = name; schema = schema; shape = grid; memory = None }) made.table
+            ∙ among-last (tables at) (new_table name schema grid) made.table
             (ap (λ (m : Made). m.table) added.fact.1));
       };
       idle = ap is_some (begun-added who old middle (what.Create name schema grid) IsMade mine added) ∙ idle;

@@ -1,5 +1,5 @@
 -- From a statement to what its names come to, and the commit before a definition.
-use Rattle.std.proofs.Common.{◌≡◌, ℕ, ◌⊎◌, inl, inr, Bool, true, false, List, Some, is_some, Result, Ok, Err, refl, sym, ap, ◌∙◌, subst}
+use Rattle.std.proofs.Common.{◌≡◌, ℕ, ◌⊎◌, inl, inr, true, false, List, Some, is_some, Result, Ok, Err, refl, sym, ap, ◌∙◌, subst}
 use Rattle.std.specs.List.{list_any}
 use Rattle.std.specs.Result.{IfOk}
 use Rattle.im_history.specs.declared.entry.What.TheVariants as what
@@ -49,6 +49,9 @@ like-answer ts (stmt.Create name columns block extent memory) =
 like-answer ts (stmt.AlterMemory name memory) =
     of_table-each (IsLike (stmt.AlterMemory name memory)) (table_called ts name) name _ (λ table. (refl, refl))
 like-answer ts (stmt.AlterNoMemory name) = of_table-each (IsLike (stmt.AlterNoMemory name)) (table_called ts name) name _ (λ table. (refl, refl))
+like-answer ts (stmt.AddColumn name part default) =
+    of_table-each (IsLike (stmt.AddColumn name part default)) (table_called ts name) name _
+    (λ table. unless-each (IsLike (stmt.AddColumn name part default)) _ _ (refl, refl))
 like-answer ts (stmt.Insert name names tuples) =
     of_table-each (IsLike (stmt.Insert name names tuples)) (table_called ts name) name _
     (λ table. unless-each (IsLike (stmt.Insert name names tuples)) _ _ (refl, refl))

@@ -5,6 +5,7 @@ use Rattle.std.specs.Option.{option_map}
 use Rattle.std.proofs.lemmas.List.{take-append-drop}
 use Rattle.im_values.specs.declared.limits.TheConstants.{MOST_ROWS}
 use Rattle.im_values.specs.declared.content.Content.{Content as Value}
+use Rattle.im_values.specs.declared.schema.Column.{Column}
 use Rattle.im_history.specs.declared.cursors.TheConstants.{OWN_CURSOR}
 use Rattle.im_history.specs.declared.entry.Mode.{Mode}
 use Rattle.im_history.specs.declared.entry.Mode.TheVariants as mode
@@ -17,12 +18,13 @@ use Rattle.im_history.specs.Commits.{scn}
 use Rattle.im_history.specs.Cursors.{Opened, cursor_at, has_own_open, is_cursor, is_cursor_open, opened, opened_after}
 use Rattle.im_history.specs.History.{History}
 use Rattle.im_history.specs.Legal.{Exists, IsLawful, IsLegal}
-use Rattle.im_history.specs.Refusals.{open_refusal}
+use Rattle.im_history.specs.Refusals.{altered, open_refusal}
 use Rattle.im_history.specs.Rows.{Row, present, snapshot, snapshot_under}
 use Rattle.im_history.specs.Tables.{tables}
 use Rattle.im_history.specs.Transactions.{begun, mode as mode_of}
 use Rattle.im_history.specs.Views.{per_at, seen_by, view_at}
 use Rattle.im_history.proofs.Laws.{IsLegal-pop, opened-push}
+use Rattle.im_history.proofs.ViewLaws.{HasColumns-view}
 use Rattle.im_names.specs.Fitting.{OfTable, QueryServes}
 use Rattle.im_plan.specs.Goes.{After}
 use Rattle.im_plan.specs.Plan.{Plan, Turn}
@@ -32,16 +34,17 @@ use Rattle.im_replies.specs.declared.served.Served.{Served}
 use Rattle.im_replies.specs.declared.aim.Aim.TheVariants as aim
 use Rattle.im_replies.specs.Causes.{fault_of}
 use Rattle.im_scan.specs.Pinned.{seen_all}
-use Rattle.im_scan.proofs.ForCallers.{seen_by-later}
+use Rattle.im_scan.proofs.ForCallers.{defaults-are, seen_by-later}
 use Rattle.im_session.specs.inner.Cursors.{IsUnopened}
 use Rattle.im_session.specs.inner.Rests.{IsRest}
 use Rattle.im_session.specs.inner.Scans.{IsScan}
 use Rattle.im_session.specs.Cursors.{MayAskIn}
 use Rattle.im_session.proofs.OtherLemmas.{cursor-after, itself}
 use Rattle.im_session.proofs.RestLemmas.{attempt-done, rest-lacks_here, rest-refused}
-use Rattle.im_session.proofs.TableLemmas.{asks-own, exists-longer, of_table-longer, opened-columns, per-longer, scn-longer}
+use Rattle.im_session.proofs.TableLemmas.{asks-own, both-none, exists-longer, exists-of, none-both, of_table-same, opened-columns, per-longer, scn-longer}
 use Rattle.im_statements.specs.Outcomes.{Outcome, said}
-use Rattle.im_statements.specs.Scans.{rows_seen, scan, serve_from}
+use Rattle.im_statements.specs.Scans.{opening_refusal, rows_seen, scan, serve_from}
+use Rattle.im_statements.specs.Statements.{seen_columns}
 use Rattle.im_statements.specs.Turns.{memory_reply, or_refused, refused_reply, unless_refused}
 use Rattle.im_syntax.specs.declared.bound.Bound.{Bound}
 use Rattle.im_syntax.specs.Condition.{CondOf}
@@ -147,15 +150,24 @@ module _ (who cursor table : ℕ) (old middle : Known) (at : History) (view : Vi
       on_log : (P : History → Type 0) → P (opening at who cursor table) → P middle.log
       on_log P holds = subst P (sym log-is) holds
 
+  -- what fits the table fits it where it has the same columns
+  pub opening-fits : (P : List Column → Type 0) → altered at table (seen_columns old.log table) ≡ None → OfTable (tables old.log) table P
+      → OfTable (tables at) table P
+  opening-fits P same of =
+      found-at (λ h. altered h table (seen_columns old.log table) ≡ None → OfTable (tables h) table P)
+      (λ more unaltered. of_table-same old.log more table P of unaltered) same
+
   -- a query may be asked of what it sees
-  pub opening-asks : (bound : Bound) → IsLawful middle.limits middle.log → OfTable (tables old.log) table (QueryServes bound) → MayAskIn bound view
-  opening-asks bound lawful of = record {
+  pub opening-asks : (bound : Bound) → altered at table (seen_columns old.log table) ≡ None → IsLawful middle.limits middle.log
+      → OfTable (tables old.log) table (QueryServes bound) → MayAskIn bound view
+  opening-asks bound same lawful of = record {
     rows = rw view_is (subst (QueryServes bound) (opened-columns at who table there.columns there.are_of) there.is);
     own = rw view_is (asks-own middle.limits at who table bound legal there);
+    defaults = rw view_is (defaults-are middle.limits at (view_at at who table) legal (HasColumns-view at who table (exists-of at table (QueryServes bound) there)));
   }
     where
       there : OfTable (tables at) table (QueryServes bound)
-      there = found-at (λ h. OfTable (tables h) table (QueryServes bound)) (λ more. of_table-longer old.log more table (QueryServes bound) of)
+      there = opening-fits (QueryServes bound) same of
 
       legal : IsLegal middle.limits at
       legal = (IsLegal-pop middle.limits at (record { who = who; what = Open cursor table })
@@ -171,32 +183,57 @@ module _ (who cursor table : ℕ) (old middle : Known) (at : History) (view : Vi
 
 -- ---- what a call that opened a cursor makes known
 
--- a cursor was opened on a table, with this view
-abbrev pub HasOpened : ℕ → ℕ → ℕ → View → History → Type 0
-HasOpened who cursor table view at = (open_refusal at who cursor ≡ None) × (view ≡ view_at at who table)
+-- a cursor was opened on a table that had so many columns at the look, with this view
+abbrev pub HasOpened : ℕ → ℕ → ℕ → ℕ → View → History → Type 0
+HasOpened who cursor table columns view at = (opening_refusal at who cursor table columns ≡ None) × (view ≡ view_at at who table)
 
-module _ (who cursor table : ℕ) (old middle : Known) (view : View)
-    (added : Added old middle who (λ at. Open cursor table) (HasOpened who cursor table view)) where
+-- the call of the store says both that nothing refused it for other columns, and that nothing else did
+pub opened-added : (who cursor table columns : ℕ) (old middle : Known) (view : View) → columns ≡ seen_columns old.log table
+    → Added old middle who (λ at. Open cursor table) (λ at.
+    (altered at table columns ≡ None) × (open_refusal at who cursor ≡ None) × (view ≡ view_at at who table))
+    → Added old middle who (λ at. Open cursor table) (HasOpened who cursor table (seen_columns old.log table) view)
+opened-added who cursor table columns old middle view seen added = record {
+  at = added.at;
+  after = added.after;
+  now = added.now;
+  fact = rw (← seen) (both-none (altered added.at table columns) (open_refusal added.at who cursor) added.fact.0 added.fact.1, added.fact.2);
+}
+
+module _ (who cursor table columns : ℕ) (old middle : Known) (view : View)
+    (added : Added old middle who (λ at. Open cursor table) (HasOpened who cursor table columns view)) where
+  allowed : (altered added.at table columns ≡ None) × (open_refusal added.at who cursor ≡ None)
+  allowed = none-both (altered added.at table columns) (open_refusal added.at who cursor) added.fact.0
+
   pub added-scan : Exists old.log table → view.rows ≤ MOST_ROWS → 1 ≤ view.per → IsScan who cursor view middle
   added-scan exists few some =
-      opening-scan who cursor table old middle added.at view added.after added.now added.fact.1 exists added.fact.0 few some
+      opening-scan who cursor table old middle added.at view added.after added.now added.fact.1 exists allowed.1 few some
 
   -- no cursor of its number was open before
   pub added-fresh : speaks old.side who ≡ true → is_cursor_open old.log who cursor ≡ false
-  added-fresh mine = sym (cursor-after old.side who cursor old.log added.at mine added.after) ∙ open_shut added.at who cursor added.fact.0
+  added-fresh mine = sym (cursor-after old.side who cursor old.log added.at mine added.after) ∙ open_shut added.at who cursor allowed.1
+
+module _ (who cursor table : ℕ) (old middle : Known) (view : View)
+    (added : Added old middle who (λ at. Open cursor table) (HasOpened who cursor table (seen_columns old.log table) view)) where
+  -- what fits the table fitted it then
+  pub added-fits : (P : List Column → Type 0) → OfTable (tables old.log) table P → OfTable (tables added.at) table P
+  added-fits P of =
+      opening-fits who cursor table old middle added.at view added.after added.now added.fact.1 P
+      (allowed who cursor table (seen_columns old.log table) old middle view added).0 of
 
   pub added-asks : (bound : Bound) → IsLawful middle.limits middle.log → OfTable (tables old.log) table (QueryServes bound) → MayAskIn bound view
-  added-asks bound lawful of = opening-asks who cursor table old middle added.at view added.after added.now added.fact.1 bound lawful of
+  added-asks bound lawful of =
+      opening-asks who cursor table old middle added.at view added.after added.now added.fact.1 bound
+      (allowed who cursor table (seen_columns old.log table) old middle view added).0 lawful of
 
 -- a cursor was opened for a line's own scan, which then goes on
-pub scan-opened : (who k table : ℕ) (old middle new : Known) (view : View) (filter : Option (CondOf ℕ Value))
+pub scan-opened : (who k table columns : ℕ) (old middle new : Known) (view : View) (filter : Option (CondOf ℕ Value))
     (tail : ℕ → View → List (ℕ × Row) → List Served → Plan Outcome) (outcome : Outcome)
-    → Added old middle who (λ at. Open OWN_CURSOR table) (HasOpened who OWN_CURSOR table view)
+    → Added old middle who (λ at. Open OWN_CURSOR table) (HasOpened who OWN_CURSOR table columns view)
     → IsRest who (k + 1) middle (serve_from view filter 0 (tail view.place view (seen_all middle.log view))) outcome new
-    → IsRest who k old (scan who table filter (λ at view. tail (length at) view (rows_seen at view))) outcome new
-scan-opened who k table old middle new view filter tail outcome added rest =
-    attempt-done who k old middle new (fault_of (aim.Opening OWN_CURSOR)) (λ at. open_refusal at who OWN_CURSOR) (λ at. Open OWN_CURSOR table)
-    (HasOpened who OWN_CURSOR table view) on outcome added added.fact.0 (subst (λ (p : Plan Outcome). IsRest who (k + 1) middle p outcome new) same rest)
+    → IsRest who k old (scan who table columns filter (λ at view. tail (length at) view (rows_seen at view))) outcome new
+scan-opened who k table columns old middle new view filter tail outcome added rest =
+    attempt-done who k old middle new (fault_of (aim.Opening table OWN_CURSOR)) (λ at. opening_refusal at who OWN_CURSOR table columns)
+    (λ at. Open OWN_CURSOR table) (HasOpened who OWN_CURSOR table columns view) on outcome added added.fact.0 (subst (λ (p : Plan Outcome). IsRest who (k + 1) middle p outcome new) same rest)
   where
     on : History → Plan Outcome
     on at = serve_from (view_at at who table) filter 0 (tail (length at) (view_at at who table) (rows_seen at (view_at at who table)))
@@ -211,20 +248,21 @@ scan-opened who k table old middle new view filter tail outcome added rest =
         ∙ ap (λ (v : View). serve_from v filter 0 (tail v.place v (rows_seen at (view_at at who table)))) added.fact.1
 
 -- a cursor of this number was not opened
-pub unopened-rest : (who k number table : ℕ) (old new : Known) (decides : Bool) (tells : Why → Fault) (on : History → Plan Outcome) (refused : Refused)
-    → speaks old.side who ≡ true → has_own_open old.log who ≡ false → IsUnopened who number refused old new
+pub unopened-rest : (who k number table columns : ℕ) (old new : Known) (decides : Bool) (tells : Why → Fault) (on : History → Plan Outcome) (refused : Refused)
+    → speaks old.side who ≡ true → has_own_open old.log who ≡ false → IsUnopened who number table columns refused old new
     → IsRest who k old
-    (Turn decides (λ at. unless_refused (open_refusal at who number) (Open number table)) (λ at. or_refused tells at (open_refusal at who number) (on at)))
+    (Turn decides (λ at. unless_refused (opening_refusal at who number table columns) (Open number table))
+    (λ at. or_refused tells at (opening_refusal at who number table columns) (on at)))
     (said (refused_reply tells k refused.place refused.why)) new
-unopened-rest who k number table old new decides tells on refused mine shut unopened = elim unopened.cause [
+unopened-rest who k number table columns old new decides tells on refused mine shut unopened = elim unopened.cause [
   | inl lacks ↦
       subst (λ (w : Why). IsRest who k old plan (said (refused_reply tells k refused.place w)) new) (sym lacks.0)
       (subst (λ (s : Known). IsRest who k old plan (said (memory_reply k)) s) (sym lacks.1) (rest-lacks_here who k old plan mine shut))
   | inr found ↦
-      rest-refused who k old new decides tells (λ at. open_refusal at who number) (λ at. Open number table) on refused mine shut found
+      rest-refused who k old new decides tells (λ at. opening_refusal at who number table columns) (λ at. Open number table) on refused mine shut found
 ]
   where
     plan : Plan Outcome
     plan =
-        Turn decides (λ at. unless_refused (open_refusal at who number) (Open number table))
-        (λ at. or_refused tells at (open_refusal at who number) (on at))
+        Turn decides (λ at. unless_refused (opening_refusal at who number table columns) (Open number table))
+        (λ at. or_refused tells at (opening_refusal at who number table columns) (on at))

@@ -321,7 +321,12 @@ chunks-done bound view first size n count pins before part some is last goes =
 
 -- a query may be asked of a cursor that is kept
 pub asked-kept : (who : ℕ) (cursor : Cursor) (now : Known) → IsKept who cursor now → IsAsked cursor.bound cursor.view
-asked-kept who cursor now kept = record { own = kept.sound.asks.own; cut = kept.scan.sees.cut; few = kept.scan.sees.few }
+asked-kept who cursor now kept = record {
+  own = kept.sound.asks.own;
+  defaults = kept.sound.asks.defaults;
+  cut = kept.scan.sees.cut;
+  few = kept.scan.sees.few;
+}
 
 -- an extent that was read for it is pinned
 pub pin-read : (who : ℕ) (cursor : Cursor) (extent : ℕ) (pin : Pin Content) (old new : Known) → speaks old.side who ≡ true → IsKept who cursor old
@@ -336,6 +341,7 @@ pin-read who cursor extent pin old new mine kept went lawful read =
       same = seen_in-went old new cursor.view extent kept.scan.sees.known went;
       unit_fits = may.unit_fits;
       fetched_fits = may.fetched_fits;
+      shown = may.shown;
     }
 
 -- also where others went on before
@@ -347,6 +353,7 @@ pin-went bound view extent pin first now known went is = record {
   same = is.same ∙ seen_in-went first now view extent known went;
   unit_fits = is.unit_fits;
   fetched_fits = is.fetched_fits;
+  shown = is.shown;
 }
 
 pub pins-none : (wanted : Wanted) (bound : Bound) (view : View) (opening : History) (first : ℕ) → HasPins wanted bound view opening first first []

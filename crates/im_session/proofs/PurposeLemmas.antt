@@ -23,12 +23,14 @@ use Rattle.im_session.proofs.ScanLemmas.{longer-went, open-went, scan-ended, sca
 use Rattle.im_session.proofs.WriteLemmas.{added-rewrites}
 use Rattle.im_statements.specs.Outcomes.{Outcome, said}
 use Rattle.im_statements.specs.Scans.{end_scan, serve_from}
+use Rattle.im_statements.specs.Statements.{seen_columns}
 use Rattle.im_statements.specs.Turns.{memory_reply}
 use Rattle.im_syntax.specs.declared.bound.Bound.{Bound}
 
 -- ---- the opening
 
-module _ (who : ℕ) (bound : Bound) (cursor : Cursor) (old middle : Known) (opened : IsJustOpened who OWN_CURSOR bound cursor old middle) where
+module _ (who : ℕ) (bound : Bound) (cursor : Cursor) (old middle : Known)
+    (opened : IsJustOpened who OWN_CURSOR (seen_columns old.log bound.table) bound cursor old middle) where
   same-bound : cursor.bound ≡ bound
   same-bound = ap (λ (k : Cursor). k.bound) opened.is
 
@@ -52,9 +54,10 @@ module _ (who : ℕ) (bound : Bound) (cursor : Cursor) (old middle : Known) (ope
 
   -- it served it, and was closed
   pub scan-used : (purpose : Purpose) (used new : Known) (reply : Reply) → IsUsed who purpose cursor middle reply used → IsShut who used new
-      → IsRest who 0 old (plan_of old.limits who bound purpose) (said reply) new
+      → IsRest who 0 old (plan_of old.limits who (seen_columns old.log bound.table) bound purpose) (said reply) new
   scan-used purpose used new reply is shut =
-      scan-opened who 0 bound.table old middle new cursor.view bound.filter (behind_scan old.limits who bound purpose) (said reply) opened.added
+      scan-opened who 0 bound.table (seen_columns old.log bound.table) old middle new cursor.view bound.filter (behind_scan old.limits who bound purpose)
+      (said reply) opened.added
       (subst (λ (l : Limits). IsRest who 1 middle
       (serve_from cursor.view bound.filter 0 (behind_scan l who bound purpose cursor.view.place cursor.view (seen_all middle.log cursor.view)))
       (said reply) new) (ap (λ (k : Known). k.limits) opened.added.now)

@@ -9,9 +9,7 @@ use Rattle.im_history.specs.Commits.{scn}
 use Rattle.im_history.specs.Cursors.{has_own_open, is_cursor, is_cursor_open}
 use Rattle.im_history.specs.History.{History}
 use Rattle.im_history.specs.Legal.{Exists}
-use Rattle.im_history.specs.Tables.{tables}
 use Rattle.im_history.specs.Views.{per_at}
-use Rattle.im_names.specs.Fitting.{OfTable, QueryServes}
 use Rattle.im_core.specs.Answers.{cursor_view, view_of}
 use Rattle.im_plan.specs.Goes.{After}
 use Rattle.im_plan.specs.Plan.{Plan, End}
@@ -27,11 +25,10 @@ use Rattle.im_session.specs.inner.Scans.{Comes, IsScan, IsShut, Longer, Stops, W
 use Rattle.im_session.proofs.OtherLemmas.{cursor-after, opened-after, own-after}
 use Rattle.im_session.proofs.RestLemmas.{decided-end, rest-look, rest-went}
 pub use Rattle.im_session.proofs.RestLemmas.{went-found, went-log}
-use Rattle.im_session.proofs.TableLemmas.{exists-longer, of_table-longer, per-longer, scn-longer}
+use Rattle.im_session.proofs.TableLemmas.{exists-longer, per-longer, scn-longer}
 use Rattle.im_statements.specs.Outcomes.{Outcome, said}
 use Rattle.im_statements.specs.Scans.{end_scan, mark_at, serve}
 use Rattle.im_statements.specs.Turns.{amends, memory_reply, shut_open}
-use Rattle.im_syntax.specs.declared.bound.Bound.{Bound}
 use Rattle.im_syntax.specs.Condition.{CondOf}
 
 -- ---- others went on

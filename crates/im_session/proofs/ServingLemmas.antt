@@ -15,16 +15,16 @@ use Rattle.im_history.specs.Legal.{IsLawful}
 use Rattle.im_history.specs.Rows.{Row}
 use Rattle.im_history.specs.Serving.{fetched_by, fetched_in, serving, serving_content, shown_all}
 use Rattle.im_history.specs.Units.{Content, content_at, stale}
-use Rattle.im_history.proofs.ViewLaws.{cursor-columns}
+use Rattle.im_history.proofs.ViewLaws.{HasColumns, cursor-columns}
 use Rattle.im_plan.specs.Plan.{Plan}
 use Rattle.im_reach.specs.Sides.{Known, speaks}
 use Rattle.im_replies.specs.declared.served.How.{How}
 use Rattle.im_replies.specs.declared.served.Served.{Served}
 use Rattle.im_replies.specs.Mixes.{by_unit, is_pruned, mix, mix_by, reads}
 use Rattle.im_scan.specs.Faces.{how_of}
-use Rattle.im_scan.specs.Parts.{MayAsk}
+use Rattle.im_scan.specs.Parts.{AreShown, MayAsk, MayAskShown}
 use Rattle.im_scan.specs.Pinned.{IsPinned, seen_all, seen_in, seen_to}
-use Rattle.im_scan.proofs.ForCallers.{MayAskOf, fetched-may, pinned-serving, seen_in-later, seen_to-all, unit-may}
+use Rattle.im_scan.proofs.ForCallers.{MayAskOf, fetched-may, fetched-shown, pinned-serving, seen_in-later, seen_to-all, unit-may}
 use Rattle.im_session.specs.declared.cursor.Cursor.{Cursor}
 use Rattle.im_session.specs.declared.serving.Wanted.{Wanted}
 use Rattle.im_session.specs.inner.Scans.{Comes, IsRead, IsScan, Stops, Went}
@@ -61,8 +61,9 @@ read-of who cursor extent place view unit fetched now scan place_is unit_is fetc
 -- what is known of an extent that was read, of which a query is asked
 pub record MayScanPart (bound : Bound) (h : History) (view : View) (extent : ℕ) (unit : Option Content) (fetched : List (ℕ × Option Row)) : Type 0 where
   pub pinned : IsPinned h view extent unit fetched
-  pub unit_fits : ForSome unit (λ content. AllByRecursion (MayAsk bound) content.rows)
+  pub unit_fits : ForSome unit (λ content. AllByRecursion (MayAskShown bound view) content.rows)
   pub fetched_fits : AllByRecursion (λ row. MayAsk bound row.1) fetched
+  pub shown : AreShown view fetched
 
 pub may-part : (who cursor extent place : ℕ) (bound : Bound) (view : View) (unit : Option Content) (fetched : List (ℕ × Option Row))
     (now : Known) → IsScan who cursor view now → MayAskIn bound view → IsLawful now.limits now.log
@@ -71,15 +72,17 @@ may-part who cursor extent place bound view unit fetched now scan asks lawful re
   pinned = pinned;
   unit_fits = unit-may bound now.log view extent unit fetched pinned may;
   fetched_fits = fetched-may bound now.log view extent unit fetched pinned may;
+  shown = fetched-shown now.log view extent unit fetched pinned;
 }
   where
-    pinned : IsPinned now.log view extent unit fetched
-    pinned = pinned-serving now.log view extent unit fetched scan.sees.per read.unit_is read.fetched_is
+    has : HasColumns now.log view
+    has = cursor-columns now.limits now.log who cursor (record { cursor = cursor; view = view }) lawful.legal scan.opened
 
-    may : MayAskOf bound now.log view.table
-    may =
-        asks-of now.limits now.log view bound lawful.legal
-        (cursor-columns now.limits now.log who cursor (record { cursor = cursor; view = view }) lawful.legal scan.opened) asks.rows
+    pinned : IsPinned now.log view extent unit fetched
+    pinned = pinned-serving now.log view extent unit fetched scan.sees.per has read.unit_is read.fetched_is
+
+    may : MayAskOf bound now.log view
+    may = asks-of now.limits now.log view bound lawful.legal has asks.rows
 
 -- the same, where others went on before it was read
 pub may-read : (who cursor extent place : ℕ) (bound : Bound) (view : View) (unit : Option Content) (fetched : List (ℕ × Option Row))

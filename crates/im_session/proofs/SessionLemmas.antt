@@ -233,12 +233,12 @@ module _ (who : ℕ) (cursors : List Cursor) (old : Known) (here : AreKept who c
         rw reply_is (run-unknown who number cursors old look (plan_of_use usage old.log) here.sound here.apart look_is none)
 
     -- a cursor came to them
-    pub run-open : (number : ℕ) (bound : Bound) (kept : Cursor)
-        → IsRest who 0 old (open_query who number bound) (opening_outcome reply (Some kept)) new
+    pub run-open : (number columns : ℕ) (bound : Bound) (kept : Cursor)
+        → IsRest who 0 old (open_query who number columns bound) (opening_outcome reply (Some kept)) new
         → is_cursor_open old.log who kept.number ≡ false → IsKept who kept new
-        → IsRun who (open_query who number bound) cursors old reply (cursors ++ kept ∷ []) new
-    run-open number bound kept rest fresh is =
-        run-opened who cursors old new reply here.sound here.apart (open_query who number bound) kept rest here.cursors fresh is.sound
+        → IsRun who (open_query who number columns bound) cursors old reply (cursors ++ kept ∷ []) new
+    run-open number columns bound kept rest fresh is =
+        run-opened who cursors old new reply here.sound here.apart (open_query who number columns bound) kept rest here.cursors fresh is.sound
 
     -- they stay as they are
     pub run-kept : (plan : Plan Outcome) → IsRest who 0 old plan (said reply) new → IsRun who plan cursors old reply cursors new

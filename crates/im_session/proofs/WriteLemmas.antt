@@ -18,21 +18,22 @@ use Rattle.im_history.specs.Legal.{IsLawful, IsLegal, MayWrite, still_seen, row_
 use Rattle.im_history.specs.Rows.{Row, rows, row_after, seen, present, own_changes}
 use Rattle.im_history.specs.Tables.{tables}
 use Rattle.im_history.specs.Transactions.{pending}
-use Rattle.im_history.specs.Views.{seen_by, view_at}
+use Rattle.im_history.specs.Views.{seen_by, shown, view_at}
 use Rattle.im_history.proofs.FitLaws.{seen-fits}
 use Rattle.im_history.proofs.Laws.{IsLegal-pop, pending-push}
-use Rattle.im_names.specs.Fitting.{OfTable, QueryServes, columns_at}
+use Rattle.im_names.specs.Fitting.{OfTable, QueryServes}
 use Rattle.im_reach.specs.Sides.{Added, Known, speaks}
 use Rattle.im_scan.specs.Pinned.{seen_all}
 use Rattle.im_scan.proofs.ForCallers.{seen_by-later}
 use Rattle.im_session.specs.inner.Scans.{IsScan, Went}
 use Rattle.im_session.specs.inner.Writes.{AreRows, AreSeen, MayRewriteIn, RewriteServes, SetsServe, condition_query}
-use Rattle.im_session.proofs.OpeningLemmas.{HasOpened, snapshot-known}
+use Rattle.im_session.proofs.OpeningLemmas.{HasOpened, added-fits, snapshot-known}
 use Rattle.im_session.proofs.AssignLemmas.{fits-assigned}
 use Rattle.im_session.proofs.OtherLemmas.{pending-after}
-use Rattle.im_session.proofs.TableLemmas.{columns-longer, made_of, opened-columns}
+use Rattle.im_session.proofs.TableLemmas.{made_of, opened-columns}
 use Rattle.im_statements.specs.declared.rewriting.Rewriting.{Rewriting}
 use Rattle.im_statements.specs.declared.rewriting.Rewriting.TheVariants.{Updating, Deleting}
+use Rattle.im_statements.specs.Statements.{seen_columns}
 use Rattle.im_statements.specs.Writes.{changes_to, kept_rows, rewritten}
 use Rattle.im_syntax.specs.declared.bound.Bound.{Bound}
 use Rattle.im_syntax.specs.Condition.{CondOf}
@@ -65,14 +66,6 @@ settles table rid (change ∷ changes) = by (touches table rid change) refl (set
       | inr stays ↦ inr (λ x. skipped x e ∙ stays x)
     ]
 
--- changes that were made once change nothing when they are made again
-twice : (table rid : ℕ) (changes : List Change) (x : Option Row) →
-    fold (row_after table rid) (fold (row_after table rid) x changes) changes ≡ fold (row_after table rid) x changes
-twice table rid changes x = elim (settles table rid changes) [
-  | inl same ↦ same (fold (row_after table rid) x changes) x
-  | inr stays ↦ stays (fold (row_after table rid) x changes)
-]
-
 -- changes to other tables change nothing
 of_table : (table rid : ℕ) (changes : List Change) (x : Option Row) →
     fold (row_after table rid) x (filter (λ change. change.table == table) changes) ≡ fold (row_after table rid) x changes
@@ -93,15 +86,33 @@ of_table table rid (change ∷ changes) x = by (change.table == table) refl (of_
 
 -- ---- what a view sees still stands
 
-still : (h : History) (who : ℕ) (cursor : ℕ) (view : View) (rid : ℕ) → view.own ≡ own_changes h who view.table
-    → still_seen h who (record { cursor = cursor; view = view }) rid ≡ seen_by h view rid
+is_some-some : (o : Option Row) (row : Row) → o ≡ Some row → IsTrue (is_some o)
+is_some-some o row e = rw e (the_true)
+  where
+    the_true : IsTrue true
+    the_true = search rules
+
+-- where a view shows a row, there is one
+some-shown : (view : View) (o : Option Row) (row : Row) → shown view o ≡ Some row → IsTrue (is_some o)
+some-shown view None row e = absurd cc
+some-shown view (Some written) row e = search rules
+
+-- the changes that the session has pending leave a row where the view sees one, whatever they are put upon
+still : (h : History) (who : ℕ) (cursor : ℕ) (view : View) (rid : ℕ) (row : Row) → view.own ≡ own_changes h who view.table
+    → seen_by h view rid ≡ Some row → IsTrue (is_some (still_seen h who (record { cursor = cursor; view = view }) rid))
 unfolding seen
-still h who cursor view rid own_is =
-    let x : Option Row = rows h view.table view.scn rid in
-    let own : fold (row_after view.table rid) x view.own ≡ fold (row_after view.table rid) x (pending h who) =
-    ap (fold (row_after view.table rid) x) own_is ∙ of_table view.table rid (pending h who) x in
-    ap (λ (row : Option Row). fold (row_after view.table rid) row (pending h who)) own
-    ∙ (twice view.table rid (pending h who) x ∙ sym own)
+still h who cursor view rid row own_is saw = elim (settles view.table rid (pending h who)) [
+  | inl same ↦
+      ap is_some (same (seen_by h view rid) x)
+      ∙ (ap is_some (sym own) ∙ some-shown view (fold (row_after view.table rid) x view.own) row saw)
+  | inr stays ↦ is_some-some (still_seen h who (record { cursor = cursor; view = view }) rid) row (stays (seen_by h view rid) ∙ saw)
+]
+  where
+    x : Option Row
+    x = rows h view.table view.scn rid
+
+    own : fold (row_after view.table rid) x view.own ≡ fold (row_after view.table rid) x (pending h who)
+    own = ap (fold (row_after view.table rid) x) own_is ∙ of_table view.table rid (pending h who) x
 
 -- ---- rows that a view sees
 
@@ -153,12 +164,6 @@ all-seen : (h : History) (view : View) (low : ℕ) (table : ℕ) (put : ℕ × R
 all-seen h view low table put P [] are each = All-nil _
 all-seen h view low table put P (row ∷ rows) are each =
     All-cons P (to_row table put row) _ (each row are.1 are.2) (all-seen h view (row.0 + 1) table put P rows are.3 each)
-
-is_some-some : (o : Option Row) (row : Row) → o ≡ Some row → IsTrue (is_some o)
-is_some-some o row e = rw e (the_true)
-  where
-    the_true : IsTrue true
-    the_true = search rules
 
 -- rows that are kept are still seen ones
 seen-lower : (h : History) (view : View) (low least : ℕ) (rows : List (ℕ × Row)) → least ≤ low → AreSeen h view low rows → AreSeen h view least rows
@@ -232,8 +237,7 @@ may-rewrite who rewriting view rows now scan may are some = record {
       (λ row inside saw. is_some-some (seen_by now.log view row.0) row.1 saw);
   stands = all-seen now.log view 0 view.table put
       (λ (c : Change). IsTrue (is_some (still_seen now.log who (record { cursor = OWN_CURSOR; view = view }) c.rid))) rows are.seen
-      (λ row inside saw.
-      is_some-some (still_seen now.log who (record { cursor = OWN_CURSOR; view = view }) row.0) row.1 (still now.log who OWN_CURSOR view row.0 may.own ∙ saw));
+      (λ row inside saw. still now.log who OWN_CURSOR view row.0 row.1 may.own saw);
   fit = all-seen now.log view 0 view.table put (λ (c : Change). IsTrue (row_fits view.columns c.row)) rows are.seen
       (λ row inside saw. rewritten-fits rewriting view.columns row.1 may.values (may.fit row.0 row.1 saw));
 }
@@ -263,7 +267,7 @@ kept-rows bound rows plain =
     else record { rows = kept bound rows; groups = map_of.empty } in parts).rows) plain
 
 module _ (who table : ℕ) (old middle : Known) (view : View) (filter_is : Option (CondOf ℕ Value)) (rewriting : Rewriting)
-    (added : Added old middle who (λ at. Open OWN_CURSOR table) (HasOpened who OWN_CURSOR table view)) (lawful : IsLawful middle.limits middle.log)
+    (added : Added old middle who (λ at. Open OWN_CURSOR table) (HasOpened who OWN_CURSOR table (seen_columns old.log table) view)) (lawful : IsLawful middle.limits middle.log)
     (of : OfTable (tables old.log) table (RewriteServes filter_is rewriting)) where
   abbrev at : History
   at = added.at
@@ -274,10 +278,8 @@ module _ (who table : ℕ) (old middle : Known) (view : View) (filter_is : Optio
   log-is : middle.log ≡ at ++ entry
   log-is = ap (λ (s : Known). s.log) added.now
 
-  are-at : columns_at (tables at) table ≡ Some of.columns
-  are-at =
-      subst (λ (h : History). columns_at (tables h) table ≡ Some of.columns) (sym added.after.log)
-      (columns-longer old.log added.after.between table of.columns of.are_of)
+  there : OfTable (tables at) table (RewriteServes filter_is rewriting)
+  there = added-fits who OWN_CURSOR table old middle view added (RewriteServes filter_is rewriting) of
 
   legal : IsLegal middle.limits at
   legal = (IsLegal-pop middle.limits at (record { who = who; what = Open OWN_CURSOR table }) (subst (IsLegal middle.limits) log-is lawful.legal)).0
@@ -294,13 +296,13 @@ module _ (who table : ℕ) (old middle : Known) (view : View) (filter_is : Optio
   table-is : view.table ≡ table
   table-is = ap (λ (v : View). v.table) added.fact.1
 
-  columns-are : of.columns ≡ view.columns
-  columns-are = opened-columns at who table of.columns are-at ∙ ap (λ (v : View). v.columns) (sym added.fact.1)
+  columns-are : there.columns ≡ view.columns
+  columns-are = opened-columns at who table there.columns there.are_of ∙ ap (λ (v : View). v.columns) (sym added.fact.1)
 
   -- what was seen when the cursor was opened fits the table
-  fit-at : (rid : ℕ) (row : Row) → seen_by at (view_at at who table) rid ≡ Some row → fits row of.columns ≡ true
+  fit-at : (rid : ℕ) (row : Row) → seen_by at (view_at at who table) rid ≡ Some row → fits row there.columns ≡ true
   fit-at rid row saw =
-      let m = made_of at table of.columns are-at in
+      let m = made_of at table there.columns there.are_of in
       ap (fits row) (sym m.schema) ∙ seen-fits middle.limits at who table rid m.made row legal m.is saw
 
   -- rows that the cursor sees may be rewritten
@@ -316,5 +318,5 @@ module _ (who table : ℕ) (old middle : Known) (view : View) (filter_is : Optio
         (sym (ap (λ (h : History). seen_by h view rid) log-is
         ∙ (ap (λ (v : View). seen_by (at ++ entry) v rid) added.fact.1
         ∙ seen_by-later at entry (view_at at who table) rid (snapshot-known at who))) ∙ saw);
-    values = subst (SetsServe rewriting) columns-are of.is.values;
+    values = subst (SetsServe rewriting) columns-are there.is.values;
   }

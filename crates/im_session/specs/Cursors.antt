@@ -10,7 +10,7 @@ use Rattle.im_history.specs.Legal.{Exists}
 use Rattle.im_history.specs.Views.{per_at}
 use Rattle.im_names.specs.Fitting.{QueryServes}
 use Rattle.im_reach.specs.Sides.{Known}
-use Rattle.im_scan.specs.Parts.{MayAskShown}
+use Rattle.im_scan.specs.Parts.{AreDefaults, MayAskShown}
 use Rattle.im_scan.specs.Pinned.{seen_to}
 use Rattle.im_session.specs.declared.cursor.Cursor.{Cursor}
 use Rattle.im_statements.specs.Outcomes.{OpenQuery}
@@ -34,6 +34,7 @@ pub record IsView (view : View) (now : Known) : Type 0 where
 pub record MayAskIn (bound : Bound) (view : View) : Type 0 where
   pub rows : QueryServes bound view.columns
   pub own : AllByRecursion (λ change. MayAskShown bound view change.row) view.own
+  pub defaults : AreDefaults view
 
 -- what is kept of a cursor: the partial answer of its query over the rows that its view sees in the extents before the next one
 pub record IsSound (kept : Cursor) (now : Known) : Type 0 where

@@ -3,8 +3,7 @@ ghost use Rattle.std.specs.Option.{ForSome};
 ghost use Rattle.im_group.specs.Partials.{CanMerge};
 ghost use Rattle.im_history.specs.Cursors.{has_own_open, is_cursor_open};
 ghost use Rattle.im_history.specs.Legal.{IsLawful};
-ghost use Rattle.im_history.specs.Tables.{table_at, tables};
-ghost use Rattle.im_history.specs.Units.{columns_of};
+ghost use Rattle.im_history.specs.Tables.{tables};
 ghost use Rattle.im_history.specs.Views.{look_at};
 ghost use Rattle.im_names.specs.Fitting.{OfTable, QueryServes};
 ghost use Rattle.im_reach.specs.Sides.{speaks};
@@ -16,6 +15,7 @@ ghost use Rattle.im_session.specs.inner.Running.{is_number};
 ghost use Rattle.im_session.specs.inner.Serving.{IsCountedFor};
 ghost use Rattle.im_statements.specs.Cursors as plan;
 ghost use Rattle.im_statements.specs.Outcomes.{Closes, Replied};
+ghost use Rattle.im_statements.specs.Statements.{seen_columns};
 
 use crate::context::Context;
 use crate::refusals::{out_of_memory, refused_reply};
@@ -57,7 +57,8 @@ pub struct OpenOutcome {
     pub cursor: Option<Cursor>,
 }
 
-/// Opens a cursor for a query, on a table that was seen to have so many columns. It was served nothing yet. Where memory is out before the call of the store, the refusal is at no place.
+/// Opens a cursor for a query, on a table that was seen to have so many columns. It was served nothing yet. Where the table got others
+/// since then it is refused. Where memory is out before the call of the store, the refusal is at no place.
 pub fn open_cursor<R: Wait, H: Reach<ColumnUnit>, G: Gate>(
     context: &Context<R, G>,
     reach: &mut H,
@@ -67,12 +68,14 @@ pub fn open_cursor<R: Wait, H: Reach<ColumnUnit>, G: Gate>(
 ) -> Result<Cursor, Refused>
     requires session { context.now.who < NUMBERS }
     requires speaks { speaks (H.known reach.old).side context.now.who ≡ true }
-    requires seen { columns ≡ columns_of (table_at (H.known reach.old).log bound.table) }
+    requires seen { columns ≡ seen_columns (H.known reach.old).log bound.table }
     requires serves { OfTable (tables (H.known reach.old).log) bound.table (QueryServes bound) }
-    ensures opened { IfOk result (λ cursor. inner.IsJustOpened context.now.who number bound cursor (H.known reach.old) (H.known reach.new)) }
+    ensures opened { IfOk result (λ cursor. inner.IsJustOpened context.now.who number (seen_columns (H.known reach.old).log bound.table) bound cursor
+        (H.known reach.old) (H.known reach.new)) }
     ensures kept { IfOk result (λ cursor. inner.IsKept context.now.who cursor (H.known reach.new)) }
     ensures lawful { IfOk result (λ cursor. IsLawful (H.known reach.new).limits (H.known reach.new).log) }
-    ensures err { IfErr result (λ refused. inner.IsUnopened context.now.who number refused (H.known reach.old) (H.known reach.new)) }
+    ensures err { IfErr result (λ refused. inner.IsUnopened context.now.who number bound.table (seen_columns (H.known reach.old).log bound.table) refused
+        (H.known reach.old) (H.known reach.new)) }
 {
     let Ok(part) = Partial::of_lent(context.outside.alloc, &bound, &[]) else {
         drop(bound);
@@ -112,13 +115,15 @@ pub fn open_query<R: Wait, H: Reach<ColumnUnit>, G: Gate>(
     requires session { context.now.who < NUMBERS }
     requires speaks { speaks (H.known reach.old).side context.now.who ≡ true }
     requires shut { has_own_open (H.known reach.old).log context.now.who ≡ false }
-    requires seen { columns ≡ columns_of (table_at (H.known reach.old).log bound.table) }
+    requires seen { columns ≡ seen_columns (H.known reach.old).log bound.table }
     requires serves { OfTable (tables (H.known reach.old).log) bound.table (QueryServes bound) }
-    ensures rest { IsRest context.now.who 0 (H.known reach.old) (plan.open_query context.now.who number bound)
+    ensures rest { IsRest context.now.who 0 (H.known reach.old)
+        (plan.open_query context.now.who number (seen_columns (H.known reach.old).log bound.table) bound)
         (inner.opening_outcome result.reply result.cursor) (H.known reach.new) }
     ensures agrees { ForSome result.cursor (λ kept. inner.IsKept context.now.who kept (H.known reach.new)) }
     ensures fresh { ForSome result.cursor (λ kept. is_cursor_open (H.known reach.old).log context.now.who kept.number ≡ false) }
 {
+    let table = bound.table;
     match open_cursor(context, reach, number, columns, bound) {
         Ok(cursor) => OpenOutcome {
             reply: Reply::settled(
@@ -135,7 +140,10 @@ pub fn open_query<R: Wait, H: Reach<ColumnUnit>, G: Gate>(
         Err(refused) => OpenOutcome {
             reply: refused_reply(
                 context.outside.alloc,
-                Aim::Opening { cursor: number },
+                Aim::Opening {
+                    table,
+                    cursor: number,
+                },
                 0,
                 refused,
             ),

@@ -1,7 +1,8 @@
-ghost use Rattle.std.specs.Prelude.{◌≡◌, ◌<◌, ◌≤◌, Some, true, false};
+ghost use Rattle.std.specs.Prelude.{◌≡◌, ◌<◌, ◌≤◌, IsTrue, Some, true, false};
+ghost use Rattle.im_values.specs.Fits.{may_stand};
 ghost use Rattle.im_history.specs.declared.entry.What.TheVariants as what;
 ghost use Rattle.im_history.specs.Cursors.{has_own_open};
-ghost use Rattle.im_history.specs.Legal.{MaySetMemory};
+ghost use Rattle.im_history.specs.Legal.{Exists, MaySetMemory};
 ghost use Rattle.im_history.specs.Transactions.{is_open};
 ghost use Rattle.im_plan.specs.Plan.{End};
 ghost use Rattle.im_reach.specs.Sides.{speaks};
@@ -20,7 +21,7 @@ use im_reach::Reach;
 use im_replies::{Aim, Body, Reply};
 use im_unit::ColumnUnit;
 use im_values::limits::NUMBERS;
-use im_values::{Name, Schema};
+use im_values::{Column, Name, Schema, Value};
 use std::alloc::Global;
 use std::sync::Wait;
 
@@ -110,6 +111,42 @@ pub fn create<R: Wait, H: Reach<ColumnUnit>, G: Gate>(
         Err(refused) => refused_reply(
             context.outside.alloc,
             Aim::Creating { name: told },
+            entries,
+            refused,
+        ),
+    }
+}
+
+/// ALTER TABLE ADD: adds a column to a table, once the line has made so many entries.
+pub fn add_column<R: Wait, H: Reach<ColumnUnit>, G: Gate>(
+    context: &Context<R, G>,
+    reach: &mut H,
+    table: u32,
+    column: Column,
+    default: Value,
+    entries: u64,
+) -> Reply
+    requires session { context.now.who < NUMBERS }
+    requires speaks { speaks (H.known reach.old).side context.now.who ≡ true }
+    requires shut { has_own_open (H.known reach.old).log context.now.who ≡ false }
+    requires exists { Exists (H.known reach.old).log table }
+    requires idle { is_open (H.known reach.old).log context.now.who ≡ false }
+    requires fits { IsTrue (may_stand column.kind default) }
+    ensures { IsRest context.now.who entries (H.known reach.old) (plan.add_column table column default) (said result) (H.known reach.new) }
+{
+    let Ok(told) = column.name.copy(context.outside.alloc) else {
+        drop(column);
+        drop(default);
+        return out_of_memory(context.outside.alloc, entries);
+    };
+    match reach.add_column(context.outside.rt, context.who, table, column, default) {
+        Ok(added) => {
+            drop(told);
+            Reply::settled(context.outside.alloc, added.place, Body::Altered { table })
+        }
+        Err(refused) => refused_reply(
+            context.outside.alloc,
+            Aim::Adding { name: told },
             entries,
             refused,
         ),

@@ -1,8 +1,7 @@
 ghost use Rattle.std.specs.Prelude.{◌≡◌, ◌<◌, true, false};
 ghost use Rattle.std.specs.List.{position};
 ghost use Rattle.im_history.specs.Cursors.{has_own_open};
-ghost use Rattle.im_history.specs.Tables.{table_at, tables};
-ghost use Rattle.im_history.specs.Units.{columns_of};
+ghost use Rattle.im_history.specs.Tables.{tables};
 ghost use Rattle.im_history.specs.Views.{look_at};
 ghost use Rattle.im_names.specs.Fitting.{OfTable, QueryServes, Serves};
 ghost use Rattle.im_reach.specs.Sides.{speaks};
@@ -78,7 +77,7 @@ pub fn run<R: Threads + Wait + Sync, H: Reach<ColumnUnit>, G: Gate, L: Ledger>(
     }
 }
 
-/// Plays a statement that defines no table and whose names were found at this look.
+/// Plays a statement that is no definition and whose names were found at this look.
 fn play<R: Threads + Wait + Sync, H: Reach<ColumnUnit>, G: Gate, L: Ledger>(
     context: &Context<R, G>,
     reach: &mut H,
@@ -145,7 +144,9 @@ fn play<R: Threads + Wait + Sync, H: Reach<ColumnUnit>, G: Gate, L: Ledger>(
             look.place,
             Body::Nothing,
         ),
-        Resolved::Create { .. } | Resolved::Memory { .. } => unreachable!(),
+        Resolved::Create { .. } | Resolved::Memory { .. } | Resolved::AddColumn { .. } => {
+            unreachable!()
+        }
     }
 }
 
@@ -160,11 +161,11 @@ fn open<R: Wait, H: Reach<ColumnUnit>, G: Gate>(
 ) -> Reply
     requires session { context.now.who < NUMBERS }
     requires speaks { speaks (H.known reach.old).side context.now.who ≡ true }
-    requires seen { columns ≡ columns_of (table_at (H.known reach.old).log bound.table) }
+    requires seen { columns ≡ plan.seen_columns (H.known reach.old).log bound.table }
     requires serves { OfTable (tables (H.known reach.old).log) bound.table (QueryServes bound) }
     requires agrees { AreKept context.now.who kept.old.items (H.known reach.old) }
-    ensures { IsRun context.now.who (cursors.open_query context.now.who number bound) kept.old.items (H.known reach.old) result
-        kept.new.items (H.known reach.new) }
+    ensures { IsRun context.now.who (cursors.open_query context.now.who number (plan.seen_columns (H.known reach.old).log bound.table) bound)
+        kept.old.items (H.known reach.old) result kept.new.items (H.known reach.new) }
 {
     if kept.reserve(1).is_err() {
         drop(bound);

@@ -1,8 +1,7 @@
 ghost use Rattle.std.specs.Prelude.{◌≡◌, ◌<◌, ◌≤◌, ◌⊎◌, length, true, false};
 ghost use Rattle.im_history.specs.Cursors.{has_own_open, is_cursor_open};
 ghost use Rattle.im_history.specs.Legal.{MayWrite};
-ghost use Rattle.im_history.specs.Tables.{table_at, tables};
-ghost use Rattle.im_history.specs.Units.{columns_of};
+ghost use Rattle.im_history.specs.Tables.{tables};
 ghost use Rattle.im_history.specs.Views.{look_at};
 ghost use Rattle.im_names.specs.Fitting.{OfTable};
 ghost use Rattle.im_reach.specs.Sides.{Known, speaks};
@@ -13,6 +12,7 @@ ghost use Rattle.im_session.specs.inner.Scans.{IsScan, IsShut, Longer};
 ghost use Rattle.im_session.specs.Reads.{IsCounted, IsOutOfMemory, Own};
 ghost use Rattle.im_session.specs.inner.Writes as inner;
 ghost use Rattle.im_statements.specs.Outcomes.{State, said};
+ghost use Rattle.im_statements.specs.Statements.{seen_columns};
 ghost use Rattle.im_statements.specs.Writes as plan;
 
 use crate::changes::changes_to;
@@ -53,7 +53,8 @@ pub fn rewrite<R: Threads + Wait + Sync, H: Reach<ColumnUnit>, G: Gate, L: Ledge
     requires serves { OfTable (tables (H.known reach.old).log) table (inner.RewriteServes filter rewriting) }
     ensures rest { IsRest context.now.who 0 (H.known reach.old)
         (plan.unless_read_only context.now.who (H.known reach.old).log
-        (plan.rewrite (H.known reach.old).limits context.now.who table filter rewriting)) (said result) (H.known reach.new) }
+        (plan.rewrite (H.known reach.old).limits context.now.who table (seen_columns (H.known reach.old).log table) filter rewriting)) (said result)
+        (H.known reach.new) }
     ensures ticks { (state : State) → IsCounted Own state context.now.who result steps.old steps.new (H.known reach.old).log (H.known reach.new).log }
 {
     match look.mode {
@@ -86,10 +87,11 @@ fn rewrite_rows<R: Threads + Wait + Sync, H: Reach<ColumnUnit>, G: Gate, L: Ledg
     requires session { context.now.who < NUMBERS }
     requires speaks { speaks (H.known reach.old).side context.now.who ≡ true }
     requires shut { has_own_open (H.known reach.old).log context.now.who ≡ false }
-    requires seen { columns ≡ columns_of (table_at (H.known reach.old).log table) }
+    requires seen { columns ≡ seen_columns (H.known reach.old).log table }
     requires serves { OfTable (tables (H.known reach.old).log) table (inner.RewriteServes filter rewriting) }
     ensures rest { IsRest context.now.who 0 (H.known reach.old)
-        (plan.rewrite (H.known reach.old).limits context.now.who table filter rewriting) (said result) (H.known reach.new) }
+        (plan.rewrite (H.known reach.old).limits context.now.who table (seen_columns (H.known reach.old).log table) filter rewriting) (said result)
+        (H.known reach.new) }
     ensures ticks { (state : State) → IsCounted Own state context.now.who result steps.old steps.new (H.known reach.old).log (H.known reach.new).log }
 {
     let bound = condition_query(context.outside.alloc, table, filter);

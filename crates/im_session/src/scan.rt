@@ -1,7 +1,6 @@
 ghost use Rattle.std.specs.Prelude.{◌≡◌, ◌<◌, map, true, false, IfOk};
 ghost use Rattle.im_history.specs.Cursors.{has_own_open};
-ghost use Rattle.im_history.specs.Tables.{table_at, tables};
-ghost use Rattle.im_history.specs.Units.{columns_of};
+ghost use Rattle.im_history.specs.Tables.{tables};
 ghost use Rattle.im_names.specs.Fitting.{OfTable, QueryServes};
 ghost use Rattle.im_reach.specs.Sides.{speaks};
 ghost use Rattle.im_session.specs.declared.scan.Purpose.TheVariants as purpose;
@@ -10,6 +9,7 @@ ghost use Rattle.im_session.specs.inner.Rests.{IsRest};
 ghost use Rattle.im_session.specs.Reads.{IsCounted, Own};
 ghost use Rattle.im_statements.specs.Outcomes.{State, said};
 ghost use Rattle.im_statements.specs.Scans as plan;
+ghost use Rattle.im_statements.specs.Statements.{seen_columns};
 
 use crate::context::Context;
 use crate::cursor::{Cursor, open_cursor};
@@ -57,13 +57,14 @@ pub fn scan<R: Threads + Wait + Sync, H: Reach<ColumnUnit>, G: Gate, L: Ledger>(
     requires session { context.now.who < NUMBERS }
     requires speaks { speaks (H.known reach.old).side context.now.who ≡ true }
     requires shut { has_own_open (H.known reach.old).log context.now.who ≡ false }
-    requires seen { columns ≡ columns_of (table_at (H.known reach.old).log bound.table) }
+    requires seen { columns ≡ seen_columns (H.known reach.old).log bound.table }
     requires serves { OfTable (tables (H.known reach.old).log) bound.table (QueryServes bound) }
     requires may { MayScanFor purpose bound (tables (H.known reach.old).log) }
-    ensures rest { IsRest context.now.who 0 (H.known reach.old) (plan_of (H.known reach.old).limits context.now.who bound purpose) (said result)
-        (H.known reach.new) }
+    ensures rest { IsRest context.now.who 0 (H.known reach.old) (plan_of (H.known reach.old).limits context.now.who
+        (seen_columns (H.known reach.old).log bound.table) bound purpose) (said result) (H.known reach.new) }
     ensures ticks { (state : State) → IsCounted Own state context.now.who result steps.old steps.new (H.known reach.old).log (H.known reach.new).log }
 {
+    let table = bound.table;
     match open_cursor(context, reach, OWN_CURSOR, columns, bound) {
         Ok(cursor) => {
             let reply = use_scan(context, reach, &cursor, &purpose, steps);
@@ -76,7 +77,10 @@ pub fn scan<R: Threads + Wait + Sync, H: Reach<ColumnUnit>, G: Gate, L: Ledger>(
             drop(purpose);
             refused_reply(
                 context.outside.alloc,
-                Aim::Opening { cursor: OWN_CURSOR },
+                Aim::Opening {
+                    table,
+                    cursor: OWN_CURSOR,
+                },
                 0,
                 refused,
             )

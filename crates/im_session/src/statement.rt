@@ -1,5 +1,6 @@
 ghost use Rattle.std.specs.Prelude.{◌≡◌, ◌<◌, ◌≤◌, true, false};
 ghost use Rattle.im_history.specs.Cursors.{has_own_open};
+ghost use Rattle.im_history.specs.Legal.{IsLawful};
 ghost use Rattle.im_history.specs.Tables.{tables};
 ghost use Rattle.im_history.specs.Transactions.{is_open};
 ghost use Rattle.im_history.specs.Views.{look_at};
@@ -12,7 +13,7 @@ ghost use Rattle.im_statements.specs.Statements as plan;
 ghost use Rattle.im_syntax.specs.Rules.{IsStmt};
 
 use crate::context::Context;
-use crate::definition::{NewTable, alter, create};
+use crate::definition::{NewTable, add_column, alter, create};
 use crate::refusals::{name_reply, out_of_memory};
 use im_edge::Gate;
 use im_history::Look;
@@ -94,6 +95,7 @@ fn define_named<R: Wait, H: Reach<ColumnUnit>, G: Gate>(
     requires statement { IsStmt statement.now }
     requires definition { plan.is_definition statement.now ≡ true }
     requires look { look.now ≡ look_at (H.known reach.old).log context.now.who }
+    requires lawful { IsLawful (H.known reach.old).limits (H.known reach.old).log }
     requires few { entries ≤ 1 }
     ensures { (state : State) → IsRest context.now.who entries (H.known reach.old)
         (plan.named_plan (H.known reach.old).limits context.now.who state statement.now (H.known reach.old).log) (said result) (H.known reach.new) }
@@ -139,16 +141,24 @@ fn define_resolved<R: Wait, H: Reach<ColumnUnit>, G: Gate>(
             entries,
         ),
         Resolved::Memory { table, priority } => { alter(context, reach, table, priority, entries) }
+        Resolved::AddColumn {
+            table,
+            column,
+            default,
+        } => add_column(context, reach, table, column, default, entries),
         _ => unreachable!(),
     }
 }
 
-/// Whether a statement defines a table.
+/// Whether a statement defines a table, or changes what one is.
 pub fn is_definition(statement: &Stmt) -> bool
     ensures { result ≡ plan.is_definition statement.now }
 {
     matches!(
         statement,
-        Stmt::Create { .. } | Stmt::AlterMemory { .. } | Stmt::AlterNoMemory { .. }
+        Stmt::Create { .. }
+            | Stmt::AlterMemory { .. }
+            | Stmt::AlterNoMemory { .. }
+            | Stmt::AddColumn { .. }
     )
 }

@@ -7,7 +7,7 @@ ghost use Rattle.im_syntax.specs.declared.statement.Stmt.TheVariants as stmt;
 use crate::query::put_query;
 use crate::rows::{put_delete, put_insert, put_update};
 use crate::spelled::{put_name, put_number, put_word};
-use crate::table::{put_alter_memory, put_alter_no_memory, put_create};
+use crate::table::{put_add_column, put_alter_memory, put_alter_no_memory, put_create};
 use im_syntax::{Keyword, Query, Stmt, Token};
 use im_values::{Name, NoMemory};
 use std::alloc::Global;
@@ -92,6 +92,11 @@ fn put_stmt(alloc: Global, out: &mut Vec<Token>, stmt: &Stmt) -> Result<(), NoMe
         } => put_create(alloc, out, name, columns.items(), *block, *extent, *memory),
         Stmt::AlterMemory { name, memory } => put_alter_memory(alloc, out, name, *memory),
         Stmt::AlterNoMemory { name } => put_alter_no_memory(alloc, out, name),
+        Stmt::AddColumn {
+            name,
+            column,
+            default,
+        } => put_add_column(alloc, out, name, column, default),
         Stmt::Insert {
             name,
             columns,

@@ -5,8 +5,8 @@ ghost use Rattle.im_syntax.specs.declared.token.Token.TheVariants as token;
 ghost use Rattle.im_syntax.specs.declared.keyword.Keyword.TheVariants as key;
 ghost use Rattle.im_syntax.specs.declared.statement.Stmt.TheVariants as stmt;
 
-use crate::spelled::{Spelled, put_in_parens, put_name, put_number, put_sign, put_word};
-use im_syntax::{ColumnPart, Keyword, KindWord, MemoryPart, Sign, Token};
+use crate::spelled::{Spelled, put_in_parens, put_lit, put_name, put_number, put_sign, put_word};
+use im_syntax::{ColumnPart, Keyword, KindWord, Lit, MemoryPart, Sign, Token};
 use im_values::{Name, NoMemory, Priority};
 use std::alloc::Global;
 
@@ -146,4 +146,49 @@ pub fn put_alter_no_memory(alloc: Global, out: &mut Vec<Token>, name: &Name) -> 
     put_name(alloc, out, name)?;
     put_word(out, Keyword::No)?;
     put_word(out, Keyword::InMemory)
+}
+
+fn put_default(alloc: Global, out: &mut Vec<Token>, default: &Option<Lit>) -> Result<(), NoMemory>
+    ensures { OnOk result (out.new.items ≡ out.old.items ++ spelled.spell_default default.now) }
+{
+    match default {
+        None => Ok(()),
+        Some(value) => {
+            put_word(out, Keyword::Default)?;
+            put_lit(alloc, out, value)
+        }
+    }
+}
+
+/// ADD, and a column with its default in parentheses.
+fn put_added(
+    alloc: Global,
+    out: &mut Vec<Token>,
+    column: &ColumnPart,
+    default: &Option<Lit>,
+) -> Result<(), NoMemory>
+    ensures { OnOk result (out.new.items ≡ out.old.items ++ spelled.spell_added column.now default.now) }
+{
+    put_word(out, Keyword::Add)?;
+    put_sign(out, Sign::LeftParen)?;
+    column.put(alloc, out)?;
+    put_default(alloc, out, default)?;
+    put_sign(out, Sign::RightParen)
+}
+
+/// ALTER TABLE with ADD.
+pub fn put_add_column(
+    alloc: Global,
+    out: &mut Vec<Token>,
+    name: &Name,
+    column: &ColumnPart,
+    default: &Option<Lit>,
+) -> Result<(), NoMemory>
+    ensures { OnOk result (out.new.items
+        ≡ out.old.items ++ spelled.spelling (stmt.AddColumn name.now column.now default.now)) }
+{
+    put_word(out, Keyword::Alter)?;
+    put_word(out, Keyword::Table)?;
+    put_name(alloc, out, name)?;
+    put_added(alloc, out, column, default)
 }

@@ -1,7 +1,6 @@
 -- Lists of open cursors: those that a statement opened by itself among them, and the queries that are kept of the others.
 use Rattle.std.proofs.Common.{◌≡◌, ℕ, ◌+◌, ◌==◌, ◌||◌, Bool, true, false, not, if◌then◌else◌, List, [], ◌∷◌, ◌++◌, filter, map, refl, sym, ap, ◌∙◌, arith}
 use Rattle.std.proofs.lemmas.Bool.Decides.{nat_tests}
-use Rattle.std.specs.Prelude.{⊤}
 use Rattle.std.specs.List.{list_any}
 use Rattle.im_history.specs.Cursors.{Opened, is_cursor}
 use Rattle.im_statements.specs.Agreement.{AreQueriesOf, IsQueryOf}

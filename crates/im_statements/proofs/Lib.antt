@@ -1,4 +1,5 @@
 mod StatementLaws
+pub mod AlteredLaws
 pub mod AnswerLaws
 pub mod CursorLaws
 pub mod LeavingLaws

@@ -1,13 +1,11 @@
 -- What a whole line of a session keeps, whatever others do meanwhile and wherever memory runs out.
 use Rattle.std.proofs.Common.{◌≡◌, ℕ, Bool, true, false, if◌then◌else◌, [], refl}
-use Rattle.std.specs.Prelude.{⊤}
 use Rattle.im_history.specs.declared.limits.Limits.{Limits}
 use Rattle.im_history.specs.Cursors.{own_cursors}
 use Rattle.im_history.specs.History.{History}
 use Rattle.im_history.specs.Leaves.{has_left}
 use Rattle.im_history.specs.Transactions.{is_open}
 use Rattle.im_plan.specs.Goes.{PlayedLine, Others}
-use Rattle.im_plan.specs.Plan.{Plan}
 use Rattle.im_syntax.specs.declared.statement.Stmt.{Stmt}
 use Rattle.im_syntax.specs.Rules.{IsStmt}
 use Rattle.im_statements.specs.Agreement.{KeepAgreement}

@@ -1,11 +1,10 @@
 -- What plans of a session's statements keep: what is kept of its cursors, what its replies tell of its transaction, and that nobody leaves.
-use Rattle.std.proofs.Common.{◌≡◌, ℕ, ◌==◌, ◌&&◌, ◌||◌, Bool, true, false, not, if◌then◌else◌, List, [], ◌∷◌, ◌++◌, length, Option, Some, None, is_some, refl, sym, ap, ◌∙◌, subst, inl, inr, arith, append-nil}
+use Rattle.std.proofs.Common.{◌≡◌, ℕ, ◌==◌, ◌&&◌, Bool, true, false, not, if◌then◌else◌, List, [], ◌∷◌, ◌++◌, length, Option, Some, None, is_some, refl, sym, ap, ◌∙◌, subst, inl, inr, arith, append-nil}
 use Rattle.std.proofs.lemmas.Bool.Decides.{nat_tests}
-use Rattle.std.specs.Prelude.{⊤}
 use Rattle.std.specs.List.{AllByRecursion, list_any}
 use Rattle.im_history.specs.declared.entry.What.{What}
 use Rattle.im_history.specs.declared.entry.What.TheVariants as what
-use Rattle.im_history.specs.Cursors.{Opened, has_own_open, is_cursor, is_cursor_open, is_one_of, is_own, opened, opened_after, own_cursors}
+use Rattle.im_history.specs.Cursors.{Opened, is_cursor, is_cursor_open, is_one_of, is_own, opened, opened_after, own_cursors}
 use Rattle.im_history.specs.History.{History}
 use Rattle.im_history.specs.Leaves.{is_leave}
 use Rattle.im_history.specs.Transactions.{begun, begun_after, is_open, or_here}

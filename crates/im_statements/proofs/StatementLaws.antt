@@ -1,12 +1,16 @@
 -- What the plan of each statement of a session keeps.
-use Rattle.std.proofs.Common.{◌≡◌, ℕ, zero, suc, ◌+◌, ◌-◌, ◌==◌, ◌≤◌, ◌&&◌, ◌||◌, is_some, nat_lt, Bool, true, false, not, if◌then◌else◌, List, [], ◌∷◌, ◌++◌, length, map, Option, Some, None, Result, Ok, Err, refl, sym, subst, arith}
+use Rattle.std.proofs.Common.{◌≡◌, ℕ, zero, suc, ◌+◌, ◌-◌, ◌==◌, ◌≤◌, ◌&&◌, ◌||◌, is_some, nat_le, nat_lt, Bool, true, false, not, if◌then◌else◌, List, [], ◌∷◌, ◌++◌, length, map, Option, Some, None, Result, Ok, Err, refl, sym, subst, arith}
 use Rattle.std.proofs.lemmas.Bool.Decides.{nat_tests}
 use Rattle.std.specs.Prelude.{⊤}
+use Rattle.std.specs.List.{list_any}
 use Rattle.std.specs.Option.{option_map, option_or}
 use Rattle.std.specs.Result.{IfOk}
 use Rattle.im_values.specs.declared.priority.Priority.{Priority}
 use Rattle.im_values.specs.declared.schema.Column.{Column}
 use Rattle.im_values.specs.declared.content.Content.{Content as Value}
+use Rattle.im_values.specs.declared.content.Content.TheVariants as value
+use Rattle.im_values.specs.declared.schema.Kind.{Kind}
+use Rattle.im_values.specs.declared.schema.Kind.TheVariants as kind
 use Rattle.im_history.specs.declared.change.Change.{Change}
 use Rattle.im_history.specs.declared.cursors.TheConstants.{OWN_CURSOR}
 use Rattle.im_history.specs.declared.entry.Mode.{Mode}
@@ -21,20 +25,21 @@ use Rattle.im_history.specs.Commits.{scn}
 use Rattle.im_history.specs.Cursors.{is_own}
 use Rattle.im_history.specs.Grid.{Grid}
 use Rattle.im_history.specs.History.{History}
-use Rattle.im_history.specs.Refusals.{begin_refusal, create_refusal, forbids_writing, insert_refusal, open_refusal, when, write_refusal}
+use Rattle.im_history.specs.Refusals.{add_refusal, begin_refusal, create_refusal, forbids_writing, is_column, when, write_refusal}
 use Rattle.im_history.specs.Rows.{Row}
-use Rattle.im_history.specs.Tables.{given, table_named, tables}
+use Rattle.im_history.specs.Tables.{given, table_at, table_named, tables}
 use Rattle.im_history.specs.Transactions.{is_open, mode}
-use Rattle.im_history.specs.Views.{view_at}
+use Rattle.im_history.specs.Views.{schema_of, view_at}
 use Rattle.im_group.specs.Answers.{answer as answer_of}
 use Rattle.im_names.specs.declared.fault.NameFault.{NameFault}
-use Rattle.im_names.specs.declared.fault.NameFault.TheVariants.{RepeatedColumn, UnknownTable}
+use Rattle.im_names.specs.declared.fault.NameFault.TheVariants.{RepeatedColumn, TooLong, UnknownTable, WrongKind}
 use Rattle.im_names.specs.declared.resolved.Resolved.{Resolved}
 use Rattle.im_names.specs.declared.resolved.Resolved.TheVariants as resolved
-use Rattle.im_names.specs.Definitions.{column_name}
+use Rattle.im_names.specs.Definitions.{column_name, column_of}
 use Rattle.im_names.specs.Faults.{first_fault, unless, with_earlier}
-use Rattle.im_names.specs.Lookups.{is_among, of_table, repeated, table_called}
-use Rattle.im_names.specs.Statements.{resolution, query_answer}
+use Rattle.im_names.specs.Literals.{compared, default_of, is_other, stored, too_long}
+use Rattle.im_names.specs.Lookups.{has_column, is_among, of_table, repeated, standing, table_called}
+use Rattle.im_names.specs.Statements.{added_fault, resolution, query_answer}
 use Rattle.im_plan.specs.Plan.{Plan, End, Turn, counted}
 use Rattle.im_replies.specs.declared.body.Body.{Body}
 use Rattle.im_replies.specs.declared.body.Body.TheVariants as body
@@ -52,13 +57,13 @@ use Rattle.im_syntax.specs.Rules.{IsStmt}
 use Rattle.im_statements.specs.declared.rewriting.Rewriting.{Rewriting}
 use Rattle.im_statements.specs.declared.rewriting.Rewriting.TheVariants.{Updating, Deleting}
 use Rattle.im_statements.specs.Cursors.{close, close_query, close_with, fetch, fetch_query, fetch_reply, open_query, step, step_query, step_reply, with_query}
-use Rattle.im_statements.specs.Definitions.{alter_table, create_table, created, join_memory, roll_back, set_mode}
+use Rattle.im_statements.specs.Definitions.{add_column, alter_table, create_table, created, join_memory, roll_back, set_mode}
 use Rattle.im_statements.specs.Outcomes.{Closes, Effect, Opens, Outcome, OpenQuery, Replied, State, Stays, Steps, query_at, said}
-use Rattle.im_statements.specs.Scans.{end_scan, explain, explained, mark_at, rows_seen, scan, select, serve, serve_from}
-use Rattle.im_statements.specs.Statements.{definition_plan, found_plan, is_definition, looked_up, named_plan, resolved_plan}
+use Rattle.im_statements.specs.Scans.{end_scan, explain, explained, mark_at, opening_refusal, rows_seen, scan, select, serve, serve_from}
+use Rattle.im_statements.specs.Statements.{definition_plan, found_plan, is_definition, looked_up, named_plan, resolved_plan, seen_columns}
 use Rattle.im_statements.specs.Transaction.{open_by, open_by_definition}
 use Rattle.im_statements.specs.Turns.{answer_at, look, or_refused, served_reply, settled_reply, unless_refused}
-use Rattle.im_statements.specs.Writes.{changes_to, insert, inserts, kept_rows, or_fault, rewrite, write_or_end, written}
+use Rattle.im_statements.specs.Writes.{changes_to, insert, inserting_refusal, inserts, kept_rows, or_fault, rewrite, write_or_end, written}
 use Rattle.im_statements.proofs.AnswerLaws.{formed-each, of_table-each, unless-each}
 use Rattle.im_statements.proofs.PlanLaws.{IsApart, IsKept, IsTidy, MayLack, Moves, Tells, closes, done, keeps, none, open_behind, opens, query_opened, shuts, stays, steps, turned}
 
@@ -162,6 +167,17 @@ module _ (fine : Type 0) (says : Body → Bool → Bool) (who : ℕ) (before : B
       (λ at. stays true [] Stays (what.Memory table priority) (record { cursors = λ h w cs. refl; stays = refl }))
       (λ at. kept-decided _ (suc k) now (settled_reply (length at) (body.Altered table)) told)
 
+  kept-add : (sure : Type 0) (free : Bool) (k : ℕ) (now : Bool) (table : ℕ) (column : Column) (default : Value)
+      → now ≡ says (body.Error (fault.Memory k)) before
+      → ((at : History) (cause : Why) → add_refusal at table column.name ≡ Some cause → now ≡ says (body.Error (fault_of (aim.Adding column.name) cause)) before)
+      → now ≡ says (body.Altered table) before
+      → Kept sure free k now [] Stays (add_column table column default)
+  kept-add sure free k now table column default lack refusal told =
+      kept-attempt sure free k now [] true (fault_of (aim.Adding column.name)) (λ at. add_refusal at table column.name)
+      (λ at. what.Add table column default) (λ at. Stays) (λ at. answer_at at (body.Altered table)) lack refusal
+      (λ at. stays true [] Stays (what.Add table column default) (record { cursors = λ h w cs. refl; stays = refl }))
+      (λ at. kept-decided _ (suc k) now (settled_reply (length at) (body.Altered table)) told)
+
 -- ---- statements that define no table
 
 -- a cursor that a statement opens for its session is none of its own
@@ -197,12 +213,12 @@ module _ (fine : Type 0) (who : ℕ) (before : Bool) where
       lack (λ at. shuts false (OWN_CURSOR ∷ []) OWN_CURSOR refl)
       (λ at. kept-said fine open_by who before _ free (suc k) now reply lack told)
 
-  plain-scan : (sure : Type 0) (free : Bool) (k table : ℕ) (filter : Option (CondOf ℕ Value)) (on : History → View → List Served → Plan Outcome)
+  plain-scan : (sure : Type 0) (free : Bool) (k table columns : ℕ) (filter : Option (CondOf ℕ Value)) (on : History → View → List Served → Plan Outcome)
       → ((at : History) (view : View) (marks : List Served) → Scanning fine who before free (suc k) (on at view marks))
-      → Plain fine who before free k sure (scan who table filter on)
-  plain-scan sure free k table filter on rest =
-      kept-attempt fine open_by who before sure free k before (OWN_CURSOR ∷ []) false (fault_of (aim.Opening OWN_CURSOR))
-      (λ at. open_refusal at who OWN_CURSOR) (λ at. what.Open OWN_CURSOR table) (λ at. Stays)
+      → Plain fine who before free k sure (scan who table columns filter on)
+  plain-scan sure free k table columns filter on rest =
+      kept-attempt fine open_by who before sure free k before (OWN_CURSOR ∷ []) false (fault_of (aim.Opening table OWN_CURSOR))
+      (λ at. opening_refusal at who OWN_CURSOR table columns) (λ at. what.Open OWN_CURSOR table) (λ at. Stays)
       (λ at. serve_from (view_at at who table) filter 0 (on at (view_at at who table))) refl (λ at cause e. refl)
       (λ at. opens false [] OWN_CURSOR table refl)
       (λ at. plain-serve fine who before free (suc k) _ (OWN_CURSOR ∷ []) (view_at at who table) filter _ 0 [] (on at (view_at at who table))
@@ -210,17 +226,17 @@ module _ (fine : Type 0) (who : ℕ) (before : Bool) where
 
   -- ---- statements that read
 
-  plain-select : (sure : Type 0) (free : Bool) (k : ℕ) (bound : Bound) → Plain fine who before free k sure (select who bound)
-  plain-select sure free k bound =
-      plain-scan sure free k bound.table bound.filter (λ at view marks. end_scan (reply at view marks))
+  plain-select : (sure : Type 0) (free : Bool) (k columns : ℕ) (bound : Bound) → Plain fine who before free k sure (select who columns bound)
+  plain-select sure free k columns bound =
+      plain-scan sure free k bound.table columns bound.filter (λ at view marks. end_scan (reply at view marks))
       (λ at view marks. kept-end ⊤ free (suc k) before (reply at view marks) (λ f. refl) refl)
     where
       reply : History → View → List Served → Reply
       reply at view marks = served_reply (length at) marks (body.Answer view.scn (answer_of bound (rows_seen at view)))
 
-  plain-explain : (sure : Type 0) (free : Bool) (k : ℕ) (bound : Bound) → Plain fine who before free k sure (explain who bound)
-  plain-explain sure free k bound =
-      plain-scan sure free k bound.table bound.filter (λ at view marks. end_scan (reply at view marks))
+  plain-explain : (sure : Type 0) (free : Bool) (k columns : ℕ) (bound : Bound) → Plain fine who before free k sure (explain who columns bound)
+  plain-explain sure free k columns bound =
+      plain-scan sure free k bound.table columns bound.filter (λ at view marks. end_scan (reply at view marks))
       (λ at view marks. kept-end ⊤ free (suc k) before (reply at view marks) (λ f. refl) refl)
     where
       reply : History → View → List Served → Reply
@@ -283,10 +299,10 @@ module _ (fine : Type 0) (who : ℕ) (before : Bool) where
       tell at None = (seen at).told tt
       tell at (Some cause) = (refusing at cause).told tt
 
-  plain-rewrite : (sure : Type 0) (free : Bool) (k : ℕ) (limits : Limits) (table : ℕ) (filter : Option (CondOf ℕ Value)) (rewriting : Rewriting)
-      → Plain fine who before free k sure (rewrite limits who table filter rewriting)
-  plain-rewrite sure free k limits table filter rewriting =
-      plain-scan sure free k table filter
+  plain-rewrite : (sure : Type 0) (free : Bool) (k : ℕ) (limits : Limits) (table columns : ℕ) (filter : Option (CondOf ℕ Value)) (rewriting : Rewriting)
+      → Plain fine who before free k sure (rewrite limits who table columns filter rewriting)
+  plain-rewrite sure free k limits table columns filter rewriting =
+      plain-scan sure free k table columns filter
       (λ at view marks. write_or_end limits who (length at) view.scn marks (changes at view) (written rewriting))
       (λ at view marks. plain-write free (suc k) limits (length at) view.scn marks (changes at view) rewriting)
     where
@@ -304,22 +320,22 @@ module _ (fine : Type 0) (who : ℕ) (before free : Bool) (k : ℕ) (sure : Type
   keeps-if b first second one other = kept-if fine open_by who before sure free k before [] Stays b first second one other
 
   -- an entry that decides the line, which goes on with its reply
-  keeps-decide : (refused : History → Option Why) (entry : History → What) (reply : History → Body) → ((at : History) → IsApart (entry at))
-      → ((at : History) → open_behind (entry at) before ≡ open_by (reply at) before)
-      → Holds (Turn true (λ at. unless_refused (refused at) (entry at)) (λ at. or_refused (fault_of aim.Plain) at (refused at) (answer_at at (reply at))))
-  keeps-decide refused entry reply apart told =
-      kept-attempt fine open_by who before sure free k before [] true (fault_of aim.Plain) refused entry (λ at. Stays) (λ at. answer_at at (reply at))
+  keeps-decide : (tells : Why → Fault) (refused : History → Option Why) (entry : History → What) (reply : History → Body)
+      → ((at : History) → IsApart (entry at)) → ((at : History) → open_behind (entry at) before ≡ open_by (reply at) before)
+      → Holds (Turn true (λ at. unless_refused (refused at) (entry at)) (λ at. or_refused tells at (refused at) (answer_at at (reply at))))
+  keeps-decide tells refused entry reply apart told =
+      kept-attempt fine open_by who before sure free k before [] true tells refused entry (λ at. Stays) (λ at. answer_at at (reply at))
       refl (λ at cause e. refl) (λ at. stays true [] Stays (entry at) (apart at))
       (λ at. kept-decided fine open_by who before _ (suc k) (open_behind (entry at) before) (settled_reply (length at) (reply at)) (told at))
 
-  keeps-insert : (limits : Limits) (table : ℕ) (rows : List Row) → Holds (insert limits who table rows)
-  keeps-insert limits table rows =
-      keeps-decide (λ at. insert_refusal limits at who (inserts table rows at)) (λ at. what.Write (inserts table rows at))
+  keeps-insert : (limits : Limits) (table columns : ℕ) (rows : List Row) → Holds (insert limits who table columns rows)
+  keeps-insert limits table columns rows =
+      keeps-decide (fault_of (aim.Inserting table)) (λ at. inserting_refusal limits at who table columns rows) (λ at. what.Write (inserts table rows at))
       (λ at. body.Inserted (length rows) (given at table)) (λ at. record { cursors = λ h w cs. refl; stays = refl }) (λ at. refl)
 
   keeps-set_mode : (mode : Mode) → Holds (set_mode who mode)
   keeps-set_mode mode =
-      keeps-decide (λ at. begin_refusal at who) (λ at. what.Begin mode) (λ at. body.Begun (scn at))
+      keeps-decide (fault_of aim.Plain) (λ at. begin_refusal at who) (λ at. what.Begin mode) (λ at. body.Begun (scn at))
       (λ at. record { cursors = λ h w cs. refl; stays = refl }) (λ at. refl)
 
   -- ---- transactions
@@ -354,9 +370,10 @@ module _ (fine : Type 0) (who : ℕ) (before free : Bool) (k : ℕ) (sure : Type
 
   -- ---- cursors
 
-  keeps-open : (cursor : ℕ) (bound : Bound) → (fine → is_own cursor ≡ false) → Holds (open_query who cursor bound)
-  keeps-open cursor bound other =
-      kept-attempt fine open_by who before sure free k before [] true (fault_of (aim.Opening cursor)) (λ at. open_refusal at who cursor)
+  keeps-open : (cursor columns : ℕ) (bound : Bound) → (fine → is_own cursor ≡ false) → Holds (open_query who cursor columns bound)
+  keeps-open cursor columns bound other =
+      kept-attempt fine open_by who before sure free k before [] true (fault_of (aim.Opening bound.table cursor))
+      (λ at. opening_refusal at who cursor bound.table columns)
       (λ at. what.Open cursor bound.table) (λ at. Opens (query_opened at who cursor bound)) _ refl (λ at cause e. refl)
       (λ at. keeps cursor bound other)
       (λ at. record { tidy = (refl, done (Opens (query_opened at who cursor bound))); told = λ s. (λ f. absurd cc, refl) })
@@ -400,25 +417,29 @@ module _ (fine : Type 0) (who : ℕ) (before free : Bool) (k : ℕ) where
   -- a statement whose names were found at this history
   keeps-resolved : (sure : Type 0) (limits : Limits) (state : State) (at : History) → (sure → is_open at who ≡ before) → (r : Resolved)
       → (fine → IsFine r) → Holds fine who before free k sure (resolved_plan limits who state at r)
-  keeps-resolved sure limits state at is (resolved.Select bound) other = plain-select fine who before sure free k bound
-  keeps-resolved sure limits state at is (resolved.Explain bound) other = plain-explain fine who before sure free k bound
+  keeps-resolved sure limits state at is (resolved.Select bound) other = plain-select fine who before sure free k (seen_columns at bound.table) bound
+  keeps-resolved sure limits state at is (resolved.Explain bound) other = plain-explain fine who before sure free k (seen_columns at bound.table) bound
   keeps-resolved sure limits state at is (resolved.Create name schema grid memory) other =
       kept-create fine open_by who before sure free k before name schema grid memory refl refl (λ at cause e. refl) (λ table scn. refl)
   keeps-resolved sure limits state at is (resolved.Memory table priority) other =
       kept-alter fine open_by who before sure free k before table priority refl refl
-  keeps-resolved sure limits state at is (resolved.Insert table rows) other = keeps-insert fine who before free k sure limits table rows
+  keeps-resolved sure limits state at is (resolved.AddColumn table column default) other =
+      kept-add fine open_by who before sure free k before table column default refl (λ at cause e. refl) refl
+  keeps-resolved sure limits state at is (resolved.Insert table rows) other =
+      keeps-insert fine who before free k sure limits table (seen_columns at table) rows
   keeps-resolved sure limits state at is (resolved.Update table filter sets) other =
       keeps-if fine who before free k sure (forbids_writing (mode at who)) _ _
       (keeps-said fine who before free k sure (settled_reply (length at) (body.Error fault.ReadOnly)) refl)
-      (plain-rewrite fine who before sure free k limits table filter (Updating sets))
+      (plain-rewrite fine who before sure free k limits table (seen_columns at table) filter (Updating sets))
   keeps-resolved sure limits state at is (resolved.Delete table filter) other =
       keeps-if fine who before free k sure (forbids_writing (mode at who)) _ _
       (keeps-said fine who before free k sure (settled_reply (length at) (body.Error fault.ReadOnly)) refl)
-      (plain-rewrite fine who before sure free k limits table filter Deleting)
+      (plain-rewrite fine who before sure free k limits table (seen_columns at table) filter Deleting)
   keeps-resolved sure limits state at is (resolved.SetMode mode) other = keeps-set_mode fine who before free k sure mode
   keeps-resolved sure limits state at is resolved.Commit other = keeps-commit fine who before free k sure
   keeps-resolved sure limits state at is resolved.Rollback other = keeps-roll_back fine who before free k sure at is
-  keeps-resolved sure limits state at is (resolved.OpenFor cursor bound) other = keeps-open fine who before free k sure cursor bound other
+  keeps-resolved sure limits state at is (resolved.OpenFor cursor bound) other =
+      keeps-open fine who before free k sure cursor (seen_columns at bound.table) bound other
   keeps-resolved sure limits state at is (resolved.Step cursor) other = keeps-step fine who before free k sure state at cursor
   keeps-resolved sure limits state at is (resolved.Fetch cursor) other = keeps-fetch sure state at cursor
   keeps-resolved sure limits state at is (resolved.Close cursor) other = keeps-close sure state at cursor
@@ -444,6 +465,7 @@ fine-answer known (stmt.OpenFor cursor q) is =
 fine-answer known (stmt.Create name columns block extent memory) is = unless-each IsFine _ _ tt
 fine-answer known (stmt.AlterMemory name memory) is = of_table-each IsFine (table_called known name) name _ (λ table. tt)
 fine-answer known (stmt.AlterNoMemory name) is = of_table-each IsFine (table_called known name) name _ (λ table. tt)
+fine-answer known (stmt.AddColumn name part default) is = of_table-each IsFine (table_called known name) name _ (λ table. unless-each IsFine _ _ tt)
 fine-answer known (stmt.Insert name names tuples) is = of_table-each IsFine (table_called known name) name _ (λ table. unless-each IsFine _ _ tt)
 fine-answer known (stmt.Update name sets cond) is = of_table-each IsFine (table_called known name) name _ (λ table. unless-each IsFine _ _ tt)
 fine-answer known (stmt.Delete name cond) is = of_table-each IsFine (table_called known name) name _ (λ table. unless-each IsFine _ _ tt)
@@ -474,6 +496,11 @@ abbrev IsRefused : Bool → List ℕ → Option Why → Type 0
 IsRefused before name None = ⊤
 IsRefused before name (Some cause) = false ≡ open_by_definition (body.Error (fault_of (aim.Creating name) cause)) before
 
+-- and a cause that refuses one more column
+abbrev IsUnadded : Bool → List ℕ → Option Why → Type 0
+IsUnadded before name None = ⊤
+IsUnadded before name (Some cause) = false ≡ open_by_definition (body.Error (fault_of (aim.Adding name) cause)) before
+
 repeated-named : (before : Bool) (earlier names : List (List ℕ)) → IsNamed before (first_fault (with_earlier repeated earlier names))
 repeated-named before earlier [] = tt
 repeated-named before earlier (name ∷ names) = by (is_among earlier name) (repeated-named before (earlier ++ name ∷ []) names)
@@ -492,6 +519,43 @@ creation-refused before name at = by (table_named at name) _
     by (Some table) full = refl
     by None true = refl
     by None false = tt
+
+addition-refused : (before : Bool) (table : ℕ) (name : List ℕ) (at : History) → IsUnadded before name (add_refusal at table name)
+addition-refused before table name at = by (list_any (is_column name) (schema_of (table_at at table))) _
+  where
+    by : (stands full : Bool) → IsUnadded before name (option_or (when stands why.ColumnExists) (when full why.TooManyColumns))
+    by true full = refl
+    by false true = refl
+    by false false = tt
+
+-- a column that may not be added has a fault that says so
+named-either : (before : Bool) (first second : Option NameFault) → IsNamed before first → IsNamed before second → IsNamed before (option_or first second)
+named-either before None second one other = other
+named-either before (Some fault) second one other = one
+
+long-named : (before : Bool) (name : List ℕ) (kind_is : Kind) (value_is : Value) → IsNamed before (too_long name kind_is value_is)
+long-named before name (kind.Text limit) (value.Text t) = by (nat_le (length t) limit)
+  where
+    by : (b : Bool) → IsNamed before (if b then None else Some (TooLong name (length t) limit))
+    by true = tt
+    by false = refl
+long-named before name (kind.Text limit) (value.Int n) = tt
+long-named before name (kind.Text limit) value.Null = tt
+long-named before name kind.Int v = tt
+
+added-named : (before : Bool) (columns : List Column) (column : Column) (default : Value) → IsNamed before (added_fault columns column default)
+added-named before columns column default =
+    named-either before (standing columns column.name) (stored default column) (stands (has_column columns column.name))
+    (named-either before (compared default column) (too_long column.name column.kind default) (other (is_other column.kind default))
+    (long-named before column.name column.kind default))
+  where
+    stands : (b : Bool) → IsNamed before (if b then Some (RepeatedColumn column.name) else None)
+    stands true = refl
+    stands false = tt
+
+    other : (b : Bool) → IsNamed before (if b then Some (WrongKind column.name) else None)
+    other true = refl
+    other false = tt
 
 -- no transaction is open any more: k entries were made, and with one more there is none either
 module _ (fine : Type 0) (who : ℕ) (before : Bool) (k : ℕ) (lost : IsLost before k) (later : IsLost before (suc k)) (limits : Limits) (state : State)
@@ -517,10 +581,25 @@ module _ (fine : Type 0) (who : ℕ) (before : Bool) (k : ℕ) (lost : IsLost be
   defines-memory (Some table) name number priority =
       kept-alter fine open_by_definition who before ⊤ true k false number priority lost refl
 
+  defines-add : (found : Option TableInfo) (name : List ℕ) (number : ℕ) (column : Column) (default : Value)
+      → Defines (found_plan limits who state at
+      (of_table found name (λ table. unless (added_fault table.schema column default) (resolved.AddColumn number column default))))
+  defines-add None name number column default = defines-fault (UnknownTable name) refl
+  defines-add (Some table) name number column default =
+      by (added_fault table.schema column default) (added-named before table.schema column default)
+    where
+      by : (faulty : Option NameFault) → IsNamed before faulty
+          → Defines (found_plan limits who state at (unless faulty (resolved.AddColumn number column default)))
+      by None named =
+          kept-add fine open_by_definition who before ⊤ true k false number column default lost
+          (λ here cause e. subst (IsUnadded before column.name) e (addition-refused before number column.name here)) refl
+      by (Some fault) named = defines-fault fault named
+
   defines-named : (s : Stmt) → is_definition s ≡ true → Defines (named_plan limits who state s at)
   defines-named (stmt.Create name columns block extent memory) is = defines-create _ name _ _ _ (repeated-named before [] (map column_name columns))
   defines-named (stmt.AlterMemory name memory) is = defines-memory (table_called (tables at) name) name _ _
   defines-named (stmt.AlterNoMemory name) is = defines-memory (table_called (tables at) name) name _ _
+  defines-named (stmt.AddColumn name part default) is = defines-add (table_called (tables at) name) name _ (column_of part) (default_of default)
   defines-named _ is = absurd cc
 
 -- a definition commits an open transaction first

@@ -3,7 +3,6 @@ use Rattle.std.specs.Prelude.{ℕ, nat_lt, List, [], ◌∷◌, length, Option, 
 use Rattle.im_group.specs.Answers.{answer}
 use Rattle.im_history.specs.declared.entry.What.TheVariants.{Open, Shut}
 use Rattle.im_history.specs.History.{History}
-use Rattle.im_history.specs.Refusals.{open_refusal}
 use Rattle.im_history.specs.Views.{view_at}
 use Rattle.im_plan.specs.Plan.{Plan, End}
 use Rattle.im_syntax.specs.declared.bound.Bound.{Bound}
@@ -14,13 +13,13 @@ use Rattle.im_replies.specs.declared.served.Served.{Served}
 use Rattle.im_replies.specs.declared.aim.Aim.TheVariants as aim
 use Rattle.im_replies.specs.Causes.{fault_of}
 use Rattle.im_statements.specs.Outcomes.{Outcome, OpenQuery, State, query_at, Replied, Opens, Steps, Closes}
-use Rattle.im_statements.specs.Scans.{mark_at, rows_seen, serve_from}
+use Rattle.im_statements.specs.Scans.{mark_at, opening_refusal, rows_seen, serve_from}
 use Rattle.im_statements.specs.Turns.{answer_at, decide, decide_by, look, served_reply, settled_reply}
 
--- OPEN
-abbrev pub open_query : ℕ → ℕ → Bound → Plan Outcome
-open_query who cursor bound =
-    decide (fault_of (aim.Opening cursor)) (λ at. open_refusal at who cursor) (λ at. Open cursor bound.table) (λ at.
+-- OPEN, on a table that had so many columns at the look
+abbrev pub open_query : ℕ → ℕ → ℕ → Bound → Plan Outcome
+open_query who cursor columns bound =
+    decide (fault_of (aim.Opening bound.table cursor)) (λ at. opening_refusal at who cursor bound.table columns) (λ at. Open cursor bound.table) (λ at.
     End (Replied
     (settled_reply (length at) (Opened cursor (view_at at who bound.table).scn (view_at at who bound.table).extents))
     (Opens (record { cursor = cursor; bound = bound; view = view_at at who bound.table; next = 0 }))))

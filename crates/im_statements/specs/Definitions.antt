@@ -1,13 +1,14 @@
 -- Statements that define tables, and those that begin and end transactions.
 use Rattle.std.specs.Prelude.{ℕ, ◌+◌, List, length, Option, Some, None, if◌then◌else◌}
 use Rattle.im_values.specs.declared.priority.Priority.{Priority}
+use Rattle.im_values.specs.declared.content.Content.{Content as Value}
 use Rattle.im_values.specs.declared.schema.Column.{Column}
 use Rattle.im_history.specs.declared.entry.Mode.{Mode}
 use Rattle.im_history.specs.declared.entry.What.TheVariants as what
 use Rattle.im_history.specs.Commits.{scn}
 use Rattle.im_history.specs.Grid.{Grid}
 use Rattle.im_history.specs.History.{History}
-use Rattle.im_history.specs.Refusals.{begin_refusal, create_refusal}
+use Rattle.im_history.specs.Refusals.{add_refusal, begin_refusal, create_refusal}
 use Rattle.im_history.specs.Tables.{tables}
 use Rattle.im_history.specs.Transactions.{is_open}
 use Rattle.im_plan.specs.Plan.{Plan}
@@ -34,7 +35,13 @@ create_table name schema grid None =
 create_table name schema grid (Some priority) =
     attempt (fault_of (aim.Creating name)) (λ at. create_refusal at name) (λ at. what.Create name schema grid) (λ at. join_memory at priority)
 
--- ALTER TABLE, once no transaction is open
+-- ALTER TABLE ADD, once no transaction is open
+abbrev pub add_column : ℕ → Column → Value → Plan Outcome
+add_column table column default =
+    decide (fault_of (aim.Adding column.name)) (λ at. add_refusal at table column.name) (λ at. what.Add table column default)
+    (λ at. answer_at at (Altered table))
+
+-- ALTER TABLE with a priority or NO INMEMORY, once no transaction is open
 abbrev pub alter_table : ℕ → Option Priority → Plan Outcome
 alter_table table priority = decide_by (λ at. what.Memory table priority) (λ at. answer_at at (Altered table))
 

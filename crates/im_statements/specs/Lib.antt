@@ -1,4 +1,5 @@
 pub mod Agreement
+pub mod Altered
 pub mod Assigned
 pub mod Background
 pub mod Cursors

@@ -1,12 +1,14 @@
 -- Scans: a cursor is opened, the extents of its view are served one after the other, and it is closed.
 use Rattle.std.specs.Prelude.{ℕ, zero, suc, ◌+◌, ◌-◌, false, List, [], ◌∷◌, ◌++◌, length, map, Option, Some}
+use Rattle.std.specs.Option.{option_or}
 use Rattle.im_values.specs.declared.content.Content.{Content as Value}
 use Rattle.im_group.specs.Answers.{answer}
 use Rattle.im_history.specs.declared.cursors.TheConstants.{OWN_CURSOR}
 use Rattle.im_history.specs.declared.entry.What.TheVariants.{Open, Shut}
+use Rattle.im_history.specs.declared.refused.Why.{Why}
 use Rattle.im_history.specs.declared.view.View.{View}
 use Rattle.im_history.specs.History.{History}
-use Rattle.im_history.specs.Refusals.{open_refusal}
+use Rattle.im_history.specs.Refusals.{altered, open_refusal}
 use Rattle.im_history.specs.Rows.{Row, present}
 use Rattle.im_history.specs.Views.{seen_by, view_at}
 use Rattle.im_plan.specs.Plan.{Plan, End, Turn}
@@ -44,11 +46,15 @@ serve_from view filter extent on = serve view filter (view.extents - extent) ext
 
 -- ---- a statement's own scan
 
--- a cursor of the statement's own is opened on a table, unless that is refused, and all extents are served. What the line does then knows the history
--- at the opening, the view, and the marks
-abbrev pub scan : ℕ → ℕ → Option (CondOf ℕ Value) → (History → View → List Served → Plan Outcome) → Plan Outcome
-scan who table filter on =
-    attempt (fault_of (aim.Opening OWN_CURSOR)) (λ at. open_refusal at who OWN_CURSOR) (λ at. Open OWN_CURSOR table) (λ at.
+-- what refuses the opening of a cursor on a table that had so many columns at the look: it got others since, or the cursor may not be opened
+abbrev pub opening_refusal : History → ℕ → ℕ → ℕ → ℕ → Option Why
+opening_refusal at who cursor table columns = option_or (altered at table columns) (open_refusal at who cursor)
+
+-- a cursor of the statement's own is opened on a table that had so many columns at the look, unless that is refused, and all extents are
+-- served. What the line does then knows the history at the opening, the view, and the marks
+abbrev pub scan : ℕ → ℕ → ℕ → Option (CondOf ℕ Value) → (History → View → List Served → Plan Outcome) → Plan Outcome
+scan who table columns filter on =
+    attempt (fault_of (aim.Opening table OWN_CURSOR)) (λ at. opening_refusal at who OWN_CURSOR table columns) (λ at. Open OWN_CURSOR table) (λ at.
     serve_from (view_at at who table) filter 0 (on at (view_at at who table)))
 
 -- the scan ends, and the line with this reply
@@ -57,9 +63,9 @@ end_scan reply = Turn false (λ here. Some (Shut OWN_CURSOR)) (λ here. End (sai
 
 -- ---- statements that read
 
--- SELECT: the answer is over the rows that the view sees, and is settled at the opening
-abbrev pub select : ℕ → Bound → Plan Outcome
-select who bound = scan who bound.table bound.filter (λ at view marks.
+-- SELECT of a table that had so many columns at the look: the answer is over the rows that the view sees, and is settled at the opening
+abbrev pub select : ℕ → ℕ → Bound → Plan Outcome
+select who columns bound = scan who bound.table columns bound.filter (λ at view marks.
     end_scan (served_reply (length at) marks (Answer view.scn (answer bound (rows_seen at view)))))
 
 -- what EXPLAIN says of a mark
@@ -67,6 +73,6 @@ abbrev pub explained : Served → ℕ × How
 explained mark = (mark.extent, mark.how)
 
 -- EXPLAIN: how each extent is served
-abbrev pub explain : ℕ → Bound → Plan Outcome
-explain who bound = scan who bound.table bound.filter (λ at view marks.
+abbrev pub explain : ℕ → ℕ → Bound → Plan Outcome
+explain who columns bound = scan who bound.table columns bound.filter (λ at view marks.
     end_scan (served_reply (length at) marks (Explained view.scn (map explained marks))))

@@ -3,8 +3,9 @@ use Rattle.std.specs.Prelude.{ℕ, Bool, true, false, Some, Result, Ok, Err, if�
 use Rattle.im_history.specs.declared.entry.What.TheVariants as what
 use Rattle.im_history.specs.declared.limits.Limits.{Limits}
 use Rattle.im_history.specs.History.{History}
-use Rattle.im_history.specs.Tables.{tables}
+use Rattle.im_history.specs.Tables.{table_at, tables}
 use Rattle.im_history.specs.Transactions.{is_open}
+use Rattle.im_history.specs.Units.{columns_of}
 use Rattle.im_names.specs.declared.fault.NameFault.{NameFault}
 use Rattle.im_names.specs.declared.fault.NameFault.TheVariants as names
 use Rattle.im_names.specs.declared.resolved.Resolved.{Resolved}
@@ -17,7 +18,7 @@ use Rattle.im_replies.specs.declared.body.Body.TheVariants.{Error, Nothing}
 use Rattle.im_replies.specs.declared.reply.Reply.{Reply}
 use Rattle.im_replies.specs.Causes.{name_fault}
 use Rattle.im_statements.specs.Cursors.{close, fetch, open_query, step}
-use Rattle.im_statements.specs.Definitions.{alter_table, commit, create_table, roll_back, set_mode}
+use Rattle.im_statements.specs.Definitions.{add_column, alter_table, commit, create_table, roll_back, set_mode}
 use Rattle.im_statements.specs.Outcomes.{Outcome, State}
 use Rattle.im_statements.specs.Scans.{explain, select}
 use Rattle.im_statements.specs.Turns.{answer_at, look, memory_reply, settled_reply}
@@ -31,20 +32,26 @@ abbrev pub name_reply : ℕ → ℕ → NameFault → Reply
 name_reply k place names.NoMemory = memory_reply k
 name_reply k place fault = settled_reply place (Error (name_fault fault))
 
+-- how many columns a table has at the look
+abbrev pub seen_columns : History → ℕ → ℕ
+seen_columns at table = columns_of (table_at at table)
+
 -- a statement whose names were found at this history. Those of the background are not a session's, and nothing is done
 abbrev pub resolved_plan : Limits → ℕ → State → History → Resolved → Plan Outcome
-resolved_plan limits who state at (resolved.Select bound) = select who bound
-resolved_plan limits who state at (resolved.Explain bound) = explain who bound
+resolved_plan limits who state at (resolved.Select bound) = select who (seen_columns at bound.table) bound
+resolved_plan limits who state at (resolved.Explain bound) = explain who (seen_columns at bound.table) bound
 resolved_plan limits who state at (resolved.Create name schema grid memory) = create_table name schema grid memory
 resolved_plan limits who state at (resolved.Memory table priority) = alter_table table priority
-resolved_plan limits who state at (resolved.Insert table rows) = insert limits who table rows
+resolved_plan limits who state at (resolved.AddColumn table column default) = add_column table column default
+resolved_plan limits who state at (resolved.Insert table rows) = insert limits who table (seen_columns at table) rows
 resolved_plan limits who state at (resolved.Update table filter sets) =
-    unless_read_only who at (rewrite limits who table filter (Updating sets))
-resolved_plan limits who state at (resolved.Delete table filter) = unless_read_only who at (rewrite limits who table filter Deleting)
+    unless_read_only who at (rewrite limits who table (seen_columns at table) filter (Updating sets))
+resolved_plan limits who state at (resolved.Delete table filter) =
+    unless_read_only who at (rewrite limits who table (seen_columns at table) filter Deleting)
 resolved_plan limits who state at (resolved.SetMode mode) = set_mode who mode
 resolved_plan limits who state at resolved.Commit = commit
 resolved_plan limits who state at resolved.Rollback = roll_back who at
-resolved_plan limits who state at (resolved.OpenFor cursor bound) = open_query who cursor bound
+resolved_plan limits who state at (resolved.OpenFor cursor bound) = open_query who cursor (seen_columns at bound.table) bound
 resolved_plan limits who state at (resolved.Step cursor) = step state at cursor
 resolved_plan limits who state at (resolved.Fetch cursor) = fetch state at cursor
 resolved_plan limits who state at (resolved.Close cursor) = close state at cursor
@@ -75,11 +82,12 @@ definition_plan limits who state statement = look (λ at.
     then Turn false (λ here. Some what.Commit) (λ here. looked_up limits who state statement)
     else named_plan limits who state statement at)
 
--- the statement defines a table
+-- the statement defines a table, or changes what one is
 abbrev pub is_definition : Stmt → Bool
 is_definition (stmt.Create name columns block extent memory) = true
 is_definition (stmt.AlterMemory name memory) = true
 is_definition (stmt.AlterNoMemory name) = true
+is_definition (stmt.AddColumn name column default) = true
 is_definition statement = false
 
 -- the plan of a statement of a session that keeps this

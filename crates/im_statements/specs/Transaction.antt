@@ -13,7 +13,7 @@ use Rattle.im_statements.specs.Outcomes.{Effect, Replied, State}
 use Rattle.im_statements.specs.Statements.{is_definition, statement_plan}
 use Rattle.im_statements.specs.Turns.{amends}
 
--- whether a transaction is open after a line that said this, and that defined no table; `before` is whether one was open before it
+-- whether a transaction is open after a line that said this, and that was no definition; `before` is whether one was open before it
 abbrev pub open_by : Body → Bool → Bool
 open_by (body.Begun scn) before = true
 open_by (body.Committed scn) before = false
@@ -23,7 +23,7 @@ open_by (body.Updated rows) before = nat_lt 0 rows || before
 open_by (body.Deleted rows) before = nat_lt 0 rows || before
 open_by said before = before
 
--- the same of a line that was to define a table: it committed what was open, unless memory ran out before that
+-- the same of the line of a definition: it committed what was open, unless memory ran out before that
 abbrev pub open_by_definition : Body → Bool → Bool
 open_by_definition (body.Error (fault.Memory entries)) before = (entries == 0) && before
 open_by_definition said before = false

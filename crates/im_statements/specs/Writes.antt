@@ -1,5 +1,6 @@
 -- Statements that write rows.
 use Rattle.std.specs.Prelude.{ℕ, true, List, [], ◌∷◌, length, map, filter as list_filter, Option, Some, None, if◌then◌else◌}
+use Rattle.std.specs.Option.{option_or}
 use Rattle.im_values.specs.declared.content.Content.{Content as Value}
 use Rattle.im_group.specs.Partials.{keeps}
 use Rattle.im_history.specs.declared.change.Change.{Change}
@@ -8,7 +9,7 @@ use Rattle.im_history.specs.declared.limits.Limits.{Limits}
 use Rattle.im_history.specs.declared.refused.Why.{Why}
 use Rattle.im_history.specs.History.{History}
 use Rattle.im_history.specs.Legal.{put_from}
-use Rattle.im_history.specs.Refusals.{forbids_writing, insert_refusal, write_refusal}
+use Rattle.im_history.specs.Refusals.{altered, forbids_writing, insert_refusal, write_refusal}
 use Rattle.im_history.specs.Rows.{Row}
 use Rattle.im_history.specs.Tables.{given}
 use Rattle.im_history.specs.Transactions.{mode}
@@ -33,10 +34,15 @@ use Rattle.im_statements.specs.Turns.{answer_at, decide, served_reply, unless_re
 abbrev pub inserts : ℕ → List Row → History → List Change
 inserts table rows at = put_from table (given at table) rows
 
--- INSERT
-abbrev pub insert : Limits → ℕ → ℕ → List Row → Plan Outcome
-insert limits who table rows =
-    decide (fault_of aim.Plain) (λ at. insert_refusal limits at who (inserts table rows at)) (λ at. Write (inserts table rows at))
+-- what refuses an insert into a table that had so many columns at the look: it got others since, or these changes may not be made
+abbrev pub inserting_refusal : Limits → History → ℕ → ℕ → ℕ → List Row → Option Why
+inserting_refusal limits at who table columns rows =
+    option_or (altered at table columns) (insert_refusal limits at who (inserts table rows at))
+
+-- INSERT, into a table that had so many columns at the look
+abbrev pub insert : Limits → ℕ → ℕ → ℕ → List Row → Plan Outcome
+insert limits who table columns rows =
+    decide (fault_of (aim.Inserting table)) (λ at. inserting_refusal limits at who table columns rows) (λ at. Write (inserts table rows at))
     (λ at. answer_at at (Inserted (length rows) (given at table)))
 
 -- ---- rewriting
@@ -76,9 +82,10 @@ write_or_end limits who place scn marks [] body = end_scan (served_reply place m
 write_or_end limits who place scn marks (change ∷ changes) body =
     write_seen limits who scn marks (change ∷ changes) (body (length (change ∷ changes)))
 
--- UPDATE and DELETE: those that a condition keeps of the rows that the view sees are rewritten
-abbrev pub rewrite : Limits → ℕ → ℕ → Option (CondOf ℕ Value) → Rewriting → Plan Outcome
-rewrite limits who table filter rewriting = scan who table filter (λ at view marks.
+-- UPDATE and DELETE, of a table that had so many columns at the look: those that a condition keeps of the rows that the view sees are
+-- rewritten
+abbrev pub rewrite : Limits → ℕ → ℕ → ℕ → Option (CondOf ℕ Value) → Rewriting → Plan Outcome
+rewrite limits who table columns filter rewriting = scan who table columns filter (λ at view marks.
     write_or_end limits who (length at) view.scn marks (changes_to table rewriting (kept_rows filter (rows_seen at view))) (written rewriting))
 
 -- a statement that rewrites rows is refused at its look in a READ ONLY transaction, before anything is scanned

@@ -1,6 +1,7 @@
 ghost use Rattle.std.specs.Prelude.{◌≡◌, [], ◌∷◌};
 ghost use Rattle.im_history.specs.Cursors.{own_cursors};
 ghost use Rattle.im_statements.specs.Agreement.{KeepAgreement};
+ghost use Rattle.im_statements.specs.Altered.{TellColumns, TellNoColumns};
 ghost use Rattle.im_statements.specs.Rounds.{PlayTheSame, StayAmongOthers, StayEnough};
 ghost use Rattle.im_statements.specs.Transaction.{KeepTransaction};
 
@@ -9,6 +10,14 @@ ghost use Rattle.im_statements.specs.Transaction.{KeepTransaction};
 pub fn lines_keep_agreement()
     ensures cursors { KeepAgreement }
     ensures transaction { KeepTransaction }
+{}
+
+/// A law, for contracts alone: a line that is refused since its table got a column tells of the last column that the table had got by
+/// then, and that one was added by another number after the line began, whatever others do meanwhile and wherever memory runs out. With
+/// nobody else there no line is refused so.
+pub fn lines_tell_of_columns()
+    ensures tell { TellColumns }
+    ensures alone { TellNoColumns }
 {}
 
 /// A law, for contracts alone: the cursors that statements open by themselves, by their numbers. Code and definitions cite them by

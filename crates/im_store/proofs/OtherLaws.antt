@@ -1,25 +1,26 @@
 -- What entries of other numbers leave as it is, in a legal history.
-use Rattle.std.proofs.Common.{◌≡◌, ℕ, ◌+◌, ◌≤◌, ◌==◌, ◌&&◌, ◌||◌, Bool, true, false, IsTrue, if◌then◌else◌, List, [], ◌∷◌, ◌++◌, length, is_some, All, refl, sym, ap, ◌∙◌, subst, arith, append-nil, append_assoc}
+use Rattle.std.proofs.Common.{◌≡◌, ℕ, ◌+◌, ◌≤◌, ◌==◌, ◌&&◌, ◌||◌, Bool, true, false, IsTrue, if◌then◌else◌, List, [], ◌∷◌, ◌++◌, length, take, is_some, All, refl, sym, ap, ◌∙◌, subst, arith, append-nil, append_assoc, length-append}
 use Rattle.std.specs.List.{list_any}
+use Rattle.std.proofs.lemmas.List.{take-append-le}
 use Rattle.std.proofs.lemmas.List.Elements.{All-head, All-tail}
 use Rattle.im_values.specs.declared.schema.Column.{Column}
 use Rattle.im_values.specs.Fits.{fits}
+use Rattle.im_core.specs.Answers.{MayPut}
 use Rattle.im_history.specs.declared.entry.Entry.{Entry}
 use Rattle.im_history.specs.declared.limits.Limits.{Limits}
 use Rattle.im_history.specs.declared.view.Opening.{Opening}
-use Rattle.im_history.specs.Units.{opening_at}
 use Rattle.im_history.specs.Commits.{moves_clock, scn}
 use Rattle.im_history.specs.Cursors.{is_cursor, is_cursor_open, opened, opened_after}
 use Rattle.im_history.specs.History.{History}
 use Rattle.im_history.specs.Leaves.{has_left, is_leave}
-use Rattle.im_history.specs.Legal.{Exists, IsAllowed, IsLegal, IsLegalFrom, MayInsert, MayLeave, MaySetMemory}
+use Rattle.im_history.specs.Legal.{Exists, IsAllowed, IsLegal, IsLegalFrom, MayLeave, MaySetMemory}
 use Rattle.im_history.specs.Rows.{Row}
 use Rattle.im_history.specs.Tables.{table_at}
 use Rattle.im_history.specs.Transactions.{begun, begun_after, is_open, pending, pending_after}
 use Rattle.im_history.proofs.LeaveLaws.{has_left-push}
 use Rattle.im_history.proofs.Laws.{IsLegal-push, begun-push, opened-push, pending-push, scn-push}
 use Rattle.im_history.proofs.RowLaws.{each_longer}
-use Rattle.im_history.proofs.TableLaws.{opening-longer, StaysAs, table-longer}
+use Rattle.im_history.proofs.TableLaws.{GrowsTo, table-longer}
 
 -- others went on: none of them has this number, and the whole history is legal
 pub record WentOn (limits : Limits) (who : ℕ) (old at : History) : Type 0 where
@@ -111,30 +112,30 @@ module _ {limits : Limits} {who : ℕ} {old at : History} (went : WentOn limits 
 -- ---- tables
 
 module _ {limits : Limits} {who : ℕ} {old at : History} (went : WentOn limits who old at) (table : ℕ) where
-  pub table-on : (exists : Exists old table) → StaysAs exists.made (table_at at table)
-  table-on exists = subst (λ (h : History). StaysAs exists.made (table_at h table)) (sym went.is) (table-longer old went.between table exists)
+  pub table-on : (exists : Exists old table) → GrowsTo exists.made (table_at at table)
+  table-on exists = subst (λ (h : History). GrowsTo exists.made (table_at h table)) (sym went.is) (table-longer old went.between table exists)
 
   pub Exists-on : Exists old table → Exists at table
-  Exists-on exists = let now = table-on exists in record { made = now.info; is = now.is }
-
-  pub MayInsert-on : (rows : List Row) → MayInsert old table rows → MayInsert at table rows
-  MayInsert-on rows may =
-      let now = table-on may.exists in
-      record {
-        exists = record { made = now.info; is = now.is };
-        some = may.some;
-        fit = subst (λ (columns : List Column). All (λ row. IsTrue (fits row columns)) rows) (sym now.schema) may.fit;
-      }
+  Exists-on exists = let now = table-on exists in record { made = now.by.info; is = now.by.is }
 
   pub MaySetMemory-on : MaySetMemory old who table → MaySetMemory at who table
   MaySetMemory-on may = record { exists = Exists-on may.exists; idle = is_open-on went may.idle }
 
--- what a caller saw of a table's columns is so now
+-- rows that fit the columns that were seen fit them still: others may have added columns, but only behind these
 module _ {limits : Limits} {who : ℕ} {old at : History} (went : WentOn limits who old at) where
-  pub seen-on : (opening : Opening) → Exists old opening.table → opening ≡ opening_at old opening.table → opening ≡ opening_at at opening.table
-  seen-on opening exists seen =
-      seen ∙ subst (λ (h : History). opening_at old opening.table ≡ opening_at h opening.table) (sym went.is)
-      (sym (opening-longer old went.between opening.table exists))
+  pub MayPut-on : (opening : Opening) (rows : List Row) → MayPut old opening rows → MayPut at opening rows
+  MayPut-on opening rows may =
+      let now = table-on went opening.table may.exists in
+      let seen = may.seen in
+      let long = ap length now.by.schema ∙ length-append may.exists.made.schema now.columns in
+      let first : take opening.columns now.by.info.schema ≡ take opening.columns may.exists.made.schema =
+      ap (take opening.columns) now.by.schema ∙ take-append-le opening.columns may.exists.made.schema now.columns seen in
+      record {
+        exists = record { made = now.by.info; is = now.by.is };
+        seen = omega (arith, long, seen);
+        some = may.some;
+        fit = subst (λ (columns : List Column). All (λ row. IsTrue (fits row columns)) rows) (sym first) may.fit;
+      }
 
 -- ---- the SCN
 

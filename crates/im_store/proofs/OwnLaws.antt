@@ -16,16 +16,18 @@ use Rattle.im_history.specs.declared.task.Task.{Task}
 use Rattle.im_history.specs.Commits.{scn}
 use Rattle.im_history.specs.Cursors.{Opened, cursor_at, is_cursor, opened, opened_after}
 use Rattle.im_history.specs.History.{History, replay}
-use Rattle.im_history.specs.Legal.{IsAllowed, IsLegal, MayEnd, MayWrite, still_seen}
-use Rattle.im_history.specs.Rows.{Row, row_after, rows, seen, snapshot_under}
+use Rattle.im_history.specs.Legal.{Exists, IsAllowed, IsLegal, MayEnd, MayWrite, still_seen}
+use Rattle.im_history.specs.Rows.{Row, row_after, seen, snapshot_under}
 use Rattle.im_history.specs.Transactions.{begun}
 use Rattle.im_history.specs.Transactions as transactions
-use Rattle.im_history.specs.Units.{IsOwn, drops, held_at, killed_by, rows_of_extent, task_content}
-use Rattle.im_history.specs.Views.{seen_by, view_at}
+use Rattle.im_history.specs.Units.{IsOwn, drops, held_at, killed_by, rows_of_extent, task_content, unit_row}
+use Rattle.im_history.specs.Views.{seen_by, shown, view_at}
 use Rattle.im_history.proofs.BuildLaws.{begun_at, held_at-build, held_at-cancel, held_at-plain, held_at-switch}
+use Rattle.im_history.proofs.ContentLaws.{unit_row-push}
 use Rattle.im_history.proofs.HeldLaws.{held-within}
 use Rattle.im_history.proofs.Laws.{opened-push}
-use Rattle.im_history.proofs.RowLaws.{each_history, rows-append}
+use Rattle.im_history.proofs.RowLaws.{each_history, each_longer, rows-append}
+use Rattle.im_history.proofs.TableLaws.{Exists-push}
 use Rattle.im_history.proofs.UnitLaws.{is_plain}
 use Rattle.im_store.proofs.OtherLaws.{WentOn, legal-old, on-others, opened-on, pending-on, scn-longer}
 
@@ -103,6 +105,27 @@ holds-push limits who task h entry other legal allowed own = by entry.what refl 
         ∙ (ap (λ (b : Bool). if b then None else held_at h task.id) (apart-id h entry.who who id task other may.may own) ∙ own.is))
     by w same may = holds-plain h entry who task (ap is_plain same) own
 
+-- a unit's row, as far as the history went on
+record StaysSo (old : History) (table unit_scn rid : ℕ) (h : History) : Type 0 where
+  exists : Exists h table
+  within : unit_scn ≤ scn h
+  same : unit_row h table unit_scn rid ≡ unit_row old table unit_scn rid
+
+unit_row-longer : (old more : History) (table unit_scn rid : ℕ) → Exists old table → unit_scn ≤ scn old
+    → unit_row (old ++ more) table unit_scn rid ≡ unit_row old table unit_scn rid
+unit_row-longer old more table unit_scn rid exists within =
+    (each_longer (StaysSo old table unit_scn rid)
+    (λ h entry so_far. record {
+      exists = Exists-push h entry table so_far.exists;
+      within = let before = so_far.within in let moved = scn-longer h (entry ∷ []) in omega (arith, before, moved);
+      same = unit_row-push h entry table unit_scn rid so_far.exists so_far.within ∙ so_far.same;
+    }) old more (record { exists = exists; within = within; same = refl })).same
+
+-- a build is of a table that exists, and at an SCN that was reached
+record IsReached (h : History) (task : Task) : Type 0 where
+  exists : Exists h task.table
+  within : task.scn ≤ scn h
+
 map_same : {X : Type 0} (f g : ℕ → X) → ((k : ℕ) → f k ≡ g k) → (ks : List ℕ) → map f ks ≡ map g ks
 map_same f g same [] = refl
 map_same f g same (k ∷ ks) = ap₂ (λ x xs. x ∷ xs) (same k) (map_same f g same ks)
@@ -111,19 +134,20 @@ module _ {limits : Limits} {who : ℕ} {old at : History} (went : WentOn limits 
   pub IsOwn-on : IsOwn at who task
   IsOwn-on = on-others limits who (λ (h : History). IsOwn h who task) (holds-push limits who task) old at went own
 
-  scn-own : task.scn ≤ scn old
-  scn-own =
-      subst (λ (t : Task). t.scn ≤ scn old) own.same
-      (held-within limits old task.id own.held (legal-old limits who old at went) own.is).scn
+  reached-own : IsReached old task
+  reached-own =
+      let within = held-within limits old task.id own.held (legal-old limits who old at went) own.is in
+      subst (IsReached old) own.same (record { exists = within.exists; within = within.scn })
 
-  rows-own : (rid : ℕ) → rows at task.table task.scn rid ≡ rows old task.table task.scn rid
-  rows-own rid =
-      ap (λ (h : History). rows h task.table task.scn rid) went.is ∙ rows-append old went.between task.table task.scn rid scn-own
+  row-own : (rid : ℕ) → unit_row at task.table task.scn rid ≡ unit_row old task.table task.scn rid
+  row-own rid =
+      ap (λ (h : History). unit_row h task.table task.scn rid) went.is
+      ∙ unit_row-longer old went.between task.table task.scn rid reached-own.exists reached-own.within
 
   pub task_content-on : task_content at task ≡ task_content old task
   task_content-on =
       ap (λ (list : List (Option Row)). record { scn = task.scn; first = task.extent * task.per; columns = task.columns; rows = list })
-      (map_same (rows at task.table task.scn) (rows old task.table task.scn) rows-own (rows_of_extent task.per task.extent))
+      (map_same (unit_row at task.table task.scn) (unit_row old task.table task.scn) row-own (rows_of_extent task.per task.extent))
 
 -- ---- what a cursor sees
 
@@ -212,7 +236,7 @@ module _ {limits : Limits} {who : ℕ} {old at : History} (went : WentOn limits 
     seen-on : (rid : ℕ) → seen_by at opening.view rid ≡ seen_by old opening.view rid
     seen-on rid =
         ap (λ (h : History). seen_by h opening.view rid) went.is
-        ∙ seen-same old went.between opening.view.table opening.view.scn opening.view.own rid known
+        ∙ ap (shown opening.view) (seen-same old went.between opening.view.table opening.view.scn opening.view.own rid known)
 
     still-on : (rid : ℕ) → still_seen at who opening rid ≡ still_seen old who opening rid
     still-on rid =

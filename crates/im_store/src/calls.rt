@@ -6,11 +6,11 @@ ghost use Rattle.im_reach.specs.Sides.{IsSwitched, speaks};
 ghost use Rattle.im_store.specs.Sides.{known_by, limits_of};
 
 use crate::shared::{Shared, give, take};
-use im_core::{Begun, Committed, Evicted, Made, Offer, Pin, Switched, Wrote};
+use im_core::{AddedColumn, Begun, Committed, Evicted, Made, Offer, Pin, Switched, Wrote};
 use im_history::{Change, Look, Mode, Opening, Priority, Refused, Shape, Task, UnitLike, View};
 use im_reach::Reach;
 use im_values::limits::NUMBERS;
-use im_values::{Name, Rows, Schema, Steps};
+use im_values::{Column, Name, Rows, Schema, Steps, Value};
 use std::sync::ledger::Ledger;
 use std::sync::{Arc, Wait};
 
@@ -37,6 +37,20 @@ impl<'a, U: UnitLike> Reach<U> for Shared<'a, U> {
     ) -> Result<Made, Refused> {
         let mut core = take(rt, self.store, &mut self.pass);
         let answer = core.create(who, name, schema, shape);
+        give(self.store, &mut self.pass, core);
+        answer
+    }
+
+    fn add_column<R: Wait>(
+        &mut self,
+        rt: &R,
+        who: u32,
+        table: u32,
+        column: Column,
+        default: Value,
+    ) -> Result<AddedColumn, Refused> {
+        let mut core = take(rt, self.store, &mut self.pass);
+        let answer = core.add_column(who, table, column, default);
         give(self.store, &mut self.pass, core);
         answer
     }

@@ -17,6 +17,6 @@ mod shared;
 mod store;
 
 pub use handed::Handed;
-pub use laws::no_side_falls_back;
+pub use laws::{columns_come_from_others, no_side_falls_back};
 pub use shared::Shared;
 pub use store::{Pass, Store};

@@ -114,6 +114,9 @@ sets_sync = as_row_sync (list.the_field (Tuple (name.the_row ∷ literal.the_row
 columns_sync : IsSync (as_row (list.the_field column_part.the_row))
 columns_sync = as_row_sync (list.the_field column_part.the_row) (list_sync column_part.the_row column_part_sync)
 
+default_sync : IsSync (as_row (option.the_field literal.the_row))
+default_sync = search (sendable, crosses, literal_sync) depth 60 fits 10000
+
 names_sync : IsSync (as_row (list.the_field name.the_row))
 names_sync = as_row_sync (list.the_field name.the_row) (list_sync name.the_row name_sync)
 
@@ -147,6 +150,8 @@ statement_sync = variants_sync statement.enum
       shape_sync,
       memory_sync,
       memory_part_sync,
+      column_part_sync,
+      default_sync,
       names_sync,
       tuples_sync,
       sets_sync,

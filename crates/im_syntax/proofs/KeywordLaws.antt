@@ -41,6 +41,7 @@ keyword_of-only word k found = look_up-only table k word letters-table found
 
 pub keyword_of-letters : (k : Keyword) → keyword_of (letters k) ≡ Some k
 unfolding keyword_of
+keyword_of-letters keyword.Add = refl
 keyword_of-letters keyword.Alter = refl
 keyword_of-letters keyword.And = refl
 keyword_of-letters keyword.Asc = refl
@@ -55,6 +56,7 @@ keyword_of-letters keyword.Committed = refl
 keyword_of-letters keyword.Count = refl
 keyword_of-letters keyword.Create = refl
 keyword_of-letters keyword.Critical = refl
+keyword_of-letters keyword.Default = refl
 keyword_of-letters keyword.Delete = refl
 keyword_of-letters keyword.Desc = refl
 keyword_of-letters keyword.Evict = refl

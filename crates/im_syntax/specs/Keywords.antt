@@ -16,6 +16,7 @@ keyword_of = look_up (map (λ entry. (entry.0.now, entry.1)) KEYWORDS)
 
 -- the letters of a keyword
 abbrev pub letters : Keyword → List ℕ
+letters keyword.Add = codes "ADD"
 letters keyword.Alter = codes "ALTER"
 letters keyword.And = codes "AND"
 letters keyword.Asc = codes "ASC"
@@ -30,6 +31,7 @@ letters keyword.Committed = codes "COMMITTED"
 letters keyword.Count = codes "COUNT"
 letters keyword.Create = codes "CREATE"
 letters keyword.Critical = codes "CRITICAL"
+letters keyword.Default = codes "DEFAULT"
 letters keyword.Delete = codes "DELETE"
 letters keyword.Desc = codes "DESC"
 letters keyword.Evict = codes "EVICT"

@@ -166,6 +166,14 @@ spell_memory m = word key.InMemory ∷ (spell_compress m.compress ++ spell_optio
 abbrev pub spell_option : Keyword → Option ℕ → List Token
 spell_option k = spell_optional (λ n. word k ∷ number n ∷ [])
 
+-- the default of a column, where it is written
+abbrev pub spell_default : Option Lit → List Token
+spell_default = spell_optional (λ v. word key.Default ∷ lit_token v ∷ [])
+
+-- a column that a table gets, with its default
+abbrev pub spell_added : ColumnPart → Option Lit → List Token
+spell_added column default = word key.Add ∷ in_parens (spell_column column ++ spell_default default)
+
 -- the columns of an INSERT, where they are written
 abbrev pub spell_columns : List (List ℕ) → List Token
 spell_columns [] = []
@@ -185,6 +193,7 @@ spelling (stmt.Create name columns block extent memory) =
     (spell_option key.Block block ++ (spell_option key.Extent extent ++ spell_optional spell_memory memory)))
 spelling (stmt.AlterMemory name memory) = word key.Alter ∷ word key.Table ∷ token.Word name ∷ spell_memory memory
 spelling (stmt.AlterNoMemory name) = word key.Alter ∷ word key.Table ∷ token.Word name ∷ word key.No ∷ word key.InMemory ∷ []
+spelling (stmt.AddColumn name column default) = word key.Alter ∷ word key.Table ∷ token.Word name ∷ spell_added column default
 spelling (stmt.Insert name columns tuples) =
     word key.Insert ∷ word key.Into ∷ token.Word name ∷ (spell_columns columns ++ word key.Values ∷ spell_joined comma spell_tuple tuples)
 spelling (stmt.Update name sets cond) = word key.Update ∷ token.Word name ∷ word key.Set ∷ (spell_joined comma spell_set sets ++ spell_where cond)

@@ -30,6 +30,12 @@ pub enum Stmt {
     AlterNoMemory {
         name: Name,
     },
+    /// ALTER TABLE with ADD and a column, whose default is NULL where none is written.
+    AddColumn {
+        name: Name,
+        column: ColumnPart,
+        default: Option<Lit>,
+    },
     /// Without a list of columns `columns` is empty.
     Insert {
         name: Name,

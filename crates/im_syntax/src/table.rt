@@ -9,7 +9,7 @@ pub enum KindWord {
     Varchar2(u16),
 }
 
-/// A column of a table that is created.
+/// A column of a table that is created, or one that a table gets.
 #[derive(Drop)]
 pub struct ColumnPart {
     pub name: Name,

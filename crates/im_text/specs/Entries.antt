@@ -14,7 +14,7 @@ use Rattle.im_history.specs.declared.entry.Entry.{Entry}
 use Rattle.im_history.specs.declared.entry.Mode.{Mode}
 use Rattle.im_history.specs.declared.entry.Mode.TheVariants as modes
 use Rattle.im_history.specs.declared.entry.What.{What}
-use Rattle.im_history.specs.declared.entry.What.TheVariants.{Create, Memory, Begin, Open, Shut, Write, Commit, Rollback, Build, Switch, Cancel, Trickle, Evict, Leave}
+use Rattle.im_history.specs.declared.entry.What.TheVariants.{Create, Add, Memory, Begin, Open, Shut, Write, Commit, Rollback, Build, Switch, Cancel, Trickle, Evict, Leave}
 
 -- how soon a table's units are built, or that the table left the column store
 abbrev pub priority_word : Option Priority → List ℕ
@@ -36,7 +36,7 @@ abbrev pub text_limit : Kind → ℕ
 text_limit kinds.Int = 0
 text_limit (kinds.Text limit) = limit
 
--- a column of a table that was created
+-- a column of a table, by its name and its texts' length
 abbrev pub column_fields : Column → List (List ℕ)
 column_fields column = column.name ∷ decimal (text_limit column.kind) ∷ []
 
@@ -49,9 +49,21 @@ abbrev pub create_fields : List ℕ → List Column → Grid → List (List ℕ)
 create_fields name schema shape =
     codes "create" ∷ name ∷ decimal shape.block ∷ decimal shape.extent ∷ flat_map column_fields schema
 
+-- a value: a number in decimal, a text as it is, NULL as nothing
+abbrev pub value_field : Value → List ℕ
+value_field (values.Int number) = signed_decimal number
+value_field (values.Text text) = text
+value_field values.Null = []
+
+-- a column that a table got, and its default
+abbrev pub add_fields : ℕ → Column → Value → List (List ℕ)
+add_fields table column default =
+    codes "add" ∷ decimal table ∷ column.name ∷ decimal (text_limit column.kind) ∷ value_field default ∷ []
+
 -- what happened
 abbrev pub what_fields : What → List (List ℕ)
 what_fields (Create name schema shape) = create_fields name schema shape
+what_fields (Add table column default) = add_fields table column default
 what_fields (Memory table priority) = codes "memory" ∷ decimal table ∷ priority_word priority ∷ []
 what_fields (Begin mode) = codes "begin" ∷ mode_word mode ∷ []
 what_fields (Open cursor table) = codes "open" ∷ decimal cursor ∷ decimal table ∷ []
@@ -71,12 +83,6 @@ what_fields Leave = codes "leave" ∷ []
 abbrev pub changes_of : What → List Change
 changes_of (Write changes) = changes
 changes_of what = []
-
--- a value: a number in decimal, a text as it is, NULL as nothing
-abbrev pub value_field : Value → List ℕ
-value_field (values.Int number) = signed_decimal number
-value_field (values.Text text) = text
-value_field values.Null = []
 
 -- the row that is put, or that the row is taken away
 abbrev pub row_fields : Option (List Value) → List (List ℕ)

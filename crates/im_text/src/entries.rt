@@ -85,6 +85,28 @@ fn put_create(page: &mut Page, name: &Name, schema: &Schema, shape: Shape) -> Re
     put_columns(page, schema.columns())
 }
 
+/// Puts a value as a further field.
+fn put_value(page: &mut Page, value: &Value) -> Result<(), NoMemory>
+    requires { IsInside page.old }
+    ensures { OnOk result (Adds page.old page.new (44 ∷ field_text (spec.value_field value.now))) }
+{
+    match value.seen() {
+        Seen::Int(number) => page.put(Buffer::new().format(number).as_bytes()),
+        Seen::Text(text) => page.put(text),
+        Seen::Null => page.put(b""),
+    }
+}
+
+/// Puts a column that a table got and its default, as further fields.
+fn put_add(page: &mut Page, table: u32, column: &Column, default: &Value) -> Result<(), NoMemory>
+    requires { IsInside page.old }
+    ensures { OnOk result (Adds page.old page.new (further (spec.add_fields table column.now default.now))) }
+{
+    page.put_phrase("add", &[u64::from(table)])?;
+    put_column(page, column)?;
+    put_value(page, default)
+}
+
 /// Puts what happened, as further fields.
 fn put_what(page: &mut Page, what: &What) -> Result<(), NoMemory>
     requires { IsInside page.old }
@@ -96,6 +118,11 @@ fn put_what(page: &mut Page, what: &What) -> Result<(), NoMemory>
             schema,
             shape,
         } => put_create(page, name, schema, *shape),
+        What::Add {
+            table,
+            column,
+            default,
+        } => put_add(page, *table, column, default),
         What::Memory { table, priority } => page.put_fields(&[
             Field::Word("memory"),
             Field::Number(u64::from(*table)),
@@ -124,18 +151,6 @@ fn put_what(page: &mut Page, what: &What) -> Result<(), NoMemory>
         What::Trickle { n } => page.put_phrase("trickle", &[u64::from(*n)]),
         What::Evict { table, extent } => page.put_phrase("evict", &[u64::from(*table), *extent]),
         What::Leave => page.put_phrase("leave", &[]),
-    }
-}
-
-/// Puts a value as a further field.
-fn put_value(page: &mut Page, value: &Value) -> Result<(), NoMemory>
-    requires { IsInside page.old }
-    ensures { OnOk result (Adds page.old page.new (44 ∷ field_text (spec.value_field value.now))) }
-{
-    match value.seen() {
-        Seen::Int(number) => page.put(Buffer::new().format(number).as_bytes()),
-        Seen::Text(text) => page.put(text),
-        Seen::Null => page.put(b""),
     }
 }
 

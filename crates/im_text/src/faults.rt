@@ -4,7 +4,7 @@ ghost use Rattle.im_text.specs.inner.Pages.{IsBetween, Puts};
 
 use crate::page::Page;
 use im_replies::Fault;
-use im_values::limits::{MOST_CURSORS, MOST_TABLES};
+use im_values::limits::{MOST_COLUMNS, MOST_CURSORS, MOST_TABLES};
 use im_values::{Name, NoMemory};
 
 /// The column of a grouped query, or its `*`.
@@ -78,6 +78,12 @@ pub fn put_fault(page: &mut Page, fault: &Fault) -> Result<(), NoMemory>
             "19",
             "no-unit",
             &[u64::from(*table), *extent],
+        ),
+        Fault::TooManyColumns => page.refuse("21", "too-many-columns", &[MOST_COLUMNS as u64]),
+        Fault::TableAltered { table, place } => page.refuse(
+            "22",
+            "table-altered",
+            &[u64::from(*table), *place],
         ),
         Fault::Memory { k } => page.refuse("99", "memory", &[*k]),
     }

@@ -6,4 +6,5 @@ mod PieceLemmas
 mod RankLemmas
 mod RebuiltLemmas
 mod PlanLemmas
+mod WidenLemmas
 pub mod ForCallers

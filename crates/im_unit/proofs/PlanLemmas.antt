@@ -2,23 +2,21 @@
 use Rattle.std.proofs.Common.{◌≡◌, ℕ, zero, suc, ◌+◌, ◌-◌, ◌^◌, ◌<◌, ◌≤◌, Bool, true, false, if◌then◌else◌, List, [], ◌∷◌, ◌++◌, length, filter, take, map, set, get_or, Option, Some, None, refl, sym, ap, ◌∙◌, subst, arith}
 use Rattle.std.specs.Prelude.{is_some, cond}
 use Rattle.std.specs.List.{All, AllByRecursion, range_with_len}
-use Rattle.std.specs.Option.{ForSome, option_copied}
+use Rattle.std.specs.Option.{ForSome}
 use Rattle.std.proofs.lemmas.List.{ext_get_or, get_or_append_left, get_or-append-add, get_or-map, length-append, length-map, map-append, length_push, map-set, map_push, take_more}
 use Rattle.std.proofs.lemmas.List.FromFn.{get_or-map-range_with_len, length-map-range_with_len}
 use Rattle.std.proofs.lemmas.List.Elements.{All-from_recursion, All-nil, All-push, All-set, filter_map-append, filter_more, recursion_from_All}
-use denote.Ref.{Bor}
 use mir.Val.{bool_byte}
 use Rattle.im_values.specs.declared.content.Content.{Content as Value}
 use Rattle.im_values.specs.declared.content.Content.TheVariants.{Null}
 use Rattle.im_column.specs.Forms.{IsShort}
 use Rattle.im_column.specs.Picks.{values_picked}
-use Rattle.im_history.specs.Fetched.{lent_row, lent_rows}
 use Rattle.im_history.specs.Rows.{Row}
 use Rattle.im_unit.specs.Holding.{AreShort, HaveWidth, count_present, present_rows, values_in}
 use Rattle.im_unit.specs.Rebuilt.{RiseWithin, fetched_rows, rows_with}
 use Rattle.im_unit.specs.inner.Kept.{AreRows}
 use Rattle.im_unit.specs.inner.Planned.{IsSlotFor, Planned, columns_picked, places_in, row_in, rows_picked, stock}
-use Rattle.im_unit.proofs.BuildLemmas.{short-in}
+use Rattle.im_unit.proofs.BuildLemmas.{present-more, short-in}
 use Rattle.im_unit.proofs.ForCallers as callers
 use Rattle.im_unit.proofs.KeptLemmas.{are-rows, at-columns, few-present, length-columns}
 use Rattle.im_unit.proofs.RebuiltLemmas.{each-with, length-with, rise-at, with-more}
@@ -220,57 +218,45 @@ again width first rows fetched slots planned wide wide_fetched short short_fetch
     all_short : AreShort new
     all_short = each (λ values. All IsShort values) short short_fetched
 
--- ---- what was fetched, lent
+-- ---- what was fetched
 
-abbrev LentRow : Type 0
-LentRow = ℕ × Option (Bor Row)
+abbrev Found : Type 0
+Found = ℕ × Option Row
 
-some-copied : (row : Option (Bor Row)) → is_some (option_copied row) ≡ is_some row
-some-copied None = refl
-some-copied (Some row) = refl
+pub length-rows : (fetched : List Found) → length (fetched_rows fetched) ≡ length fetched
+length-rows fetched = length-map fetched (λ (found : Found). found.1)
 
--- what was fetched at a place
-pub found-at : (fetched : List LentRow) (i : ℕ) (r : LentRow) → i < length fetched →
-    lent_row (get_or fetched i r) ≡ get_or (lent_rows fetched) i (lent_row (get_or fetched i r))
-found-at fetched i r inside = sym (get_or-map lent_row fetched i r (lent_row (get_or fetched i r)) inside)
+row-at : (fetched : List Found) (i : ℕ) (found : Found) (d : Option Row) → i < length fetched → found ≡ get_or fetched i found →
+    get_or (fetched_rows fetched) i d ≡ found.1
+row-at fetched i found d inside is = get_or-map (λ (one : Found). one.1) fetched i found d inside ∙ ap (λ (one : Found). one.1) (sym is)
 
-pub length-rows : (fetched : List LentRow) → length (fetched_rows (lent_rows fetched)) ≡ length fetched
-length-rows fetched = length-map (lent_rows fetched) (λ (found : ℕ × Option Row). found.1) ∙ length-map fetched lent_row
-
-pub row-at : (fetched : List LentRow) (i : ℕ) (r : LentRow) (d : Option Row) → i < length fetched →
-    get_or (fetched_rows (lent_rows fetched)) i d ≡ option_copied (get_or fetched i r).1
-row-at fetched i r d inside =
-    let found = lent_row (get_or fetched i r) in
-    get_or-map (λ (one : ℕ × Option Row). one.1) (lent_rows fetched) i found d (omega (arith, length-map fetched lent_row, inside))
-    ∙ ap (λ (one : ℕ × Option Row). one.1) (sym (found-at fetched i r inside))
-
-pub in-extent : (low end : ℕ) (fetched : List LentRow) (i : ℕ) (r : LentRow) → RiseWithin low end (lent_rows fetched) → i < length fetched →
-    (low ≤ (get_or fetched i r).0) × ((get_or fetched i r).0 < end)
-in-extent low end fetched i r rise inside =
-    rise-at low end (lent_rows fetched) i (lent_row (get_or fetched i r)) rise (omega (arith, length-map fetched lent_row, inside)) (found-at fetched i r inside)
+-- one more, where a row is there
+pub present-found : (fetched : List Found) (i : ℕ) (found : Found) (present longer : List Row) → i < length fetched → found ≡ get_or fetched i found →
+    present ≡ present_rows (take i (fetched_rows fetched)) → longer ≡ present ++ present_rows (found.1 ∷ []) →
+    longer ≡ present_rows (take (i + 1) (fetched_rows fetched))
+present-found fetched i found present longer inside is so_far more =
+    present-more (fetched_rows fetched) i found.1 present longer (omega (arith, length-rows fetched, inside)) (sym (row-at fetched i found found.1 inside is)) so_far
+    more
 
 -- whether a row was fetched at a place
-pub there-at : (fetched : List LentRow) (i : ℕ) (r : LentRow) (b : Bool) → i < length fetched → b ≡ is_some (get_or fetched i r).1 →
-    b ≡ is_some (get_or (fetched_rows (lent_rows fetched)) i None)
-there-at fetched i r b inside is =
-    is ∙ (sym (some-copied (get_or fetched i r).1) ∙ ap is_some (sym (row-at fetched i r None inside)))
+pub there-at : (fetched : List Found) (i : ℕ) (found : Found) (b : Bool) → i < length fetched → found ≡ get_or fetched i found → b ≡ is_some found.1 →
+    b ≡ is_some (get_or (fetched_rows fetched) i None)
+there-at fetched i found b inside is is_there = is_there ∙ ap is_some (sym (row-at fetched i found None inside is))
 
 -- one more that was fetched is put in its place
-pub put-more : (rows : List (Option Row)) (first : ℕ) (fetched : List LentRow) (i place : ℕ) (b : Bool) (slot : Option ℕ) (slots : List (Option ℕ))
-    (one other : LentRow) → i < length fetched → RiseWithin first (first + length rows) (lent_rows fetched) → b ≡ is_some (get_or fetched i other).1 →
-    place ≡ length (present_rows rows) + count_present (take i (fetched_rows (lent_rows fetched))) → slot ≡ (if b then Some place else None) →
-    Planned (stock rows (lent_rows fetched)) slots (rows_with (take i (lent_rows fetched)) first rows) →
-    Planned (stock rows (lent_rows fetched)) (set slots ((get_or fetched i one).0 - first) slot) (rows_with (take (i + 1) (lent_rows fetched)) first rows)
-put-more rows first fetched i place b slot slots one other inside rise is_there is_place is_slot before =
-    let found = lent_row (get_or fetched i one) in
-    let fresh = fetched_rows (lent_rows fetched) in
-    let extent = in-extent first (first + length rows) fetched i one rise inside in
-    let is = slot-for (stock rows (lent_rows fetched)) (length (present_rows rows)) fresh i place b slot (stands-behind (present_rows rows) fresh)
-    (there-at fetched i other b inside is_there) is_place is_slot in
-    planned-set (stock rows (lent_rows fetched)) slots (rows_with (take i (lent_rows fetched)) first rows)
-    (rows_with (take (i + 1) (lent_rows fetched)) first rows) (found.0 - first) slot found.1 before
-    (subst (IsSlotFor (stock rows (lent_rows fetched)) slot) (row-at fetched i one None inside) is)
-    (with-more (lent_rows fetched) first rows i found (omega (arith, length-map fetched lent_row, inside)) (found-at fetched i one inside) extent.0 extent.1)
+pub put-more : (rows : List (Option Row)) (first : ℕ) (fetched : List Found) (i place : ℕ) (b : Bool) (slot : Option ℕ) (slots : List (Option ℕ))
+    (found : Found) → i < length fetched → found ≡ get_or fetched i found → RiseWithin first (first + length rows) fetched → b ≡ is_some found.1 →
+    place ≡ length (present_rows rows) + count_present (take i (fetched_rows fetched)) → slot ≡ (if b then Some place else None) →
+    Planned (stock rows fetched) slots (rows_with (take i fetched) first rows) →
+    Planned (stock rows fetched) (set slots (found.0 - first) slot) (rows_with (take (i + 1) fetched) first rows)
+put-more rows first fetched i place b slot slots found inside is rise is_there is_place is_slot before =
+    let fresh = fetched_rows fetched in
+    let extent = rise-at first (first + length rows) fetched i found rise inside is in
+    let for_it = slot-for (stock rows fetched) (length (present_rows rows)) fresh i place b slot (stands-behind (present_rows rows) fresh)
+    (there-at fetched i found b inside is is_there) is_place is_slot in
+    planned-set (stock rows fetched) slots (rows_with (take i fetched) first rows) (rows_with (take (i + 1) fetched) first rows) (found.0 - first) slot found.1
+    before (subst (IsSlotFor (stock rows fetched) slot) (row-at fetched i found None inside is) for_it)
+    (with-more fetched first rows i found inside is extent.0 extent.1)
 
 -- a flag counted
 pub byte-is : (b : Bool) → bool_byte b ≡ cond b 1 0

@@ -1,10 +1,11 @@
 -- What is read of a column unit.
 use Rattle.std.specs.Prelude.{◌≡◌, ℕ, ◌-◌, nat_lt, List, length, map, take, get_or, Option, Some, None, is_some, if◌then◌else◌}
 use Rattle.std.specs.List.{All, AllByRecursion}
-use Rattle.std.specs.Option.{ForSome, option_copied}
+use Rattle.std.specs.Option.{ForSome, option_copied, option_map}
 use denote.Ref.{Bor}
 use Rattle.im_values.specs.declared.content.Content.{Content as Value}
 use Rattle.im_values.specs.declared.content.Content.TheVariants.{Null}
+use Rattle.im_values.specs.Widened.{widened}
 use Rattle.im_index.specs.declared.bounds.Bounds.{Bounds}
 use Rattle.im_index.specs.Bounds.{bounds_of}
 use Rattle.im_column.specs.Forms.{IsShort}
@@ -31,6 +32,10 @@ edges_of content = map bounds_of (columns_of content)
 -- rows that are lent, or none
 abbrev pub lent_slots : List (Option (Bor Row)) → List (Option Row)
 lent_slots slots = map option_copied slots
+
+-- the same, each row with these defaults from its length on
+abbrev pub wide_slots : List Value → List (Option (Bor Row)) → List (Option Row)
+wide_slots defaults slots = map (option_map (widened defaults)) (lent_slots slots)
 
 -- each row that is present has so many values
 abbrev pub HaveWidth : ℕ → List (Option Row) → Type 0

@@ -1,3 +1,4 @@
 pub mod Holding
 pub mod Rebuilt
+pub mod Widened
 pub mod inner

@@ -9,7 +9,8 @@
 //! was given, so that a unit of the rows committed at its SCN answers each scan at that SCN as the versions would.
 //!
 //! [`ColumnUnit::rebuild`] makes a unit of an old one and the rows that were fetched since (`specs/Rebuilt.antt`). Columns that did
-//! not change are shared, and dictionaries that still fit are kept.
+//! not change are shared, and dictionaries that still fit are kept. [`ColumnUnit::widened`] makes one with the columns that its table
+//! got since (`specs/Widened.antt`).
 //!
 //! Start with `unit.rt`, then `specs/Holding.antt` and `specs/inner/Kept.antt`; for `rebuild` go on with `specs/Rebuilt.antt`,
 //! `planning.rt` and `rebuilding.rt`.
@@ -22,6 +23,7 @@ mod reading;
 mod rebuilding;
 mod size;
 mod unit;
+mod widening;
 
 pub use size::unit_bytes;
 pub use unit::ColumnUnit;

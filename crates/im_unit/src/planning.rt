@@ -1,5 +1,4 @@
 ghost use Rattle.std.specs.Prelude.{◌≡◌, ◌+◌, ◌++◌, ◌^◌, ◌<◌, ◌∷◌, [], IfOk, List, OnOk, Some, None, length, if◌then◌else◌};
-ghost use Rattle.im_history.specs.Fetched.{lent_rows};
 ghost use Rattle.im_history.specs.Rows.{Row};
 ghost use Rattle.im_unit.specs.Holding.{present_rows};
 ghost use Rattle.im_unit.specs.Rebuilt.{RiseWithin, rows_with};
@@ -19,9 +18,9 @@ pub fn planned(
     old: &ColumnUnit,
     fetched: &[LentRow<'_>],
 ) -> Result<Vec<Option<u32>>, NoMemory>
-    requires { RiseWithin old.now.first (old.now.first + length old.now.rows) (lent_rows fetched.now) }
+    requires { RiseWithin old.now.first (old.now.first + length old.now.rows) fetched.now }
     ensures planned { IfOk result (λ slots.
-        Planned (stock old.now.rows (lent_rows fetched.now)) slots.items (rows_with (lent_rows fetched.now) old.now.first old.now.rows)) }
+        Planned (stock old.now.rows fetched.now) slots.items (rows_with fetched.now old.now.first old.now.rows)) }
     ensures few { IfOk result (λ slots. length slots.items < 2 ^ 31) }
 {
     let _ = old.len();
@@ -53,16 +52,16 @@ fn slots_before(alloc: Global, old: &ColumnUnit) -> Result<Vec<Option<u32>>, NoM
 
 /// Puts the place of each fetched row, or none, in place of what stands at its row number.
 fn put_fetched(slots: &mut Vec<Option<u32>>, old: &ColumnUnit, fetched: &[LentRow<'_>])
-    requires within { RiseWithin old.now.first (old.now.first + length old.now.rows) (lent_rows fetched.now) }
+    requires within { RiseWithin old.now.first (old.now.first + length old.now.rows) fetched.now }
     requires before { (more : List Row) → Planned (present_rows old.now.rows ++ more) slots.old.items old.now.rows }
-    ensures { Planned (stock old.now.rows (lent_rows fetched.now)) slots.new.items (rows_with (lent_rows fetched.now) old.now.first old.now.rows) }
+    ensures { Planned (stock old.now.rows fetched.now) slots.new.items (rows_with fetched.now old.now.first old.now.rows) }
 {
     let _ = old.len();
     let first = old.first();
     let mut place = old.present() as u32;
     for i in 0..fetched.len() {
-        let (rid, row) = fetched[i];
-        slots[(rid - first) as usize] = slot_of(row.is_some(), place);
+        let (rid, row) = &fetched[i];
+        slots[(*rid - first) as usize] = slot_of(row.is_some(), place);
         place += u32::from(row.is_some());
     }
 }

@@ -7,24 +7,28 @@ use im_bits::{Bits, words_for};
 use im_values::NoMemory;
 use std::alloc::Global;
 use std::marker::Model;
+use std::sync::Arc;
 
 /// Which rows of an extent are present: a bit for each row number. There are fewer than 2^31.
+///
+/// It never changes, so units with other columns of the same rows share it.
 #[derive(Drop)]
 pub struct Presence {
-    bits: Bits,
-    ranks: Vec<u64>,
+    bits: Arc<Bits>,
+    ranks: Arc<Vec<u64>>,
     count: u64,
 }
 
 impl Model for Presence {
     ghost use Rattle.std.specs.Prelude.{◌≡◌, ◌^◌, ◌<◌, List, Bool, map, nat_lt};
+    ghost use Rattle.std.specs.Arc.{arc_value};
     ghost use Rattle.im_unit.specs.inner.Kept.{count_set, ranks_of};
 
     ghost Value = { List Bool };
 
-    ghost view = { λ p. map (nat_lt 0) p.bits.codes };
+    ghost view = { λ p. map (nat_lt 0) (arc_value p.bits).codes };
 
-    ghost invariant = { λ p. (p.count ≡ count_set (map (nat_lt 0) p.bits.codes)) × (p.count < 2 ^ 31) × (p.ranks.items ≡ ranks_of (map (nat_lt 0) p.bits.codes)) };
+    ghost invariant = { λ p. (p.count ≡ count_set (map (nat_lt 0) (arc_value p.bits).codes)) × (p.count < 2 ^ 31) × ((arc_value p.ranks).items ≡ ranks_of (map (nat_lt 0) (arc_value p.bits).codes)) };
 }
 
 /// 1 for a row, and 0 for none.
@@ -123,7 +127,22 @@ impl Presence {
         let bits = Bits::pack(alloc, flags.as_slice(), 1)?;
         let ranks = ranks_of(alloc, flags.as_slice())?;
         let count = count_at(&bits, ranks.as_slice(), bits.len());
-        Ok(Presence { bits, ranks, count })
+        Ok(Presence {
+            bits: Arc::new(alloc, bits)?,
+            ranks: Arc::new(alloc, ranks)?,
+            count,
+        })
+    }
+
+    /// The same, shared. It is refused where as many share it as can.
+    pub fn share(&self) -> Result<Presence, NoMemory>
+        ensures { IfOk result (λ presence. presence ≡ self.now) }
+    {
+        Ok(Presence {
+            bits: self.bits.clone()?,
+            ranks: self.ranks.clone()?,
+            count: self.count,
+        })
     }
 
     /// How many row numbers there are.

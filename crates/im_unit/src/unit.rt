@@ -1,11 +1,12 @@
-ghost use Rattle.std.specs.Prelude.{◌≡◌, ◌+◌, ◌<◌, ◌≤◌, ◌^◌, map, length, sum_by, get_or, take, IfOk, Some, None, is_some, if◌then◌else◌};
+ghost use Rattle.std.specs.Prelude.{◌≡◌, ◌+◌, ◌<◌, ◌≤◌, ◌^◌, All, map, length, sum_by, get_or, take, IfOk, Some, None, is_some, if◌then◌else◌};
 ghost use Rattle.std.specs.Bool.{OnTrue};
 ghost use Rattle.std.specs.Arc.{arc_value};
 ghost use Rattle.im_values.specs.Sizes.{column_bytes};
 ghost use Rattle.im_index.specs.Bounds.{bounds_of};
-ghost use Rattle.im_unit.specs.Holding.{AreShort, HaveWidth, columns_of, count_present, edges_of, lent_slots, present_rows, row_of, spot_of, values_in};
-ghost use Rattle.im_history.specs.Fetched.{lent_rows};
+ghost use Rattle.im_unit.specs.Holding.{AreShort, HaveWidth, columns_of, count_present, edges_of, present_rows, row_of, spot_of, values_in, wide_slots};
 ghost use Rattle.im_unit.specs.Rebuilt.{RiseWithin, fetched_rows, rebuilt};
+ghost use Rattle.im_unit.specs.Widened.{widened_content};
+ghost use Rattle.im_column.specs.Forms.{IsShort};
 ghost use Rattle.im_unit.specs.inner.Kept.{AreBounded, HaveLength, content_kept, count_set, rows_kept};
 
 use crate::building::{columns_of, lend_slots, rows_present};
@@ -13,6 +14,7 @@ use crate::planning::{places_of, planned};
 use crate::presence::Presence;
 use crate::reading::{push_row, row_at, rows_of, slots_of, spread_rows};
 use crate::rebuilding::{columns_again, fresh_rows};
+use crate::widening::columns_widened;
 use im_column::Column;
 use im_history::{LentRow, UnitLike};
 use im_index::Bounds;
@@ -121,28 +123,29 @@ impl ColumnUnit {
             unit ≡ record { scn = scn; first = first; columns = columns; rows = rows.now }) }
     {
         let slots = lend_slots(alloc, rows)?;
-        ColumnUnit::build_lent(alloc, scn, first, columns, slots.as_slice())
+        ColumnUnit::build_lent(alloc, scn, first, columns, slots.as_slice(), &[])
     }
 
-    /// The same of rows that are lent. It takes no handle of any.
+    /// The same of rows that are lent as they were written, each with these defaults from its length on. It takes no handle of any.
     pub fn build_lent(
         alloc: Global,
         scn: u64,
         first: u64,
         columns: u32,
         rows: &[Option<&[Value]>],
+        defaults: &[Value],
     ) -> Result<ColumnUnit, NoMemory>
-        requires width { HaveWidth columns (lent_slots rows.now) }
-        requires short { AreShort (lent_slots rows.now) }
+        requires width { HaveWidth columns (wide_slots defaults.now rows.now) }
+        requires short { AreShort (wide_slots defaults.now rows.now) }
         requires few_columns { columns ≤ MOST_COLUMNS }
         requires few_rows { length rows.now < 2 ^ 31 }
         requires within { first + length rows.now < 2 ^ 64 }
         ensures { IfOk result (λ unit.
-            unit ≡ record { scn = scn; first = first; columns = columns; rows = lent_slots rows.now }) }
+            unit ≡ record { scn = scn; first = first; columns = columns; rows = wide_slots defaults.now rows.now }) }
     {
         let presence = Presence::of(alloc, rows)?;
         let present = rows_present(alloc, rows)?;
-        let columns = columns_of(alloc, present.as_slice(), columns as usize)?;
+        let columns = columns_of(alloc, present.as_slice(), defaults, columns as usize)?;
         let unit = of_parts(alloc, scn, first, presence, columns)?;
         Ok(unit)
     }
@@ -159,10 +162,10 @@ impl ColumnUnit {
         scn: u64,
         fetched: &[LentRow<'_>],
     ) -> Result<ColumnUnit, NoMemory>
-        requires within { RiseWithin old.now.first (old.now.first + length old.now.rows) (lent_rows fetched.now) }
-        requires width { HaveWidth old.now.columns (fetched_rows (lent_rows fetched.now)) }
-        requires short { AreShort (fetched_rows (lent_rows fetched.now)) }
-        ensures { IfOk result (λ unit. unit ≡ rebuilt old.now scn (lent_rows fetched.now)) }
+        requires within { RiseWithin old.now.first (old.now.first + length old.now.rows) fetched.now }
+        requires width { HaveWidth old.now.columns (fetched_rows fetched.now) }
+        requires short { AreShort (fetched_rows fetched.now) }
+        ensures { IfOk result (λ unit. unit ≡ rebuilt old.now scn fetched.now) }
     {
         let slots = planned(alloc, old, fetched)?;
         let presence = Presence::of(alloc, slots.as_slice())?;
@@ -176,6 +179,27 @@ impl ColumnUnit {
             old.presence.count(),
         )?;
         let unit = of_parts(alloc, scn, old.first, presence, columns)?;
+        Ok(unit)
+    }
+
+    /// The same unit with as many columns as there are defaults: its own, shared, and behind them one for each default that comes
+    /// after these, which stands in each row that is present.
+    ///
+    /// It costs the columns, and nothing for a row.
+    pub fn widened(&self, alloc: Global, defaults: &[Value]) -> Result<ColumnUnit, NoMemory>
+        requires more { self.now.columns ≤ length defaults.now }
+        requires few { length defaults.now ≤ MOST_COLUMNS }
+        requires short { All IsShort defaults.now }
+        ensures { IfOk result (λ unit. unit ≡ widened_content defaults.now self.now) }
+    {
+        let columns = columns_widened(
+            alloc,
+            self.columns.as_slice(),
+            self.presence.count(),
+            defaults,
+        )?;
+        let presence = self.presence.share()?;
+        let unit = of_parts(alloc, self.scn, self.first, presence, columns)?;
         Ok(unit)
     }
 
@@ -317,6 +341,10 @@ impl UnitLike for ColumnUnit {
 
     fn scn(&self) -> u64 {
         self.scn
+    }
+
+    fn columns(&self) -> u32 {
+        self.columns.len() as u32
     }
 
     fn bytes(&self) -> u64 {

@@ -1,5 +1,5 @@
 -- What a value is, by how it is kept.
-use Rattle.std.specs.Prelude.{List, ℕ, ◌≤◌, take}
+use Rattle.std.specs.Prelude.{◌≤◌, take}
 use Rattle.std.specs.Arc.{arc_value}
 use Rattle.im_values.specs.declared.content.Content.{Content}
 use Rattle.im_values.specs.declared.content.Content.TheVariants.{Int, Text, Null}

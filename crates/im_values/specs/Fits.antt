@@ -21,3 +21,9 @@ fits [] [] = true
 fits [] (column ∷ columns) = false
 fits (value ∷ values) [] = false
 fits (value ∷ values) (column ∷ columns) = may_stand column.kind value && fits values columns
+
+-- the values may stand in the first columns: so it is of a row that a table took when it had no other columns
+abbrev pub fits_first : List Value → List Column → Bool
+fits_first [] columns = true
+fits_first (value ∷ values) [] = false
+fits_first (value ∷ values) (column ∷ columns) = may_stand column.kind value && fits_first values columns

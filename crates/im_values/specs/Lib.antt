@@ -6,3 +6,4 @@ pub mod Sizes
 pub mod Stretches
 pub mod Text
 pub mod Truth
+pub mod Widened

@@ -21,6 +21,7 @@ mod schema;
 mod steps;
 mod truth;
 mod value;
+mod wide;
 
 pub use comparison::{Cmp, compare, order};
 pub use content::Content;
@@ -34,3 +35,4 @@ pub use schema::{Column, Kind, Schema, fits};
 pub use steps::Steps;
 pub use truth::Truth;
 pub use value::{Seen, Value};
+pub use wide::{RowValues, WideRun, widen};

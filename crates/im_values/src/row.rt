@@ -1,4 +1,4 @@
-ghost use Rattle.std.specs.Prelude.{◌≡◌, ◌+◌, ◌*◌, ◌≤◌, IfOk, length};
+ghost use Rattle.std.specs.Prelude.{◌≡◌, ◌+◌, ◌*◌, ◌≤◌, ◌++◌, [], ◌∷◌, IfOk, OnOk, length};
 ghost use Rattle.std.specs.List.{slice_range};
 ghost use Rattle.std.specs.Arc.{arc_value};
 ghost use Rattle.im_values.specs.Stretches.{cut};
@@ -50,6 +50,23 @@ impl Row {
         }
     }
 
+    /// A row of these values, which its copies share.
+    pub fn shared(alloc: Global, values: Vec<Value>) -> Result<Row, NoMemory>
+        ensures { IfOk result (λ row. row ≡ values.items) }
+    {
+        let width = values.len();
+        Ok(Row::stretch(Arc::new(alloc, values)?, 0, width))
+    }
+
+    /// A row of these values and one more, which its copies share.
+    pub fn with(&self, alloc: Global, value: &Value) -> Result<Row, NoMemory>
+        ensures { IfOk result (λ row. row ≡ self.now ++ value.now ∷ []) }
+    {
+        let mut values = copied(alloc, self.values())?;
+        values.push(value.copy(alloc)?)?;
+        Row::shared(alloc, values)
+    }
+
     /// A stretch of a block, of so many values from a place on.
     pub(crate) fn stretch(block: Arc<Vec<Value>>, first: usize, width: usize) -> Row
         requires { first + width ≤ length (arc_value block).items }
@@ -92,6 +109,20 @@ pub fn copied(alloc: Global, values: &[Value]) -> Result<Vec<Value>, NoMemory>
         copies.push(value.copy(alloc)?)?;
     }
     Ok(copies)
+}
+
+/// Puts a copy of each of these values behind others.
+pub(crate) fn append(
+    alloc: Global,
+    values: &mut Vec<Value>,
+    others: &[Value],
+) -> Result<(), NoMemory>
+    ensures { OnOk result (values.new.items ≡ values.old.items ++ others.now) }
+{
+    for other in others {
+        values.push(other.copy(alloc)?)?;
+    }
+    Ok(())
 }
 
 /// Rows that share one block: the first so many values are the first row, and so on.

@@ -1,4 +1,4 @@
-ghost use Rattle.std.specs.Prelude.{◌≡◌, ◌+◌, ◌-◌, ◌*◌, ◌<◌, ◌≤◌, ◌==◌, ◌++◌, [], All, drop, get_or, length, slice_get, take, IfOk, Some};
+ghost use Rattle.std.specs.Prelude.{◌≡◌, ◌+◌, ◌-◌, ◌*◌, ◌<◌, ◌≤◌, ◌==◌, ◌++◌, [], All, drop, get_or, length, map, slice_get, take, IfOk, Some};
 ghost use Rattle.std.specs.List.{slice_range};
 ghost use Rattle.std.specs.Arc.{arc_value};
 ghost use Rattle.im_values.specs.Runs.{picked, rows_in, rows_of_both, AreBothThere, LieInside};
@@ -294,6 +294,13 @@ impl Rows {
             at,
         );
         Ok(Row::stretch(found.block.clone()?, found.start, width))
+    }
+
+    /// How many values each row has.
+    pub fn width(&self) -> usize
+        ensures { All (λ row. length row ≡ result) self.now }
+    {
+        self.width as usize
     }
 
     /// The same rows, shared. It is refused where as many share the block as can.

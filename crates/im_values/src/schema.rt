@@ -1,4 +1,4 @@
-ghost use Rattle.std.specs.Prelude.{◌≡◌, ◌≤◌, IfOk, length};
+ghost use Rattle.std.specs.Prelude.{◌≡◌, ◌<◌, ◌≤◌, ◌++◌, [], ◌∷◌, IfOk, length};
 ghost use Rattle.im_values.specs.Fits as spec;
 
 use crate::limits::MOST_COLUMNS;
@@ -35,6 +35,18 @@ impl Kind {
 pub struct Column {
     pub name: Name,
     pub kind: Kind,
+}
+
+impl Column {
+    /// The same column once more.
+    pub fn copy(&self, alloc: Global) -> Result<Column, NoMemory>
+        ensures { IfOk result (λ column. column ≡ self.now) }
+    {
+        Ok(Column {
+            name: self.name.copy(alloc)?,
+            kind: self.kind,
+        })
+    }
 }
 
 /// The columns of a table, in order: at least one, and at most [`MOST_COLUMNS`].
@@ -80,6 +92,16 @@ impl Schema {
         self.columns.as_slice()
     }
 
+    /// A schema of these columns and one more. It copies them.
+    pub fn with(&self, alloc: Global, column: &Column) -> Result<Schema, NoMemory>
+        requires { length self.now < MOST_COLUMNS }
+        ensures { IfOk result (λ schema. schema ≡ self.now ++ column.now ∷ []) }
+    {
+        let mut columns = copies(alloc, self.columns())?;
+        columns.push(column.copy(alloc)?)?;
+        Schema::of(alloc, columns)
+    }
+
     /// The same schema, shared. It is refused where as many share it as can.
     pub fn share(&self) -> Result<Schema, NoMemory>
         ensures { IfOk result (λ schema. schema ≡ self.now) }
@@ -88,6 +110,17 @@ impl Schema {
             columns: Arc::try_clone(&self.columns)?,
         })
     }
+}
+
+/// The same columns once more.
+fn copies(alloc: Global, columns: &[Column]) -> Result<Vec<Column>, NoMemory>
+    ensures { IfOk result (λ copies. copies.items ≡ columns.now) }
+{
+    let mut copies = Vec::with_capacity(alloc, columns.len())?;
+    for column in columns {
+        copies.push(column.copy(alloc)?)?;
+    }
+    Ok(copies)
 }
 
 /// Whether a row may stand in a table: it has a value for each column, and each is NULL or of the column's kind and

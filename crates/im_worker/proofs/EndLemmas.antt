@@ -19,7 +19,7 @@ use Rattle.im_replies.specs.declared.task.Ending.{Ending}
 use Rattle.im_replies.specs.declared.task.Ending.TheVariants as ending
 use Rattle.im_statements.specs.Background.{end_by, ending_by, fits_area}
 use Rattle.im_worker.specs.inner.Rests.{IsEnded, told_by}
-use Rattle.im_worker.proofs.StandingLaws.{content-later, legal-before, scn-own}
+use Rattle.im_worker.proofs.StandingLaws.{IsReached, content-later, legal-before, reached-own}
 
 -- what its unit counts for, others having gone on
 bytes-at : (old new : Known) (who : ℕ) (task : Task) (bytes : ℕ) (unit : Content) (what : What) (at : History) → IsLegal new.limits new.log
@@ -31,8 +31,8 @@ bytes-at old new who task bytes unit what at legal own holds is after now =
     here : IsLegal new.limits at
     here = (IsLegal-pop new.limits at (record { who = who; what = what }) (subst (IsLegal new.limits) (ap (λ (s : Known). s.log) now) legal)).0
 
-    within : task.scn ≤ scn old.log
-    within = scn-own new.limits old.log who task (legal-before new.limits old.log after.between (subst (IsLegal new.limits) after.log here)) own
+    within : IsReached old.log task
+    within = reached-own new.limits old.log who task (legal-before new.limits old.log after.between (subst (IsLegal new.limits) after.log here)) own
 
 -- the facts of an end, by whether something killed the build and whether its unit fits
 ended-by : (old new : Known) (who : ℕ) (task : Task) (at : History) (killed : Option ℕ) (fit : _) (told : Ending) → After (AreOthers old.side) old.log at

@@ -8,11 +8,12 @@ use Rattle.im_history.specs.History.{History}
 use Rattle.im_history.specs.Legal.{Exists, IsLawful}
 use Rattle.im_history.specs.Tables.{tables}
 use Rattle.im_history.specs.Views.{look_at}
+use Rattle.im_history.proofs.ShapeLaws.{defaults-fit}
 use Rattle.im_names.specs.declared.fault.NameFault.{NameFault}
 use Rattle.im_names.specs.declared.fault.NameFault.TheVariants.{NoMemory}
 use Rattle.im_names.specs.declared.resolved.Resolved.{Resolved}
 use Rattle.im_names.specs.declared.resolved.Resolved.TheVariants as resolved
-use Rattle.im_names.specs.Fitting.{OfTable, Serves, columns_at}
+use Rattle.im_names.specs.Fitting.{DefaultsFit, OfTable, Serves, columns_at}
 use Rattle.im_names.specs.Statements.{resolution}
 use Rattle.im_plan.specs.Plan.{Plan, End}
 use Rattle.im_reach.specs.Sides.{Found, Known, speaks}
@@ -108,8 +109,11 @@ serves-extent ts (resolved.Evict table extent) both serves is =
     let same : (table, extent) ≡ both = cc in subst (λ (b : ℕ × ℕ). OfTable ts b.0 (λ columns. Unit {0})) same serves
 serves-extent ts _ both serves is = absurd (none_there is)
 
-pub named-exists : (who : ℕ) (look : Look) (r : Resolved) (both : ℕ × ℕ) (old mid : Known) → Looks who look old mid → Serves look.tables r
-    → extent_of r ≡ Some both → Exists mid.log both.0
-named-exists who look r both old mid found serves is =
-    let of = serves-extent look.tables r both serves is in
-    exists-of mid.log both.0 of.columns (ap (λ (ts : List TableInfo). columns_at ts both.0) (sym (tables-seen who look old mid found)) ∙ of.are_of)
+pub named-exists : (who : ℕ) (look : Look) (r : Resolved) (both : ℕ × ℕ) (old mid : Known) → Looks who look old mid → IsLawful mid.limits mid.log
+    → (DefaultsFit look.tables → Serves look.tables r) → extent_of r ≡ Some both → Exists mid.log both.0
+named-exists who look r both old mid found lawful serves is =
+    let seen = tables-seen who look old mid found in
+    let fit : DefaultsFit look.tables =
+    subst DefaultsFit (sym seen) (record { each = λ number table there. defaults-fit mid.limits mid.log number table lawful.legal there }) in
+    let of = serves-extent look.tables r both (serves fit) is in
+    exists-of mid.log both.0 of.columns (ap (λ (ts : List TableInfo). columns_at ts both.0) (sym seen) ∙ of.are_of)

@@ -15,14 +15,16 @@ use Rattle.im_history.specs.declared.task.Held.{Held}
 use Rattle.im_history.specs.declared.task.Task.{Task}
 use Rattle.im_history.specs.Commits.{scn}
 use Rattle.im_history.specs.History.{History, behind}
-use Rattle.im_history.specs.Legal.{IsAllowed, IsLegal, IsLegalFrom, MayEnd}
+use Rattle.im_history.specs.Legal.{Exists, IsAllowed, IsLegal, IsLegalFrom, MayEnd}
 use Rattle.im_history.specs.Queue.{build_of, task_of}
-use Rattle.im_history.specs.Rows.{Row, rows}
+use Rattle.im_history.specs.Rows.{Row}
 use Rattle.im_history.specs.Tables.{given}
-use Rattle.im_history.specs.Units.{Content, IsOwn, held, held_at, rows_of_extent, task_content}
+use Rattle.im_history.specs.Units.{Content, IsOwn, held, held_at, rows_of_extent, task_content, unit_row}
+use Rattle.im_history.proofs.ContentLaws.{unit_row-push}
 use Rattle.im_history.proofs.HeldLaws.{held-within}
-use Rattle.im_history.proofs.Laws.{IsLegal-pop}
-use Rattle.im_history.proofs.RowLaws.{rows-append}
+use Rattle.im_history.proofs.Laws.{IsLegal-pop, scn-push}
+use Rattle.im_history.proofs.RowLaws.{each_longer}
+use Rattle.im_history.proofs.TableLaws.{Exists-push}
 use Rattle.im_history.proofs.UnitLaws.{held-push, is_plain}
 use Rattle.im_plan.specs.Goes.{After}
 use Rattle.im_reach.specs.Sides.{AreOthers, StoreSide, speaks}
@@ -40,17 +42,42 @@ map_same f g same (k ∷ ks) = ap₂ (λ x xs. x ∷ xs) (same k) (map_same f g 
 abbrev pub content_of : Task → List (Option Row) → Content
 content_of task list = record { scn = task.scn; first = task.extent * task.per; columns = task.columns; rows = list }
 
--- it stays, once the SCN of the build was reached
-pub content-later : (h more : History) (task : Task) → task.scn ≤ scn h → task_content (h ++ more) task ≡ task_content h task
-content-later h more task within =
+-- the table of a build exists, and the build's SCN was reached
+pub record IsReached (h : History) (task : Task) : Type 0 where
+  pub exists : Exists h task.table
+  pub scn : task.scn ≤ scn h
+
+IsReached-push : (h : History) (entry : Entry) (task : Task) → IsReached h task → IsReached (h ++ entry ∷ []) task
+IsReached-push h entry task reached = record {
+  exists = Exists-push h entry task.table reached.exists;
+  scn = let before = reached.scn in let moved = scn-push h entry in omega (arith, before, moved);
+}
+
+-- a row of its unit stays
+record RowStays (h : History) (task : Task) (rid : ℕ) (now : History) : Type 0 where
+  reached : IsReached now task
+  same : unit_row now task.table task.scn rid ≡ unit_row h task.table task.scn rid
+
+row-later : (h more : History) (task : Task) (rid : ℕ) → IsReached h task
+    → unit_row (h ++ more) task.table task.scn rid ≡ unit_row h task.table task.scn rid
+row-later h more task rid reached =
+    (each_longer (RowStays h task rid)
+    (λ now entry so_far. record {
+      reached = IsReached-push now entry task so_far.reached;
+      same = unit_row-push now entry task.table task.scn rid so_far.reached.exists so_far.reached.scn ∙ so_far.same;
+    }) h more (record { reached = reached; same = refl })).same
+
+-- so what it is to hold stays
+pub content-later : (h more : History) (task : Task) → IsReached h task → task_content (h ++ more) task ≡ task_content h task
+content-later h more task reached =
     ap (content_of task)
-    (map_same (rows (h ++ more) task.table task.scn) (rows h task.table task.scn) (λ rid. rows-append h more task.table task.scn rid within)
+    (map_same (unit_row (h ++ more) task.table task.scn) (unit_row h task.table task.scn) (λ rid. row-later h more task rid reached)
     (rows_of_extent task.per task.extent))
 
--- the SCN of a build was reached
-pub scn-own : (limits : Limits) (h : History) (who : ℕ) (task : Task) → IsLegal limits h → IsOwn h who task → task.scn ≤ scn h
-scn-own limits h who task legal own =
-    subst (λ (t : Task). t.scn ≤ scn h) own.same (held-within limits h task.id own.held legal own.is).scn
+pub reached-own : (limits : Limits) (h : History) (who : ℕ) (task : Task) → IsLegal limits h → IsOwn h who task → IsReached h task
+reached-own limits h who task legal own =
+    let within = held-within limits h task.id own.held legal own.is in
+    subst (IsReached h) own.same (record { exists = within.exists; scn = within.scn })
 
 -- ---- entries of others
 
@@ -106,21 +133,21 @@ builds-other limits h entry who legal allowed other = by entry.what refl allowed
 -- ---- what is held, one entry on
 
 -- the builds that are held were begun by now
-scn-ready : (limits : Limits) (h : History) (who : ℕ) (builds : List Ready) (more : List Task) → IsLegal limits h → Stands who builds more h
-    → AllByRecursion (λ ready. ready.task.scn ≤ scn h) builds
-scn-ready limits h who builds more legal stands =
+reached-ready : (limits : Limits) (h : History) (who : ℕ) (builds : List Ready) (more : List Task) → IsLegal limits h → Stands who builds more h
+    → AllByRecursion (λ ready. IsReached h ready.task) builds
+reached-ready limits h who builds more legal stands =
     of_tasks builds
-    (all-first (λ (task : Task). task.scn ≤ scn h) (tasks_of builds) more
-    (subst (AllByRecursion (λ task. task.scn ≤ scn h)) stands.tasks
-    (all-weaker (IsOwn h who) (λ task. task.scn ≤ scn h) (λ task own. scn-own limits h who task legal own) (builds_of h who)
+    (all-first (IsReached h) (tasks_of builds) more
+    (subst (AllByRecursion (IsReached h)) stands.tasks
+    (all-weaker (IsOwn h who) (IsReached h) (λ task own. reached-own limits h who task legal own) (builds_of h who)
     (builds-own limits h who legal))))
   where
-    of_tasks : (list : List Ready) → AllByRecursion (λ task. task.scn ≤ scn h) (tasks_of list) → AllByRecursion (λ ready. ready.task.scn ≤ scn h) list
+    of_tasks : (list : List Ready) → AllByRecursion (IsReached h) (tasks_of list) → AllByRecursion (λ ready. IsReached h ready.task) list
     of_tasks [] all = tt
     of_tasks (first ∷ rest) all = (all.0, of_tasks rest all.1)
 
 -- so their units are still what they are to be
-ready-push : (h : History) (entry : Entry) (builds : List Ready) → AllByRecursion (λ ready. ready.task.scn ≤ scn h) builds
+ready-push : (h : History) (entry : Entry) (builds : List Ready) → AllByRecursion (λ ready. IsReached h ready.task) builds
     → AllByRecursion (λ ready. ready.content ≡ task_content h ready.task) builds
     → AllByRecursion (λ ready. ready.content ≡ task_content (h ++ entry ∷ []) ready.task) builds
 ready-push h entry [] within all = tt
@@ -139,7 +166,7 @@ own-ready limits h who builds more legal tasks =
 
 -- the builds after one more entry
 made_of : (limits : Limits) (h : History) (entry : Entry) (who : ℕ) (builds : List Ready) (more : List Task) → IsLegal limits (h ++ entry ∷ [])
-    → AllByRecursion (λ ready. ready.task.scn ≤ scn h) builds → AllByRecursion (λ ready. ready.content ≡ task_content h ready.task) builds
+    → AllByRecursion (λ ready. IsReached h ready.task) builds → AllByRecursion (λ ready. ready.content ≡ task_content h ready.task) builds
     → builds_of (h ++ entry ∷ []) who ≡ tasks_of builds ++ more → Stands who builds more (h ++ entry ∷ [])
 made_of limits h entry who builds more legal within ready tasks = record {
   tasks = tasks;
@@ -151,7 +178,7 @@ made_of limits h entry who builds more legal within ready tasks = record {
 stands-same : (limits : Limits) (h : History) (entry : Entry) (who : ℕ) (builds : List Ready) (more : List Task) → IsLegal limits (h ++ entry ∷ [])
     → builds_of (h ++ entry ∷ []) who ≡ builds_of h who → Stands who builds more h → Stands who builds more (h ++ entry ∷ [])
 stands-same limits h entry who builds more legal same stands =
-    made_of limits h entry who builds more legal (scn-ready limits h who builds more (IsLegal-pop limits h entry legal).0 stands) stands.ready
+    made_of limits h entry who builds more legal (reached-ready limits h who builds more (IsLegal-pop limits h entry legal).0 stands) stands.ready
     (same ∙ stands.tasks)
 
 -- an entry of the number's own that is of no build
@@ -165,7 +192,7 @@ stands-plain limits h who maker what builds more legal plain =
 pub stands-begun : (limits : Limits) (h : History) (who : ℕ) (choice : Choice) (builds : List Ready) → IsLegal limits (behind h who (build_of h choice))
     → Stands who builds [] h → Stands who builds (task_of h choice ∷ []) (behind h who (build_of h choice))
 stands-begun limits h who choice builds legal stands =
-    made_of limits h entry who builds (task_of h choice ∷ []) legal (scn-ready limits h who builds [] before stands) stands.ready
+    made_of limits h entry who builds (task_of h choice ∷ []) legal (reached-ready limits h who builds [] before stands) stands.ready
     (ap (mine_of who) (held-push h entry)
     ∙ (mine-append who (held h) _
     ∙ ap₂ (λ (list more : List Task). list ++ more) (stands.tasks ∙ append-nil (tasks_of builds)) (own_one (same_number who who refl))))
@@ -201,7 +228,7 @@ builds-ended h who id _ is = absurd (true≢false (sym is))
 pub stands-finished : (limits : Limits) (h : History) (who : ℕ) (what : What) (builds : List Ready) (task : Task) → IsLegal limits (behind h who what)
     → ends task.id what ≡ true → Stands who builds (task ∷ []) h → Stands who builds [] (behind h who what)
 stands-finished limits h who what builds task legal is stands =
-    made_of limits h (record { who = who; what = what }) who builds [] legal (scn-ready limits h who builds (task ∷ []) before stands) stands.ready
+    made_of limits h (record { who = who; what = what }) who builds [] legal (reached-ready limits h who builds (task ∷ []) before stands) stands.ready
     (builds-ended h who task.id what is
     ∙ (ap (without task.id) stands.tasks
     ∙ without-one 0 (tasks_of builds) [] task (subst (InOrder 0) stands.tasks (builds-order limits h who before))))
@@ -213,7 +240,7 @@ stands-finished limits h who what builds task legal is stands =
 pub stands-oldest : (limits : Limits) (h : History) (who : ℕ) (what : What) (first : Ready) (rest : List Ready) → IsLegal limits (behind h who what)
     → ends first.task.id what ≡ true → Stands who (first ∷ rest) [] h → Stands who rest [] (behind h who what)
 stands-oldest limits h who what first rest legal is stands =
-    made_of limits h (record { who = who; what = what }) who rest [] legal (scn-ready limits h who (first ∷ rest) [] before stands).1 stands.ready.1
+    made_of limits h (record { who = who; what = what }) who rest [] legal (reached-ready limits h who (first ∷ rest) [] before stands).1 stands.ready.1
     (builds-ended h who first.task.id what is
     ∙ (ap (without first.task.id) stands.tasks
     ∙ without-one 0 [] (tasks_of rest ++ []) first.task (subst (InOrder 0) stands.tasks (builds-order limits h who before))))

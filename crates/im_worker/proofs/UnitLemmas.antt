@@ -10,10 +10,12 @@ use Rattle.im_core.specs.Tasks.{given_of, task_fetched, task_fetched_by, task_le
 use Rattle.im_history.specs.declared.change.Change.{Change}
 use Rattle.im_history.specs.declared.entry.Entry.{Entry}
 use Rattle.im_history.specs.declared.entry.What.{What}
-use Rattle.im_history.specs.declared.entry.What.TheVariants.{Build, Create, Commit, Rollback, Switch, Cancel, Write}
+use Rattle.im_history.specs.declared.entry.What.TheVariants.{Build, Create, Add, Commit, Rollback, Switch, Cancel, Write}
 use Rattle.im_history.specs.declared.limits.Limits.{Limits}
 use Rattle.im_history.specs.declared.task.Held.{Held}
 use Rattle.im_history.specs.declared.task.Task.{Task}
+use Rattle.im_values.specs.Widened.{widened}
+use Rattle.im_history.specs.Columns.{defaults_at}
 use Rattle.im_history.specs.Commits.{commits, committed_by, scn}
 use Rattle.im_history.specs.History.{History, replay}
 use Rattle.im_history.specs.Legal.{IsAllowed, IsLawful, IsLegal}
@@ -21,7 +23,7 @@ use Rattle.im_history.specs.Queue.{build_of}
 use Rattle.im_history.specs.Rows.{Row, changes_until, row_after, rows}
 use Rattle.im_history.specs.Tables.{given, given_after, given_by}
 use Rattle.im_history.specs.Transactions.{or_here, pending, pending_after}
-use Rattle.im_history.specs.Units.{Content, IsOwn, builds, content_at, drops, held, held_at, is_id, killed_by, task_content}
+use Rattle.im_history.specs.Units.{Content, IsOwn, builds, content_at, drops, held, held_at, is_id, killed_by, task_content, unit_row}
 use Rattle.im_history.proofs.BuildLaws.{begun_at, held_at-build, held_at-cancel, held_at-plain, held_at-switch}
 use Rattle.im_history.proofs.GivenLaws.{given-grows, given_by-grows}
 use Rattle.im_history.proofs.Laws.{IsLegal-pop, commits-push, given-push, pending-push}
@@ -32,7 +34,7 @@ use Rattle.im_worker.proofs.RestLemmas.{went-found}
 use Rattle.im_worker.specs.inner.Beginning.{IsGiven, IsJust}
 use Rattle.im_worker.specs.inner.Built.{IsBeside, content_built, content_from, nones}
 use Rattle.im_worker.specs.inner.Rests.{Went}
-use Rattle.im_worker.proofs.BuiltLemmas.{built-mended, is-beside, task_content-own}
+use Rattle.im_worker.proofs.BuiltLemmas.{built-mended, columns-own, is-beside, task_content-own}
 use Rattle.im_worker.proofs.HoldingLaws.{are_numbered, killed-task, killed-who, other_number, same_number}
 use Rattle.im_worker.proofs.StandingLaws.{after-legal, apart-id, content_of}
 
@@ -107,6 +109,7 @@ AllGiven-push h entry so_far = record {
     committed Commit = All-cons (All (WasGiven now)) (pending h entry.who) []
         (later (pending h entry.who) (so_far.waiting entry.who)) (All-nil (All (WasGiven now)))
     committed (Create name schema grid) = All-cons (All (WasGiven now)) [] [] (All-nil (WasGiven now)) (All-nil (All (WasGiven now)))
+    committed (Add table column default) = All-cons (All (WasGiven now)) [] [] (All-nil (WasGiven now)) (All-nil (All (WasGiven now)))
     committed _ = All-nil (All (WasGiven now))
 
 all_given : (h : History) → AllGiven h
@@ -293,7 +296,7 @@ content-read who task old new mine just went legal =
     n = task_rows new.log task
 
     row_at : ℕ → Option Row
-    row_at = rows new.log task.table task.scn
+    row_at = unit_row new.log task.table task.scn
 
     n_is : n ≡ min task.per (count - first)
     n_is = rows-given who count task new.log (given-went who task old new mine just went legal)
@@ -315,21 +318,25 @@ content-read who task old new mine just went legal =
 
     none : (k : ℕ) → first + n ≤ k → k < first + n + (task.per - n) → row_at k ≡ None
     none k low high =
-        ap (λ (h : History). rows h task.table task.scn k) longer
+        ap (option_map (widened (defaults_at new.log task.table task.scn)))
+        (ap (λ (h : History). rows h task.table task.scn k) longer
         ∙ (rows-append at (record { who = who; what = build_of at just.choice } ∷ went.after.between) task.table task.scn k (omega (arith, scn_is))
-        ∙ rows-ungiven at task.table task.scn k (omega (arith, n_is, table_is, low, high)))
+        ∙ rows-ungiven at task.table task.scn k (omega (arith, n_is, table_is, low, high))))
 
 -- whether a unit is lent to the build or not, what is made of what was read is what its unit is to hold
 content-built : (who : ℕ) (task : Task) (old new : Known) → speaks old.side who ≡ true → IsJust who task old → Went old new → IsLegal new.limits new.log
     → content_built task (task_lent new.log task) (task_fetched new.log task) ≡ task_content new.log task
 content-built who task old new mine just went legal = by (task_serving new.log task) refl
   where
+    own : IsOwn new.log who task
+    own = own-given (given-went who task old new mine just went legal)
+
     by : (lent : Option ℕ) → task_serving new.log task ≡ lent
         → content_built task (option_map (content_at new.log task.table task.extent) lent) (task_fetched_by new.log task lent) ≡ task_content new.log task
     by None is = content-read who task old new mine just went legal
     by (Some n) is =
-        built-mended new.log task n is
-        ∙ sym (task_content-own new.limits new.log who task legal (own-given (given-went who task old new mine just went legal)))
+        built-mended new.log task n (columns-own new.limits new.log who task legal own) is
+        ∙ sym (task_content-own new.limits new.log who task legal own)
 
 -- so a unit of it has that
 pub content-found : (who : ℕ) (task : Task) (old new : Known) (P : History → Type 0) (lent : Option Content) (fetched : List (ℕ × Option Row))

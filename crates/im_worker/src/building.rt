@@ -13,9 +13,9 @@ ghost use Rattle.im_worker.specs.inner.Standing.{Stands};
 
 use crate::held::Build;
 use crate::rows::{padded, unit_again, unit_of_rows};
-use im_core::{Fetched, Offer, Pin};
+use im_core::{Offer, Pin, ShownRows};
 use im_edge::Outside;
-use im_history::Task;
+use im_history::{Lying, Task};
 use im_reach::Reach;
 use im_unit::ColumnUnit;
 use im_values::limits::NUMBERS;
@@ -44,12 +44,13 @@ pub enum Beginning {
 }
 
 /// The unit of a build that no unit was lent to, of the rows that were fetched for it.
-fn unit_anew(alloc: Global, task: &Task, fetched: &Fetched) -> Result<ColumnUnit, NoMemory>
+fn unit_anew(alloc: Global, task: &Task, fetched: &ShownRows) -> Result<ColumnUnit, NoMemory>
     requires taken { AreTaken task.now fetched.now }
     ensures { IfOk result (λ unit. unit ≡ content_from task.now fetched.now) }
 {
-    let rows = padded(alloc, fetched, task.per)?;
-    unit_of_rows(alloc, task, rows.as_slice())
+    let Lying { pieces, defaults } = fetched.lying();
+    let rows = padded(alloc, pieces, fetched.len(), task.per)?;
+    unit_of_rows(alloc, task, rows.as_slice(), defaults)
 }
 
 /// The unit of a build, of what was read for it: the unit that was lent with the fetched rows in their places, or without one the

@@ -1,11 +1,11 @@
-ghost use Rattle.std.specs.Prelude.{◌≡◌, ◌+◌, ◌-◌, ◌*◌, ◌<◌, ◌≤◌, ◌^◌, ◌++◌, map, length, nat_le, IfOk, OnOk, IfSome, Some};
-ghost use Rattle.im_history.specs.Fetched.{HasNumbers, in_piece};
-ghost use Rattle.im_unit.specs.Holding.{AreShort, HaveWidth, lent_slots};
+ghost use Rattle.std.specs.Prelude.{◌≡◌, All, ◌+◌, ◌-◌, ◌*◌, ◌<◌, ◌≤◌, ◌^◌, ◌++◌, map, length, nat_le, IfOk, OnOk, IfSome, Some};
+ghost use Rattle.im_history.specs.Fetched.{HasNumbers, in_piece, in_pieces};
+ghost use Rattle.im_unit.specs.Holding.{AreShort, HaveWidth, lent_slots, wide_slots};
 ghost use Rattle.im_unit.specs.Rebuilt.{RiseWithin, fetched_rows, rebuilt};
 ghost use Rattle.im_values.specs.declared.limits.TheConstants.{MOST_COLUMNS};
 ghost use Rattle.im_worker.specs.inner.Built as spec;
 
-use im_core::Fetched;
+use im_core::ShownRows;
 use im_history::{Piece, Task, lent_values};
 use im_unit::ColumnUnit;
 use im_values::limits::MOST_COLUMNS;
@@ -28,26 +28,27 @@ fn first_of(task: &Task, rows: usize) -> Option<u64>
     }
 }
 
-/// The unit of a build whose extent has these rows. Where they are more than those of any unit, which does not come, it counts as
+/// The unit of a build whose extent has these rows, each with these defaults from its length on. Where they are more than those of any unit, which does not come, it counts as
 /// out of memory.
 pub fn unit_of_rows(
     alloc: Global,
     task: &Task,
     rows: &[Option<&[Value]>],
+    defaults: &[Value],
 ) -> Result<ColumnUnit, NoMemory>
-    requires width { HaveWidth task.now.columns (lent_slots rows.now) }
-    requires short { AreShort (lent_slots rows.now) }
+    requires width { HaveWidth task.now.columns (wide_slots defaults.now rows.now) }
+    requires short { AreShort (wide_slots defaults.now rows.now) }
     ensures { IfOk result (λ unit. unit ≡ record {
       scn = task.now.scn;
       first = task.now.extent * task.now.per;
       columns = task.now.columns;
-      rows = lent_slots rows.now;
+      rows = wide_slots defaults.now rows.now;
     }) }
 {
     let Some(first) = first_of(task, rows.len()) else {
         return Err(NoMemory);
     };
-    ColumnUnit::build_lent(alloc, task.scn, first, task.columns, rows)
+    ColumnUnit::build_lent(alloc, task.scn, first, task.columns, rows, defaults)
 }
 
 /// The unit of a build, made anew of the one that was lent to it and of the rows that were fetched beside that.
@@ -55,7 +56,7 @@ pub fn unit_again(
     alloc: Global,
     task: &Task,
     old: &ColumnUnit,
-    fetched: &Fetched,
+    fetched: &ShownRows,
 ) -> Result<ColumnUnit, NoMemory>
     requires columns { old.now.columns ≡ task.now.columns }
     requires rise { RiseWithin old.now.first (old.now.first + length old.now.rows) fetched.now }
@@ -102,19 +103,21 @@ fn pad(slots: &mut Vec<Option<&[Value]>>, count: u64) -> Result<(), NoMemory>
     Ok(())
 }
 
-/// The rows of an extent of so many row numbers, lent: those that were fetched, and none at the row numbers behind them.
+/// The rows of an extent of so many row numbers, lent as they were written: so many that were fetched, which lie in these pieces, and
+/// none at the row numbers behind them.
 pub fn padded<'a>(
     alloc: Global,
-    fetched: &'a Fetched,
+    pieces: &'a [Piece],
+    len: u64,
     per: u64,
 ) -> Result<Vec<Option<&'a [Value]>>, NoMemory>
-    ensures { IfOk result (λ slots.
-        lent_slots slots.items ≡ map (λ found. found.1) fetched.now ++ spec.nones (per - length fetched.now)) }
+    requires { All HasNumbers pieces.now }
+    ensures { IfOk result (λ slots. lent_slots slots.items ≡ fetched_rows (in_pieces pieces.now) ++ spec.nones (per - len)) }
 {
-    let mut slots = Vec::with_capacity(alloc, fetched.len() as usize)?;
-    for piece in fetched.pieces() {
+    let mut slots = Vec::with_capacity(alloc, len as usize)?;
+    for piece in pieces {
         put_piece(&mut slots, piece)?;
     }
-    pad(&mut slots, per.saturating_sub(fetched.len()))?;
+    pad(&mut slots, per.saturating_sub(len))?;
     Ok(slots)
 }

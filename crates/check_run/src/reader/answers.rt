@@ -4,7 +4,9 @@ use super::entry::{Entry, What};
 use super::record::{Record, Value};
 use super::replies::is_told;
 use super::report::{Answer, Report};
-use super::rows::{Rows, View, extents, rows_seen, scn, table_called, view_of};
+use super::rows::{
+    FIRST_COLUMN, Rows, View, column_called, extents, rows_seen, scn, table_called, view_of,
+};
 use super::script::{Line, Query, Script};
 use super::units::unit_at;
 use super::writes::{is_written, writes};
@@ -211,10 +213,10 @@ fn result_of(
         return Ok(None);
     }
     let Some(column) = column else {
-        let rows = rows_seen(alloc, entries, view, 0)?;
+        let rows = rows_seen(alloc, entries, view, FIRST_COLUMN)?;
         return Ok(Some(i64::try_from(rows.len()).ok()));
     };
-    let Some(column) = created.column(column) else {
+    let Some(column) = column_called(entries, table, created, column) else {
         return Ok(None);
     };
     let rows = rows_seen(alloc, entries, view, column)?;

@@ -13,6 +13,11 @@ pub enum What {
     Create {
         extent: usize,
     },
+    /// A column of numbers that the table got, and what rows from before have in it.
+    Add {
+        table: usize,
+        default: Value,
+    },
     Memory {
         table: usize,
     },
@@ -72,6 +77,13 @@ fn what_of(record: &Record<'_>) -> Result<What, Wrong> {
         "create" => What::Create {
             extent: record.count(5)?.saturating_mul(record.count(6)?),
         },
+        "add" => {
+            check(record.len() == 8 && record.field(6) == "0", record.wrong())?;
+            What::Add {
+                table: record.count(4)?,
+                default: record.value(7)?,
+            }
+        }
         "memory" => {
             let is_read = record.field(5) != "none" && record.field(5) != "off";
             check(is_read, record.wrong())?;
@@ -127,6 +139,11 @@ impl<'a> Entry<'a> {
             What::Write { changes } => self.changes.len() == changes,
             _ => self.changes.is_empty(),
         }
+    }
+
+    /// How many columns the table has that it creates.
+    pub fn columns(&self) -> usize {
+        self.record.len().saturating_sub(7) / 2
     }
 
     /// Which column of the table that it creates has this name, from 0.

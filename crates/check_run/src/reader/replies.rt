@@ -54,6 +54,7 @@ pub fn is_told(entries: &[Entry<'_>], place: usize, entry: &Entry<'_>, reply: &R
             "created",
             &[tables(entries, behind), scn(entries, behind)],
         ),
+        What::Add { table, .. } => reply.says("altered", &[table]),
         What::Open { cursor, .. } => is_open_told(entries, place, entry, cursor, reply),
         What::Shut { cursor } => reply.says("closed", &[cursor]),
         What::Write { .. } => is_write_told(entry, reply),

@@ -16,12 +16,17 @@ pub struct View {
     pub snapshot: usize,
 }
 
-/// The SCN at a place: how many commits and creations stand before it.
+/// The SCN at a place: how many commits, creations and added columns stand before it.
 pub fn scn(entries: &[Entry<'_>], place: usize) -> usize {
     entries
         .iter()
         .take(place)
-        .filter(|entry| matches!(entry.what, What::Commit | What::Create { .. }))
+        .filter(|entry| {
+            matches!(
+                entry.what,
+                What::Commit | What::Create { .. } | What::Add { .. }
+            )
+        })
         .count()
 }
 
@@ -78,14 +83,67 @@ pub fn view_of(entries: &[Entry<'_>], place: usize, who: usize, cursor: usize) -
     found
 }
 
+/// A column of a table.
+#[derive(Clone, Copy)]
+pub struct Column {
+    /// Its place in a row, from 0.
+    pub at: usize,
+    /// What rows have in it that are too short for it.
+    pub default: Value,
+}
+
+/// The first column of a table, which is there from its creation.
+pub const FIRST_COLUMN: Column = Column {
+    at: 0,
+    default: None,
+};
+
+/// The column of a name that a table got behind its creation.
+fn added_column(
+    entries: &[Entry<'_>],
+    table: usize,
+    created: &Entry<'_>,
+    name: &str,
+) -> Option<Column> {
+    let mut at = created.columns();
+    for entry in entries {
+        if let What::Add {
+            table: other,
+            default,
+        } = entry.what
+        {
+            if other == table {
+                if entry.record.field(5) == name {
+                    return Some(Column { at, default });
+                }
+                at = at.saturating_add(1);
+            }
+        }
+    }
+    None
+}
+
+/// The column of a name of a table that an entry created.
+pub fn column_called(
+    entries: &[Entry<'_>],
+    table: usize,
+    created: &Entry<'_>,
+    name: &str,
+) -> Option<Column> {
+    match created.column(name) {
+        Some(at) => Some(Column { at, default: None }),
+        None => added_column(entries, table, created, name),
+    }
+}
+
 /// Rows by their numbers.
 pub type Rows = BTreeMap<usize, Value>;
 
 /// Makes a change to rows, of which a column is kept.
-fn make(rows: &mut Rows, change: &Change, column: usize) -> Result<(), Wrong> {
+fn make(rows: &mut Rows, change: &Change, column: Column) -> Result<(), Wrong> {
     match &change.values {
         Some(values) => {
-            let value = values.get(column).copied().unwrap_or(None);
+            let value = values.get(column.at).copied().unwrap_or(column.default);
             rows.insert(change.row, value)?;
         }
         None => {
@@ -102,7 +160,7 @@ fn make_pending(
     place: usize,
     who: usize,
     table: usize,
-    column: usize,
+    column: Column,
 ) -> Result<(), Wrong> {
     let start = transaction_start(entries, place, who);
     for entry in entries.iter().take(place).skip(start) {
@@ -122,7 +180,7 @@ pub fn rows_seen(
     alloc: Global,
     entries: &[Entry<'_>],
     view: &View,
-    column: usize,
+    column: Column,
 ) -> Result<Rows, Wrong> {
     let mut rows = BTreeMap::new(alloc);
     for (at, entry) in entries.iter().enumerate().take(view.snapshot) {

@@ -116,6 +116,7 @@ impl<'a> Line<'a> {
     pub fn reply(&self) -> &str {
         match self.verb() {
             "CREATE" => "created",
+            "ALTER" => "altered",
             "INSERT" => "inserted",
             "UPDATE" => "updated",
             "DELETE" => "deleted",

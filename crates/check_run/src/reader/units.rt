@@ -2,7 +2,7 @@
 use super::entry::{Entry, What};
 use super::record::Value;
 use super::report::Unit;
-use super::rows::{View, extent_rows, extents, rows_seen, scn, stale, tables};
+use super::rows::{FIRST_COLUMN, View, extent_rows, extents, rows_seen, scn, stale, tables};
 use super::wrong::Wrong;
 use std::alloc::Global;
 
@@ -39,7 +39,7 @@ fn values_at(
     table: usize,
     extent: usize,
 ) -> Result<Vec<Value>, Wrong> {
-    let rows = rows_seen(alloc, entries, &committed(table, place), 0)?;
+    let rows = rows_seen(alloc, entries, &committed(table, place), FIRST_COLUMN)?;
     let per = extent_rows(entries, table).unwrap_or(1);
     let mut values = Vec::new(alloc);
     for (row, value) in &rows {

@@ -1,7 +1,7 @@
 // What the statements that write come to.
 use super::entry::{Change, Entry, What};
 use super::record::Value;
-use super::rows::{View, given, rows_seen, table_called, view_of};
+use super::rows::{FIRST_COLUMN, View, given, rows_seen, table_called, view_of};
 use super::script::Line;
 use super::wrong::Wrong;
 use std::alloc::Global;
@@ -43,7 +43,7 @@ fn is_update(
     view: &View,
     changes: &[Change],
 ) -> Result<bool, Wrong> {
-    let rows = rows_seen(alloc, entries, view, 0)?;
+    let rows = rows_seen(alloc, entries, view, FIRST_COLUMN)?;
     let mut found: usize = 0;
     let mut is_so = true;
     for (row, value) in &rows {

@@ -1,8 +1,9 @@
 -- What a column keeps, and what leads to it.
-use Rattle.std.specs.Prelude.{◌≡◌, ℕ, ℤ, pos, neg_ℤ, ◌*◌, ◌-◌, ◌^◌, ◌<◌, ◌≤ℤ◌, false, List, All, count_by, length, slice_index_or}
+use Rattle.std.specs.Prelude.{◌≡◌, ℕ, ℤ, pos, neg_ℤ, ◌*ℤ◌, ◌*◌, ◌-◌, ◌^◌, ◌<◌, ◌≤ℤ◌, false, List, All, count_by, length, slice_index_or}
 use Rattle.std.specs.List.Sorted.{IsStrictlySortedBy}
 use Rattle.std.specs.declared.cmp.Ordering.TheVariants.{Less}
 use Rattle.im_values.specs.declared.content.Content.{Content as Value}
+use Rattle.im_values.specs.declared.content.Content.TheVariants.{Int, Text, Null}
 use Rattle.im_values.specs.Order.{order, is_null}
 use Rattle.im_values.specs.Sizes.{Plain, Coded, Runs, shape_of, width_for, column_bytes, plain_bytes, coded_bytes, runs_bytes}
 use Rattle.im_codes.specs.Dictionary.{coded, values_at}
@@ -63,3 +64,9 @@ pub record AreRising (values : List Value) : Type 0 where
 pub record Follows (values : List Value) (i : ℕ) : Type 0 where
   pub some : (d : Value) → is_null (slice_index_or values i d) ≡ false
   pub above : 0 < i → (d : Value) → order (slice_index_or values (i - 1) d) (slice_index_or values i d) ≡ Less
+
+-- the sum of a value that stands so many times
+abbrev pub times_of : ℕ → Value → ℤ
+times_of count (Int n) = pos count *ℤ n
+times_of count (Text t) = pos 0
+times_of count Null = pos 0

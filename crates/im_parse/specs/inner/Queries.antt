@@ -1,7 +1,6 @@
 -- How a query is read.
 use Rattle.std.specs.Prelude.{ℕ, Bool, true, false, cond, ◌||◌, List, [], Option, Some, None}
 use Rattle.im_readers.specs.Reading.{Read, nothing, mark, one, both, made, after, before, optional, picked, joined}
-use Rattle.im_syntax.specs.declared.keyword.Keyword.{Keyword}
 use Rattle.im_syntax.specs.declared.keyword.Keyword.TheVariants as key
 use Rattle.im_syntax.specs.declared.token.Token.{Token}
 use Rattle.im_syntax.specs.declared.literal.Lit.{Lit}

@@ -1,5 +1,5 @@
 -- How the statements that make and change tables are read.
-use Rattle.std.specs.Prelude.{ℕ, ◌-◌, Bool, List, Option, Some, None, is_some}
+use Rattle.std.specs.Prelude.{ℕ, ◌-◌, Bool, List, Option, is_some}
 use Rattle.im_readers.specs.Reading.{Read, nothing, both, made, after, before, optional, picked, joined_up_to}
 use Rattle.im_syntax.specs.declared.keyword.Keyword.{Keyword}
 use Rattle.im_syntax.specs.declared.keyword.Keyword.TheVariants as key
@@ -11,9 +11,12 @@ use Rattle.im_values.specs.declared.limits.TheConstants.{MOST_COLUMNS, MOST_IN_S
 use Rattle.im_values.specs.declared.priority.Priority.{Priority}
 use Rattle.im_syntax.specs.declared.limits.TheConstants.{MOST_TEXT_BYTES}
 use Rattle.im_syntax.specs.declared.table.MemoryPart.{MemoryPart}
+use Rattle.im_syntax.specs.declared.literal.Lit.{Lit}
 use Rattle.im_syntax.specs.declared.statement.Stmt.{Stmt}
 use Rattle.im_syntax.specs.declared.statement.Stmt.TheVariants as stmt
-use Rattle.im_parse.specs.inner.Marks.{is_key, Lead, keyword, lead, is_left, is_right, is_comma, word_at, after_word, name_at, number_at, level_at}
+use Rattle.im_parse.specs.inner.Marks.{is_key, Lead, keyword, lead, is_left, is_right, is_comma, word_at, after_word, name_at, number_at, lit_at, level_at}
+use Rattle.im_parse.specs.declared.tables.Alteration.{Alteration}
+use Rattle.im_parse.specs.declared.tables.Alteration.TheVariants as altered
 
 -- ---- columns
 
@@ -69,17 +72,28 @@ create_at =
     made create_of
     (after_word key.Create (after_word key.Table (both name_at (both columns_at (both (option_at key.Block) (both (option_at key.Extent) memory_option_at))))))
 
-abbrev pub altered_by : Lead → List Token → Read Token (Option MemoryPart)
-altered_by (keyword key.InMemory) = made Some memory_at
-altered_by (keyword key.No) = made (λ u. None) (after_word key.No (word_at key.InMemory))
+unfoldable pub default_at : List Token → Read Token (Option Lit)
+default_at = optional (is_key key.Default) (after_word key.Default lit_at)
+
+abbrev pub added_of : ColumnPart × Option Lit → Alteration
+added_of x = altered.Column x.0 x.1
+
+unfoldable pub added_at : List Token → Read Token Alteration
+added_at = made added_of (after_word key.Add (after is_left (before (both column_at default_at) is_right)))
+
+abbrev pub altered_by : Lead → List Token → Read Token Alteration
+altered_by (keyword key.InMemory) = made altered.Memory memory_at
+altered_by (keyword key.No) = made (λ u. altered.NoMemory) (after_word key.No (word_at key.InMemory))
+altered_by (keyword key.Add) = added_at
 altered_by l = nothing
 
-unfoldable pub altered_at : List Token → Read Token (Option MemoryPart)
+unfoldable pub altered_at : List Token → Read Token Alteration
 altered_at = picked lead altered_by
 
-abbrev pub alter_of : List ℕ × Option MemoryPart → Stmt
-alter_of (name, Some memory) = stmt.AlterMemory name memory
-alter_of (name, None) = stmt.AlterNoMemory name
+abbrev pub alter_of : List ℕ × Alteration → Stmt
+alter_of (name, altered.Memory memory) = stmt.AlterMemory name memory
+alter_of (name, altered.NoMemory) = stmt.AlterNoMemory name
+alter_of (name, altered.Column column default) = stmt.AddColumn name column default
 
 unfoldable pub alter_at : List Token → Read Token Stmt
 alter_at = made alter_of (after_word key.Alter (after_word key.Table (both name_at altered_at)))

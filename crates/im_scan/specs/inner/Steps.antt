@@ -1,28 +1,49 @@
 -- One step of the loops of a scan.
 use Rattle.std.specs.Prelude.{◌≡◌, ℕ, ◌+◌, ◌-◌, ◌<◌, ◌≤◌, ◌==◌, nat_lt, List, [], ◌∷◌, ◌++◌, map, fold, slice_set, Option, Some, None, if◌then◌else◌}
 use Rattle.std.specs.List.{AllByRecursion, range_with_len}
-use Rattle.std.specs.Option.{ForSome, option_copied}
-use denote.Ref.{Bor}
+use Rattle.std.specs.Option.{ForSome}
 use Rattle.im_history.specs.declared.change.Change.{Change}
 use Rattle.im_history.specs.declared.view.View.{View}
-use Rattle.im_history.specs.Last.{change_of}
-use Rattle.im_history.specs.Rows.{Row}
+use Rattle.im_history.specs.Last.{Slot, AreLast, change_of}
+use Rattle.im_history.specs.Rows.{Row, row_after}
 use Rattle.im_history.specs.Units.{Content}
+use Rattle.im_history.specs.Views.{shown}
 use Rattle.im_syntax.specs.declared.bound.Bound.{Bound}
 use Rattle.im_group.specs.Partials.{Numbered, Parts, partial}
-use Rattle.im_scan.specs.Parts.{MayAsk, row_in_unit}
+use Rattle.im_scan.specs.Parts.{MayAsk, MayAskShown, fetched_after, row_in_unit}
 use Rattle.im_scan.specs.declared.faces.Face.{Face}
 use Rattle.im_scan.specs.declared.faces.Face.TheVariants.{Whole, Edges, Bare}
+
+-- a change whose row is as a view shows it
+abbrev pub shown_change : View → Change → Change
+shown_change view change = record change { row = shown view change.row }
+
+-- a view whose own changes are as it shows them
+abbrev pub as_shown : View → View
+as_shown view = record view { own = map (shown_change view) view.own }
+
+-- a unit, or none, has at each row number what another one has there, as a view shows it
+pub record IsShownBy (view : View) (unit wide : Option Content) : Type 0 where
+  pub at : (rid : ℕ) → row_in_unit wide rid ≡ shown view (row_in_unit unit rid)
+  pub fits : (bound : Bound) → ForSome unit (λ content. AllByRecursion (MayAskShown bound view) content.rows) →
+      ForSome wide (λ content. AllByRecursion (MayAsk bound) content.rows)
+
+-- the row that stands at a row number: what was fetched of it, else what the unit has, and then changed by the view's own changes, in
+-- order
+abbrev pub laid_row : Option Content → List (ℕ × Option Row) → View → ℕ → Option Row
+laid_row unit fetched view rid = fold (row_after view.table rid) (fold (fetched_after rid) (row_in_unit unit rid) fetched) view.own
+
+-- what the last changes of a view's own left at so many row numbers from the first on was put behind other rows
+pub record ArePutBehind (view : View) (first count : ℕ) (old new : List (ℕ × Option Row)) : Type 0 where
+  pub own : List Slot
+  pub last : AreLast view.own view.table first count own
+  pub is : new ≡ old ++ own
 
 -- rows are those that the unit of a face holds; where it shows none, nothing is read of them
 abbrev pub AreRowsOf : Face → List (Option Row) → Type 0
 AreRowsOf (Whole unit) rows = rows ≡ unit.now.rows
 AreRowsOf (Edges edges) rows = Unit {0}
 AreRowsOf Bare rows = Unit {0}
-
--- rows that are lent, or none
-abbrev pub lent : List (Option (Bor Row)) → List (Option Row)
-lent slots = map option_copied slots
 
 -- what a unit has at so many row numbers from the first on
 abbrev pub unit_rows : Option Content → ℕ → ℕ → List (Option Row)
@@ -72,3 +93,9 @@ pub record MayScan (bound : Bound) (unit : Option Content) (fetched : List (ℕ 
   pub unit_fits : ForSome unit (λ content. AllByRecursion (MayAsk bound) content.rows)
   pub fetched_fits : AllByRecursion (λ f. MayAsk bound f.1) fetched
   pub own_fits : AllByRecursion (λ change. MayAsk bound change.row) own
+
+-- the same of what the unit has and of what the own changes put as the view shows it
+pub record MayScanShown (bound : Bound) (unit : Option Content) (fetched : List (ℕ × Option Row)) (view : View) : Type 0 where
+  pub unit_fits : ForSome unit (λ content. AllByRecursion (MayAskShown bound view) content.rows)
+  pub fetched_fits : AllByRecursion (λ f. MayAsk bound f.1) fetched
+  pub own_fits : AllByRecursion (λ change. MayAskShown bound view change.row) view.own

@@ -1,7 +1,5 @@
 -- A walk over the row numbers of an extent: the rows of its unit that a condition keeps, and the rows beside it.
 use Rattle.std.specs.Prelude.{◌≡◌, ℕ, ◌<◌, ◌≤◌, Bool, true, false, List, length, map, take, get_or, fold, is_some, Option, Some, None, if◌then◌else◌}
-use Rattle.std.specs.Option.{option_copied}
-use denote.Ref.{Bor}
 use Rattle.im_values.specs.declared.content.Content.{Content as Value}
 use Rattle.im_syntax.specs.Condition.{CondOf}
 use Rattle.im_syntax.specs.declared.bound.Bound.{Bound}
@@ -46,10 +44,6 @@ AreKept filter (Some kept) = kept.places ≡ map (is_kept filter) kept.unit.now.
 abbrev pub BeginsBy : ℕ → Option Kept → Type 0
 BeginsBy first None = Unit {0}
 BeginsBy first (Some kept) = kept.unit.now.first ≤ first
-
--- rows that are lent, each with its row number, or none
-abbrev pub lent_beside : List (ℕ × Option (Bor Row)) → List (ℕ × Option Row)
-lent_beside rows = map (λ row. (row.0, option_copied row.1)) rows
 
 -- what stands at a row number: the row beside the unit, if one is of this row number, and else the unit's
 abbrev pub standing : Option Content → List (ℕ × Option Row) → ℕ → Option Row

@@ -5,7 +5,6 @@ use Rattle.im_group.specs.Partials.{Parts, merged, partial}
 use Rattle.im_history.specs.declared.entry.What.TheVariants.{Open}
 use Rattle.im_history.specs.declared.refused.Refused.{Refused}
 use Rattle.im_history.specs.declared.refused.Why.TheVariants.{NoMemory}
-use Rattle.im_history.specs.Refusals.{open_refusal}
 use Rattle.im_history.specs.Views.{view_at}
 use Rattle.im_reach.specs.Sides.{Added, Found, Known}
 use Rattle.im_replies.specs.declared.reply.Reply.{Reply}
@@ -15,6 +14,7 @@ use Rattle.im_session.specs.Cursors.{IsSound, query_of}
 use Rattle.im_session.specs.inner.Scans.{IsScan}
 use Rattle.im_statements.specs.Cursors.{step_reply}
 use Rattle.im_statements.specs.Outcomes.{Closes, Opens, Outcome, OpenQuery, Replied, Steps, said}
+use Rattle.im_statements.specs.Scans.{opening_refusal}
 use Rattle.im_statements.specs.Turns.{memory_reply}
 use Rattle.im_syntax.specs.declared.bound.Bound.{Bound}
 
@@ -23,18 +23,18 @@ pub record IsKept (who : ℕ) (kept : Cursor) (now : Known) : Type 0 where
   pub scan : IsScan who kept.number kept.view now
   pub sound : IsSound kept now
 
--- a cursor was opened for a query, with this view, and was served nothing yet
-pub record IsJustOpened (who number : ℕ) (bound : Bound) (cursor : Cursor) (old new : Known) : Type 0 where
+-- a cursor was opened for a query, on a table that had so many columns at the look, with this view, and was served nothing yet
+pub record IsJustOpened (who number columns : ℕ) (bound : Bound) (cursor : Cursor) (old new : Known) : Type 0 where
   pub is : cursor ≡ record { number = number; bound = bound; view = cursor.view; next = 0; part = partial bound [] }
   pub added :
       Added old new who (λ at. Open number bound.table)
-      (λ at. (open_refusal at who number ≡ None) × (cursor.view ≡ view_at at who bound.table))
+      (λ at. (opening_refusal at who number bound.table columns ≡ None) × (cursor.view ≡ view_at at who bound.table))
 
--- a cursor of this number was not opened: that is refused, or memory was out
-pub record IsUnopened (who number : ℕ) (refused : Refused) (old new : Known) : Type 0 where
+-- a cursor of this number was not opened on a table that had so many columns at the look: that is refused, or memory was out
+pub record IsUnopened (who number table columns : ℕ) (refused : Refused) (old new : Known) : Type 0 where
   pub cause :
       ((refused.why ≡ NoMemory) × (new ≡ old))
-      ⊎ Found old new (λ at. IsRefusal at (open_refusal at who number) refused)
+      ⊎ Found old new (λ at. IsRefusal at (opening_refusal at who number table columns) refused)
 
 -- what comes of an OPEN
 abbrev pub opening_outcome : Reply → Option Cursor → Outcome

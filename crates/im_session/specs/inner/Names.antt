@@ -4,10 +4,11 @@ use Rattle.im_names.specs.declared.resolved.Resolved.{Resolved}
 use Rattle.im_names.specs.declared.resolved.Resolved.TheVariants as resolved
 use Rattle.im_session.specs.Reads.{Reading, Nothing, Own, Next, Left}
 
--- the statement defines a table
+-- the statement defines a table, or changes what one is
 abbrev pub defines : Resolved → Bool
 defines (resolved.Create name schema grid memory) = true
 defines (resolved.Memory table priority) = true
+defines (resolved.AddColumn table column default) = true
 defines statement = false
 
 -- what the statement reads the blocks for

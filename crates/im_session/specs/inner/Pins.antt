@@ -11,7 +11,7 @@ use Rattle.im_history.specs.declared.view.View.{View}
 use Rattle.im_history.specs.Grid.{extents_for}
 use Rattle.im_history.specs.History.{History}
 use Rattle.im_history.specs.Units.{Content}
-use Rattle.im_scan.specs.Parts.{MayAsk, MayAskShown}
+use Rattle.im_scan.specs.Parts.{AreDefaults, AreShown, MayAsk, MayAskShown}
 use Rattle.im_scan.specs.Pinned.{IsPinned, seen_in, seen_to}
 use Rattle.im_session.specs.declared.cursor.Cursor.{Cursor}
 use Rattle.im_session.specs.declared.serving.Wanted.{Wanted}
@@ -23,9 +23,11 @@ abbrev pub kept_pins : Wanted → List (Pin Content) → Pin Content → List (P
 kept_pins AllParts pins pin = pins ++ pin ∷ []
 kept_pins Marks pins pin = pins
 
--- a query may be asked of what a view has by its own changes, and the view's row numbers are cut into extents
+-- a query may be asked of what a view has by its own changes, the view has a default for each column, and its row numbers are cut into
+-- extents
 pub record IsAsked (bound : Bound) (view : View) : Type 0 where
   pub own : AllByRecursion (λ change. MayAskShown bound view change.row) view.own
+  pub defaults : AreDefaults view
   pub cut : view.extents ≡ extents_for view.rows view.per
   pub few : view.rows ≤ MOST_ROWS
 
@@ -34,8 +36,9 @@ pub record IsPinOf (bound : Bound) (view : View) (opening : History) (extent : �
   pub at : History
   pub pinned : IsPinned at view extent (option_map arc_value pin.unit) pin.fetched
   pub same : seen_in at view extent ≡ seen_in opening view extent
-  pub unit_fits : ForSome (option_map arc_value pin.unit) (λ content. AllByRecursion (MayAsk bound) content.rows)
+  pub unit_fits : ForSome (option_map arc_value pin.unit) (λ content. AllByRecursion (MayAskShown bound view) content.rows)
   pub fetched_fits : AllByRecursion (λ row. MayAsk bound row.1) pin.fetched
+  pub shown : AreShown view pin.fetched
 
 -- the extents from this one on were pinned so, one after the other
 pub record ArePinsOf (bound : Bound) (view : View) (opening : History) (first : ℕ) (pins : List (Pin Content)) : Type 0 where

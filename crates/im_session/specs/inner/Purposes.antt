@@ -34,10 +34,10 @@ behind_scan limits who bound Explain place view rows marks = end_scan (served_re
 behind_scan limits who bound (Rewrite rewriting) place view rows marks =
     write_or_end limits who place view.scn marks (changes_to view.table rewriting (kept_rows bound.filter rows)) (written rewriting)
 
--- the plan of a statement that scans a table by itself
-abbrev pub plan_of : Limits → ℕ → Bound → Purpose → Plan Outcome
-plan_of limits who bound purpose =
-    scan who bound.table bound.filter (λ at view marks. behind_scan limits who bound purpose (length at) view (rows_seen at view) marks)
+-- the plan of a statement that scans a table by itself, which had so many columns at the look
+abbrev pub plan_of : Limits → ℕ → ℕ → Bound → Purpose → Plan Outcome
+plan_of limits who columns bound purpose =
+    scan who bound.table columns bound.filter (λ at view marks. behind_scan limits who bound purpose (length at) view (rows_seen at view) marks)
 
 -- a table may be scanned for this: rows that a condition alone keeps may be rewritten
 abbrev pub MayScanFor : Purpose → Bound → List TableInfo → Type 0

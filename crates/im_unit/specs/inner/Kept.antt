@@ -5,6 +5,7 @@ use denote.Ref.{Bor}
 use Rattle.im_values.specs.declared.content.Content.{Content as Value}
 use Rattle.im_values.specs.declared.content.Content.TheVariants.{Null}
 use Rattle.im_values.specs.Sizes.{column_bytes}
+use Rattle.im_values.specs.Widened.{widened}
 use Rattle.im_column.specs.Forms.{AreLent, IsShort}
 use Rattle.im_history.specs.Rows.{Row}
 use Rattle.im_history.specs.Units.{Content}
@@ -67,6 +68,10 @@ pub record AreRows (width : ℕ) (rows : List Row) : Type 0 where
 -- rows that are lent
 abbrev pub lent : List (Bor Row) → List Row
 lent rows = map (λ row. row.now) rows
+
+-- the same, each with these defaults from its length on
+abbrev pub lent_wide : List Value → List (Bor Row) → List Row
+lent_wide defaults rows = map (λ row. widened defaults row.now) rows
 
 -- no column counts for 2^49 bytes
 abbrev pub AreBounded : List (List Value) → Type 0

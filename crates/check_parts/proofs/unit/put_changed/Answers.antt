@@ -1,11 +1,11 @@
-use Rattle.std.proofs.Common.{◌≡◌, ℕ, ◌+◌, ◌<◌, ◌≤◌, List, [], ◌∷◌, ◌++◌, length, All, Option, refl, subst, sym, ap, ◌∙◌, arith}
+use Rattle.std.proofs.Common.{◌≡◌, ℕ, ◌+◌, ◌<◌, ◌≤◌, List, [], ◌∷◌, ◌++◌, length, All, Option, Some, None, refl, subst, sym, ap, ◌∙◌, arith}
 use Rattle.std.specs.List.{AllByRecursion}
-use Rattle.std.specs.Option.{ForSome}
+use Rattle.std.specs.Option.{ForSome, option_map}
 use Rattle.std.proofs.lemmas.List.{map_push}
 use Rattle.std.proofs.lemmas.List.Elements.{All-from_recursion, All-push, recursion_from_All}
-use denote.Ref.{Bor}
+use Rattle.im_values.specs.Widened.{widened}
+use Rattle.im_values.proofs.WideLaws.{widened-long}
 use Rattle.im_column.specs.Forms.{IsShort}
-use Rattle.im_history.specs.Fetched.{lent_row, lent_rows}
 use Rattle.im_history.specs.Rows.{Row}
 use Rattle.im_unit.specs.Rebuilt.{RiseWithin, fetched_rows}
 use Rattle.check_parts.specs.Fetching.{AreFetched}
@@ -49,16 +49,20 @@ later old place before = record {
   short = before.short;
 }
 
+-- without defaults a row stays as it is
+alone : (row : Option Row) → option_map (widened []) row ≡ row
+alone None = refl
+alone (Some row) = ap Some (widened-long [] row (omega arith))
+
 pub returns-in_ok-push : goal.returns-in_ok-push
 returns-in_ok-push c =
     let old = c.args.fetched.now.items in
-    let row = c.lent_values.result in
-    let found : ℕ × Option (Bor Row) = (1000 + c.args.place, row) in
-    let is = sym c.lent_values.ensures in
-    subst (λ (l : List Found). AreFetched l (c.args.place + 1)) (sym (ap lent_rows c.in_ok-push.ensures.items ∙ map_push lent_row old found))
-    (more (lent_rows old) c.args.place (lent_row found) c.requires.before refl
+    let found : Found = (1000 + c.args.place, c.wide_values.result) in
+    let is = sym (c.wide_values.ensures ∙ alone c.args.row.now) in
+    subst (λ (l : List Found). AreFetched l (c.args.place + 1)) (sym c.in_ok-push.ensures.items)
+    (more old c.args.place found c.requires.before refl
     (subst (λ (r : Option Row). ForSome r (λ values. length values ≡ 3)) is c.requires.width)
     (subst (λ (r : Option Row). ForSome r (λ values. All IsShort values)) is c.requires.short))
 
 pub returns-else-is_changed : goal.returns-else-is_changed
-returns-else-is_changed c = later (lent_rows c.args.fetched.now.items) c.args.place c.requires.before
+returns-else-is_changed c = later c.args.fetched.now.items c.args.place c.requires.before

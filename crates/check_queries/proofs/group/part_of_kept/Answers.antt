@@ -6,7 +6,7 @@ use Rattle.check_queries.proofs.group.part_of_kept.Goals as goal
 pub take_made-requires-clause-few : goal.take_made-requires-clause-few
 take_made-requires-clause-few c =
     let front = c.args.front.now in
-    let lent = (1, c.values.result.now) ∷ [] in
+    let lent = (1, c.of-values.result) ∷ [] in
     let few = c.requires.few in
     record {
       rows = front ++ lent;

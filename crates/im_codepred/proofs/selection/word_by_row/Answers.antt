@@ -20,7 +20,7 @@ loop-i-preserved c =
     let bits = map p c.args.rows.now in
     let within : c.loop-i.i < length c.args.rows.now = omega (arith, c.loop-i-test.true, c.len-i-end.ensures) in
     let inside : c.loop-i.i < length bits = omega (arith, length-map c.args.rows.now p, within) in
-    let read : c.values.result.now ≡ get_or c.args.rows.now c.loop-i.i [] = sym (get_or_from_slice_get c.args.rows.now c.loop-i.i c.values.result.now [] c.values.ensures) in
+    let read : c.values.result ≡ get_or c.args.rows.now c.loop-i.i [] = sym (get_or_from_slice_get c.args.rows.now c.loop-i.i c.values.result [] c.values.ensures) in
     c.with_bit-word.ensures
     ∙ push-bit bits c.loop-i.i c.met.result c.loop-i.word inside
     (c.met.ensures ∙ (ap (met Held) c.holds-truth.ensures ∙ (ap p read ∙ sym (get_or-map p c.args.rows.now c.loop-i.i [] false within)))) c.loop-i.invariant

@@ -22,11 +22,11 @@ values-row-requires c =
 
 pub take_grouped-requires-clause-keyed : goal.take_grouped-requires-clause-keyed
 take_grouped-requires-clause-keyed c =
-    (of-row (HasSeen c.args.seen.columns.now c.args.seen.asked.now) c.args.rows.now _ c.values-row.result.now c.values-row.ensures c.requires.seen).keyed
+    (of-row (HasSeen c.args.seen.columns.now c.args.seen.asked.now) c.args.rows.now _ c.values-row.result c.values-row.ensures c.requires.seen).keyed
 
 pub take_grouped-requires-clause-fits : goal.take_grouped-requires-clause-fits
 take_grouped-requires-clause-fits c =
-    (of-row (HasSeen c.args.seen.columns.now c.args.seen.asked.now) c.args.rows.now _ c.values-row.result.now c.values-row.ensures c.requires.seen).fits
+    (of-row (HasSeen c.args.seen.columns.now c.args.seen.asked.now) c.args.rows.now _ c.values-row.result c.values-row.ensures c.requires.seen).fits
 
 pub take_grouped-requires-clause-few : goal.take_grouped-requires-clause-few
 take_grouped-requires-clause-few c =
@@ -35,7 +35,7 @@ take_grouped-requires-clause-few c =
     let share = share_of c.args.rows.now c.args.first in
     let low = bit_at-trailing_zeros w64 c.loop-rest.rest (omega arith) c.loop-rest.auto.rest-fits.fits in
     let inside = bit-inside share c.loop-rest.rest _ c.loop-rest.invariant.few low.1 in
-    let row = share-row c.args.rows.now c.args.first _ c.values-row.result.now inside c.values-row.ensures in
+    let row = share-row c.args.rows.now c.args.first _ c.values-row.result inside c.values-row.ensures in
     subst (λ r. CanTake asked (own c.loop-rest.groups.entries) (key_of columns r)) (sym row)
     (left-room columns asked share c.loop-rest.rest _ (own c.loop-rest.groups.entries) _ c.loop-rest.invariant (omega arith) low.1 low.2)
 
@@ -46,7 +46,7 @@ loop-rest-preserved c =
     let share = share_of c.args.rows.now c.args.first in
     let low = bit_at-trailing_zeros w64 c.loop-rest.rest (omega arith) c.loop-rest.auto.rest-fits.fits in
     let inside = bit-inside share c.loop-rest.rest _ c.loop-rest.invariant.few low.1 in
-    let row = share-row c.args.rows.now c.args.first _ c.values-row.result.now inside c.values-row.ensures in
+    let row = share-row c.args.rows.now c.args.first _ c.values-row.result inside c.values-row.ensures in
     left-next columns asked share c.loop-rest.rest _ (own c.loop-rest.groups.entries) (own c.take_grouped.new.groups.entries) _ c.loop-rest.invariant (omega arith)
     low.1 low.2 (c.in_ok-take_grouped.ensures ∙ ap (with_row columns asked (own c.loop-rest.groups.entries)) row)
 

@@ -1,4 +1,4 @@
-use Rattle.std.proofs.Common.{◌+◌, ◌^◌, ◌<◌, ◌≤◌, length, Some, subst, sym, arith}
+use Rattle.std.proofs.Common.{arith}
 use Rattle.im_history.proofs.PutLaws.{length-put_from, at-put_from}
 use Rattle.im_history.proofs.changes.change_of_put.Goals as goal
 

@@ -11,12 +11,13 @@ loop-tuple-preserved c =
     let tuple = c.tuple-item.result in
     let numbers = numbers_of c.args.targets.now in
     let width = c.width_of-width.result in
+    let defaults = c.values-defaults.result.now in
     let grown = c.in_ok-push_row.ensures
-    ∙ ap (λ tuple. c.loop-tuple.values.items ++ row_of width numbers tuple) c.items-in-loop-tuple.ensures in
-    let block = block_goes (row_of width numbers) width c.args.tuples.now c.loop-tuple.tuple-index tuple c.loop-tuple.values.items
-    c.push_row.new.values.items (row_long width numbers tuple) c.loop-tuple-test.true c.tuple-item.is grown c.loop-tuple.invariant.1
+    ∙ ap (λ tuple. c.loop-tuple.values.items ++ row_of width defaults numbers tuple) c.items-in-loop-tuple.ensures in
+    let block = block_goes (row_of width defaults numbers) width c.args.tuples.now c.loop-tuple.tuple-index tuple c.loop-tuple.values.items
+    c.push_row.new.values.items (row_long defaults numbers tuple width) c.loop-tuple-test.true c.tuple-item.is grown c.loop-tuple.invariant.1
     c.loop-tuple.invariant.2 in (
-      goes_on (tuple_fault c.args.schema.now numbers) c.args.tuples.now c.loop-tuple.tuple-index tuple c.loop-tuple-test.true
+      goes_on (tuple_fault c.args.table.now.schema numbers) c.args.tuples.now c.loop-tuple.tuple-index tuple c.loop-tuple-test.true
           c.tuple-item.is (rw (← c.items.ensures) c.in_ok-check_tuple.ensures.ok) c.loop-tuple.invariant.0,
       block.0,
       block.1,

@@ -5,11 +5,11 @@ use Rattle.im_names.proofs.statements.resolve_query.Goals as goal
 pub returns-clause-ok : goal.returns-clause-ok
 returns-clause-ok c =
     let query = c.args.query.now in
-    found_ok c.args.tables.now query.table c.in_ok-number.number c.in_ok-number.schema.now (λ columns. query_fault columns query)
-    (λ number columns. bound_of number columns query) c.bind_query.result c.in_ok-number.ensures.ok c.bind_query.ensures.ok
+    found_ok c.args.tables.now query.table c.in_ok-number.number c.in_ok-number.table.now (λ table. query_fault table.schema query)
+    (λ number table. bound_of number table.schema query) c.bind_query.result c.in_ok-number.ensures.ok c.bind_query.ensures.ok
 
 pub returns-clause-err : goal.returns-clause-err
 returns-clause-err c =
     let query = c.args.query.now in
-    found_err c.args.tables.now query.table c.in_ok-number.number c.in_ok-number.schema.now (λ columns. query_fault columns query)
-    (λ number columns. bound_of number columns query) c.bind_query.result c.in_ok-number.ensures.ok c.bind_query.ensures.err
+    found_err c.args.tables.now query.table c.in_ok-number.number c.in_ok-number.table.now (λ table. query_fault table.schema query)
+    (λ number table. bound_of number table.schema query) c.bind_query.result c.in_ok-number.ensures.ok c.bind_query.ensures.err

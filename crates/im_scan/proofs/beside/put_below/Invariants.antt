@@ -1,12 +1,11 @@
 use Rattle.std.proofs.Common.{◌≡◌, ◌≤◌, ◌-◌, ◌++◌, length, drop}
-use Rattle.im_scan.specs.inner.Walk.{lent_beside}
 use Rattle.im_scan.proofs.beside.put_below.Given as goal
 
 -- what is put and what is left are as at first
 abbrev pub invariant-loop-at : goal.invariant-loop-at
 invariant-loop-at l = record {
   within : l.at ≤ length l.fetched;
-  whole : lent_beside l.rows.items ++ drop l.at (lent_beside l.fetched) ≡ lent_beside l.fn.rows.items ++ drop l.from (lent_beside l.fetched);
+  whole : l.rows.items ++ drop l.at l.fetched ≡ l.fn.rows.items ++ drop l.from l.fetched;
 }
 
 abbrev pub decreases-loop-at : goal.decreases-loop-at

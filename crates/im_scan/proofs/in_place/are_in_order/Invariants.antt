@@ -5,4 +5,4 @@ use Rattle.im_scan.proofs.in_place.are_in_order.Given as goal
 
 -- the pieces so far are in order
 abbrev pub invariant-loop-piece : goal.invariant-loop-piece
-invariant-loop-piece l = IsNextTo l.first (in_pieces (take l.piece-index l.pieces)) l.next
+invariant-loop-piece l = IsNextTo l.first (in_pieces (take l.piece-index l.lying.pieces.now)) l.next

@@ -13,9 +13,9 @@ returns-in_ok-part c part is =
     let first = c.args.first in
     let fetched = c.args.fetched.now in
     let order : AreInOrder first fetched =
-    subst (λ (l : List (ℕ × Option Row)). AreInOrder first l) c.pieces-pieces.ensures.pieces (c.are_in_order.ensures c.if-are_in_order.true) in
+    subst (λ (l : List (ℕ × Option Row)). AreInOrder first l) c.lying-lying.ensures.rows (c.are_in_order.ensures c.if-are_in_order.true) in
     sym (some-inj is)
     ∙ (c.in_ok-part.ensures
-    ∙ (ap (λ (l : List (ℕ × Option Row)). partial bound (numbered_all l)) c.pieces-pieces.ensures.pieces
+    ∙ (ap (λ (l : List (ℕ × Option Row)). partial bound (numbered_all l)) c.lying-lying.ensures.rows
     ∙ (ap (partial bound) (numbered-in-order first fetched order)
     ∙ ap (λ rows. partial bound (numbered_from first rows)) (in-place first fetched order))))

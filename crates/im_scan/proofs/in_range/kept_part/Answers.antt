@@ -1,10 +1,8 @@
-use Rattle.std.proofs.Common.{◌≡◌, List, [], ◌∷◌, ◌++◌, length, refl, ap, sym, ◌∙◌, arith}
+use Rattle.std.proofs.Common.{◌≡◌, List, [], ◌∷◌, ◌++◌, refl, ap, sym, ◌∙◌, arith}
 use Rattle.std.specs.Prelude.{Some}
-use Rattle.im_codepred.specs.Tallies.{chosen}
 use Rattle.im_group.specs.MadeGroups.{with_sums}
 use Rattle.im_group.specs.Partials.{keeps}
 use Rattle.im_group.specs.Sums.{SumsOf}
-use Rattle.im_scan.specs.inner.Summed.{wants_ends}
 use Rattle.im_scan.proofs.RangeLemmas.{one-tallied}
 use Rattle.im_scan.proofs.SummedLemmas.{some-inj, tally-for}
 use Rattle.im_scan.proofs.in_range.kept_part.Goals as goal

@@ -5,8 +5,7 @@ use Rattle.im_history.specs.History.{History}
 use Rattle.im_history.specs.Serving.{rows_in}
 use Rattle.im_history.specs.Units.{Content}
 use Rattle.im_scan.specs.Pinned.{IsPinned, seen_in}
-use Rattle.im_scan.specs.inner.Steps.{MayScan}
-use Rattle.std.proofs.lemmas.Result.{IfOk-weaker}
+use Rattle.im_scan.specs.inner.Steps.{MayScanShown}
 use Rattle.im_group.specs.Partials.{Parts, partial}
 use Rattle.im_history.specs.Rows.{Row, present}
 use Rattle.im_scan.specs.Faces.{Shows, unit_of}
@@ -19,22 +18,16 @@ use Rattle.im_scan.proofs.parts.part.Goals as goal
 pub overflow_mul-first : goal.overflow_mul-first
 overflow_mul-first c = let first = begins c.args.view.now c.args.extent c.requires.cut c.requires.within in omega (arith, first)
 
-pub fetched_part-requires-clause-within : goal.fetched_part-requires-clause-within
-fetched_part-requires-clause-within c =
+pub shown_part-requires-clause-within : goal.shown_part-requires-clause-within
+shown_part-requires-clause-within c =
     let first = begins c.args.view.now c.args.extent c.requires.cut c.requires.within in
     omega (arith, first, c.min-count.ensures)
 
-pub fetched_part-requires-clause-fits : goal.fetched_part-requires-clause-fits
-fetched_part-requires-clause-fits c =
-    let may : MayScan c.args.bound.now (unit_of c.args.face) c.args.fetched.now c.args.view.now.own = record
+pub shown_part-requires-clause-fits : goal.shown_part-requires-clause-fits
+shown_part-requires-clause-fits c =
+    let may : MayScanShown c.args.bound.now (unit_of c.args.face) c.args.fetched.now c.args.view.now = record
     { unit_fits = c.requires.unit_fits; fetched_fits = c.requires.fetched_fits; own_fits = c.requires.own_fits } in
-    subst (λ b. MayScan b (unit_of c.args.face) c.args.fetched.now c.args.view.now.own) (sym c.in_ok-asking.ensures) may
-
-pub mixed_part-requires-clause-fits : goal.mixed_part-requires-clause-fits
-mixed_part-requires-clause-fits c =
-    let may : MayScan c.args.bound.now (unit_of c.args.face) c.args.fetched.now c.args.view.now.own = record
-    { unit_fits = c.requires.unit_fits; fetched_fits = c.requires.fetched_fits; own_fits = c.requires.own_fits } in
-    subst (λ b. MayScan b (unit_of c.args.face) c.args.fetched.now c.args.view.now.own) (sym c.in_ok-asking.ensures) may
+    subst (λ b. MayScanShown b (unit_of c.args.face) c.args.fetched.now c.args.view.now) (sym c.in_ok-asking.ensures) may
 
 -- the part of the rows that are taken is that of the rows that are seen
 seen : (asking bound : Bound) (view : View) (extent count : ℕ) (fetched : List (ℕ × Option Row)) (face : Face) (answer : Parts)
@@ -47,15 +40,7 @@ seen asking bound view extent count fetched face answer is same long history uni
     ∙ (ap (λ (n : ℕ). partial bound (present (taken_row (unit_of face) fetched view) (extent * view.per) n)) long
     ∙ part-seen history view extent unit fetched face bound shows pinned))
 
-pub returns-in-Some-clause-seen : goal.returns-in-Some-clause-seen
-returns-in-Some-clause-seen c history unit shows pinned =
-    seen c.in_ok-asking.asking c.args.bound.now c.args.view.now c.args.extent c.min-count.result c.args.fetched.now c.args.face c.in-Some.part
-    (c.in_ok-part.ensures c.in-Some.part c.in-Some.is) c.in_ok-asking.ensures c.min-count.ensures history unit shows pinned
-
 pub returns-clause-seen : goal.returns-clause-seen
-returns-clause-seen c =
-    IfOk-weaker c.mixed_part.result _ _
-    (λ answer is history unit shows pinned.
-    seen c.in_ok-asking.asking c.args.bound.now c.args.view.now c.args.extent c.min-count.result c.args.fetched.now c.args.face answer
-    is c.in_ok-asking.ensures c.min-count.ensures history unit shows pinned)
-    c.mixed_part.ensures
+returns-clause-seen c history unit shows pinned =
+    seen c.in_ok-asking.asking c.args.bound.now c.args.view.now c.args.extent c.min-count.result c.args.fetched.now c.args.face c.in_ok-part.part
+    c.in_ok-part.ensures c.in_ok-asking.ensures c.min-count.ensures history unit shows pinned

@@ -1,21 +1,19 @@
 use Rattle.std.proofs.Common.{◌++◌, Option, sym, ap, ◌∙◌, append-nil}
-use Rattle.std.specs.Option.{option_copied}
 use Rattle.std.proofs.lemmas.Result.{on_ok_weaker}
-use denote.Ref.{Bor}
 use Rattle.im_history.specs.Rows.{Row}
 use Rattle.im_group.specs.Partials.{partial}
 use Rattle.im_scan.specs.inner.Steps.{numbered}
 use Rattle.im_scan.proofs.parts.take_row.Goals as goal
 
 pub take-requires-clause-fits : goal.take-requires-clause-fits
-take-requires-clause-fits c = c.requires.fits c.in-Some.row.now (ap (λ (o : Option (Bor Row)). option_copied o) c.in-Some.is)
+take-requires-clause-fits c = c.requires.fits c.in-Some.row c.in-Some.is
 
 pub returns-in-Some : goal.returns-in-Some
 returns-in-Some c =
     on_ok_weaker c.take.result
     (λ on. record {
       goes = λ rows old. on.goes rows old
-          ∙ ap (λ (o : Option (Bor Row)). partial c.args.asking.now (rows ++ numbered c.args.rid (option_copied o))) (sym c.in-Some.is);
+          ∙ ap (λ (o : Option Row). partial c.args.asking.now (rows ++ numbered c.args.rid o)) (sym c.in-Some.is);
     })
     c.take.ensures
 
@@ -24,5 +22,5 @@ returns-in-None c = record {
   goes = λ rows old.
       old
       ∙ (ap (partial c.args.asking.now) (sym (append-nil rows))
-      ∙ ap (λ (o : Option (Bor Row)). partial c.args.asking.now (rows ++ numbered c.args.rid (option_copied o))) (sym c.in-None.is));
+      ∙ ap (λ (o : Option Row). partial c.args.asking.now (rows ++ numbered c.args.rid o)) (sym c.in-None.is));
 }

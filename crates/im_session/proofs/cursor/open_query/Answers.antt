@@ -2,7 +2,6 @@ use Rattle.std.proofs.Common.{◌≡◌, ◌∙◌, ℕ, true, false, ap, length
 use Rattle.im_history.specs.Cursors.{is_cursor_open}
 use Rattle.im_history.specs.declared.entry.What.TheVariants.{Open}
 use Rattle.im_history.specs.declared.view.View.{View}
-use Rattle.im_history.specs.Refusals.{open_refusal}
 use Rattle.im_history.specs.Views.{view_at}
 use Rattle.im_plan.specs.Plan.{End}
 use Rattle.im_replies.specs.declared.body.Body.TheVariants.{Opened}
@@ -17,6 +16,8 @@ use Rattle.im_session.proofs.RestLemmas.{decide-done}
 use Rattle.im_session.proofs.cursor.open_query.Goals as goal
 use Rattle.im_statements.specs.Cursors.{open_query}
 use Rattle.im_statements.specs.Outcomes.{Opens, Replied}
+use Rattle.im_statements.specs.Scans.{opening_refusal}
+use Rattle.im_statements.specs.Statements.{seen_columns}
 use Rattle.im_statements.specs.Turns.{settled_reply}
 
 pub returns-in-Ok-clause-rest : goal.returns-in-Ok-clause-rest
@@ -24,10 +25,11 @@ returns-in-Ok-clause-rest g c =
     let number = c.args.number in
     let bound = c.args.bound in
     let who = c.args.context.now.who in
-    subst (λ (k : Cursor). IsRest who 0 (g.H.Reach.known c.args.reach.now) (open_query who number bound)
+    let columns = seen_columns (g.H.Reach.known c.args.reach.now).log c.args.bound.table in
+    subst (λ (k : Cursor). IsRest who 0 (g.H.Reach.known c.args.reach.now) (open_query who number columns bound)
     (Replied c.settled.result (Opens (query_of k))) (g.H.Reach.known c.open_cursor.new.reach)) (sym c.in-Ok.ensures.opened.is)
-    (decide-done who 0 (g.H.Reach.known c.args.reach.now) (g.H.Reach.known c.open_cursor.new.reach) (fault_of (aim.Opening number))
-    (λ at. open_refusal at who number) (λ at. Open number bound.table) _
+    (decide-done who 0 (g.H.Reach.known c.args.reach.now) (g.H.Reach.known c.open_cursor.new.reach) (fault_of (aim.Opening bound.table number))
+    (λ at. opening_refusal at who number bound.table columns) (λ at. Open number bound.table) _
     (λ at. End (Replied (settled_reply (length at) (Opened number (view_at at who bound.table).scn (view_at at who bound.table).extents))
     (Opens (record { cursor = number; bound = bound; view = view_at at who bound.table; next = 0 })))) _
     c.in-Ok.ensures.opened.added (λ at fact. fact.0)
@@ -43,7 +45,8 @@ returns-in-Ok-clause-fresh g c = λ x is.
     let number : c.in-Ok.cursor.number ≡ c.args.number = ap (λ (k : Cursor). k.number) c.in-Ok.ensures.opened.is in
     subst (λ (k : Cursor). is_cursor_open (g.H.Reach.known c.args.reach.now).log c.args.context.now.who k.number ≡ false) same
     (ap (λ (n : ℕ). is_cursor_open (g.H.Reach.known c.args.reach.now).log c.args.context.now.who n) number
-    ∙ added-fresh c.args.context.now.who c.args.number c.args.bound.table (g.H.Reach.known c.args.reach.now) (g.H.Reach.known c.open_cursor.new.reach) _
+    ∙ added-fresh c.args.context.now.who c.args.number c.args.bound.table (seen_columns (g.H.Reach.known c.args.reach.now).log c.args.bound.table)
+    (g.H.Reach.known c.args.reach.now) (g.H.Reach.known c.open_cursor.new.reach) _
     c.in-Ok.ensures.opened.added c.requires.speaks)
 
 pub returns-in-Err-clause-rest : goal.returns-in-Err-clause-rest
@@ -51,8 +54,9 @@ returns-in-Err-clause-rest g c =
     let number = c.args.number in
     let bound = c.args.bound in
     let who = c.args.context.now.who in
+    let columns = seen_columns (g.H.Reach.known c.args.reach.now).log c.args.bound.table in
     rw c.refused_reply.ensures
-    (unopened-rest who 0 number bound.table (g.H.Reach.known c.args.reach.now) (g.H.Reach.known c.open_cursor.new.reach) true (fault_of (aim.Opening number))
+    (unopened-rest who 0 number bound.table columns (g.H.Reach.known c.args.reach.now) (g.H.Reach.known c.open_cursor.new.reach) true (fault_of (aim.Opening bound.table number))
     (λ at. End (Replied (settled_reply (length at) (Opened number (view_at at who bound.table).scn (view_at at who bound.table).extents))
     (Opens (record { cursor = number; bound = bound; view = view_at at who bound.table; next = 0 }))))
     c.in-Err.refused c.requires.speaks c.requires.shut c.in-Err.ensures.err)

@@ -1,4 +1,4 @@
-use Rattle.std.proofs.Common.{ℕ, arith, ap, subst, sym}
+use Rattle.std.proofs.Common.{arith, subst, sym}
 use Rattle.im_history.specs.Tables.{tables}
 use Rattle.im_names.specs.declared.resolved.Resolved.{Resolved}
 use Rattle.im_names.specs.declared.resolved.Resolved.TheVariants as resolved
@@ -7,7 +7,7 @@ use Rattle.im_session.specs.Reads.{Unread}
 use Rattle.im_session.specs.inner.Running.{IsRun}
 use Rattle.im_session.specs.Sessions.{state_of}
 use Rattle.im_session.proofs.SessionLemmas.{counted-resolved, run-resolved}
-use Rattle.im_session.proofs.TableLemmas.{may-insert, seen-columns}
+use Rattle.im_session.proofs.TableLemmas.{may-put, seen-columns}
 use Rattle.im_session.proofs.playing.play.Goals as goal
 use Rattle.im_statements.specs.Statements.{resolved_plan}
 
@@ -23,9 +23,8 @@ scan-requires-in-Explain-clause-seen g c κs within =
 
 pub insert-requires-clause-seen : goal.insert-requires-clause-seen
 insert-requires-clause-seen g c =
-    ap (λ (n : ℕ). record { table = c.in-Insert.table; columns = n })
-    (seen-columns (g.H.Reach.known c.args.reach.now).log c.args.context.now.who c.in-Insert.table _ c.args.look.now c.requires.look
-    c.columns_of-columns-in-Insert.ensures)
+    seen-columns (g.H.Reach.known c.args.reach.now).log c.args.context.now.who c.in-Insert.table _ c.args.look.now c.requires.look
+    c.columns_of-columns-in-Insert.ensures
 
 pub open-requires-clause-seen : goal.open-requires-clause-seen
 open-requires-clause-seen g c =
@@ -34,7 +33,9 @@ open-requires-clause-seen g c =
 
 pub insert-requires-clause-may : goal.insert-requires-clause-may
 insert-requires-clause-may g c =
-    may-insert (g.H.Reach.known c.args.reach.now).log c.in-Insert.table c.in-Insert.rows
+    may-put (g.H.Reach.known c.args.reach.now).log c.in-Insert.table _ c.in-Insert.rows
+    (seen-columns (g.H.Reach.known c.args.reach.now).log c.args.context.now.who c.in-Insert.table _ c.args.look.now c.requires.look
+    c.columns_of-columns-in-Insert.ensures)
     (subst (λ (r : Resolved). Serves (tables (g.H.Reach.known c.args.reach.now).log) r) c.in-Insert.is c.requires.serves)
 
 pub returns-in-Select-clause-run : goal.returns-in-Select-clause-run

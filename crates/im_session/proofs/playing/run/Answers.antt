@@ -1,11 +1,14 @@
 use Rattle.std.proofs.Common.{◌≡◌, ◌∙◌, sym, subst, arith}
+use Rattle.im_history.specs.declared.look.Look.{Look}
 use Rattle.im_history.specs.Views.{look_at}
+use Rattle.im_names.specs.Fitting.{Serves}
 use Rattle.im_session.specs.Reads.{IsCounted, Reading, Unread, reading_of}
 use Rattle.im_session.specs.Sessions.{state_of}
 use Rattle.im_session.proofs.NameLemmas.{defines-resolved, reading-resolved}
 use Rattle.im_session.proofs.ReadsLemmas.{counted-within, longer-found, longer-same}
 use Rattle.im_session.proofs.SessionLemmas.{kept-found, run-defined, run-lacking, run-looked, run-misnamed}
 use Rattle.im_session.proofs.ScanLemmas.{went-log}
+use Rattle.im_session.proofs.TableLemmas.{defaults-look}
 use Rattle.im_session.proofs.playing.run.Goals as goal
 
 pub returns-then-is_definition-clause-run : goal.returns-then-is_definition-clause-run
@@ -26,6 +29,14 @@ play-reply-requires-clause-agrees g c κs within =
     kept-found c.args.context.now.who c.args.kept.now.items
     (g.H.Reach.known c.args.reach.now) (g.H.Reach.known c.look.new.self) _ c.requires.speaks c.requires.agrees
     c.in-Ok.ensures.ok
+
+pub play-reply-requires-clause-serves : goal.play-reply-requires-clause-serves
+play-reply-requires-clause-serves g c κs within =
+    let who = c.args.context.now.who in
+    let looked = g.H.Reach.known c.look.new.self in
+    let look_is = went-log (g.H.Reach.known c.args.reach.now) looked (λ at. c.in-Ok.look ≡ look_at at who) c.in-Ok.ensures.ok in
+    subst (λ (l : Look). Serves l.tables c.in-Ok-resolve.resolved) look_is
+    (c.in-Ok-resolve.ensures.serves (defaults-look looked.limits looked.log who c.in-Ok.look c.in-Ok.ensures.lawful.legal look_is))
 
 pub play-reply-requires-clause-shut : goal.play-reply-requires-clause-shut
 play-reply-requires-clause-shut g c κs within =

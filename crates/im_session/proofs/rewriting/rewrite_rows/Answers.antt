@@ -1,6 +1,5 @@
 use Rattle.std.proofs.Common.{◌≡◌, false, refl, subst, sym}
-use Rattle.im_history.specs.Tables.{table_at, tables}
-use Rattle.im_history.specs.Units.{columns_of}
+use Rattle.im_history.specs.Tables.{tables}
 use Rattle.im_names.specs.Fitting.{OfTable, QueryServes}
 use Rattle.im_session.specs.declared.scan.Purpose.TheVariants.{Rewrite}
 use Rattle.im_session.specs.inner.Purposes.{plan_of}
@@ -9,6 +8,7 @@ use Rattle.im_session.specs.inner.Writes.{RewriteServes}
 use Rattle.im_session.proofs.WriteLemmas.{condition-serves}
 use Rattle.im_session.proofs.rewriting.rewrite_rows.Goals as goal
 use Rattle.im_statements.specs.Outcomes.{said}
+use Rattle.im_statements.specs.Statements.{seen_columns}
 use Rattle.im_syntax.specs.declared.bound.Bound.{Bound}
 
 pub scan-requires-clause-serves : goal.scan-requires-clause-serves
@@ -18,7 +18,7 @@ scan-requires-clause-serves g c κs within =
 
 pub scan-requires-clause-seen : goal.scan-requires-clause-seen
 scan-requires-clause-seen g c κs within =
-    subst (λ (b : Bound). c.args.columns ≡ columns_of (table_at (g.H.Reach.known c.args.reach.now).log b.table)) (sym c.condition_query-bound.ensures)
+    subst (λ (b : Bound). c.args.columns ≡ seen_columns (g.H.Reach.known c.args.reach.now).log b.table) (sym c.condition_query-bound.ensures)
     c.requires.seen
 
 pub scan-requires-clause-may : goal.scan-requires-clause-may
@@ -30,5 +30,6 @@ scan-requires-clause-may g c κs within =
 pub returns-clause-rest : goal.returns-clause-rest
 returns-clause-rest g c =
     subst (λ (b : Bound). IsRest c.args.context.now.who 0 (g.H.Reach.known c.args.reach.now)
-    (plan_of (g.H.Reach.known c.args.reach.now).limits c.args.context.now.who b (Rewrite c.args.rewriting)) (said c.scan.result)
+    (plan_of (g.H.Reach.known c.args.reach.now).limits c.args.context.now.who
+    (seen_columns (g.H.Reach.known c.args.reach.now).log b.table) b (Rewrite c.args.rewriting)) (said c.scan.result)
     (g.H.Reach.known c.scan.new.reach)) c.condition_query-bound.ensures c.scan.ensures.rest

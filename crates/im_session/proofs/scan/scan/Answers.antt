@@ -12,6 +12,7 @@ use Rattle.im_session.proofs.scan.scan.Goals as goal
 use Rattle.im_history.specs.declared.cursors.TheConstants.{OWN_CURSOR}
 use Rattle.im_history.specs.Views.{view_at}
 use Rattle.im_statements.specs.Scans.{rows_seen, serve_from}
+use Rattle.im_statements.specs.Statements.{seen_columns}
 
 pub use_scan-reply-requires-clause-speaks : goal.use_scan-reply-requires-clause-speaks
 use_scan-reply-requires-clause-speaks g c κs within =
@@ -43,7 +44,8 @@ returns-in-Err-clause-rest g c =
     let bound = c.args.bound in
     let limits = (g.H.Reach.known c.args.reach.now).limits in
     rw c.refused_reply.ensures
-    (unopened-rest who 0 OWN_CURSOR bound.table (g.H.Reach.known c.args.reach.now) (g.H.Reach.known c.open_cursor.new.reach) false (fault_of (aim.Opening OWN_CURSOR))
+    (unopened-rest who 0 OWN_CURSOR bound.table (seen_columns (g.H.Reach.known c.args.reach.now).log c.args.bound.table) (g.H.Reach.known c.args.reach.now)
+    (g.H.Reach.known c.open_cursor.new.reach) false (fault_of (aim.Opening bound.table OWN_CURSOR))
     (λ at.
     serve_from (view_at at who bound.table) bound.filter 0
     (behind_scan limits who bound c.args.purpose (length at) (view_at at who bound.table) (rows_seen at (view_at at who bound.table))))

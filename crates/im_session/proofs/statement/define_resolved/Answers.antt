@@ -11,3 +11,12 @@ alter-requires-clause-may g c = record {
       (subst (λ (r : Resolved). Serves (tables (g.H.Reach.known c.args.reach.now).log) r) c.in-Memory.is c.requires.serves);
   idle = c.requires.idle;
 }
+
+pub add_column-requires-clause-exists : goal.add_column-requires-clause-exists
+add_column-requires-clause-exists g c =
+    exists-of (g.H.Reach.known c.args.reach.now).log c.in-AddColumn.table _
+    (subst (λ (r : Resolved). Serves (tables (g.H.Reach.known c.args.reach.now).log) r) c.in-AddColumn.is c.requires.serves)
+
+pub add_column-requires-clause-fits : goal.add_column-requires-clause-fits
+add_column-requires-clause-fits g c =
+    (subst (λ (r : Resolved). Serves (tables (g.H.Reach.known c.args.reach.now).log) r) c.in-AddColumn.is c.requires.serves).is

@@ -4,5 +4,5 @@ use Rattle.im_unit.proofs.building.values_lent.Goals as goal
 
 pub value_in-requires : goal.value_in-requires
 value_in-requires c =
-    let wide = wide-at c.args.width c.args.rows.now c.loop-i.i c.index-rows-i.result c.requires.rows c.loop-i-test.true c.index-rows-i.is in
+    let wide = wide-at c.args.width c.args.defaults.now c.args.rows.now c.loop-i.i c.index-rows-i.result c.requires.rows c.loop-i-test.true c.index-rows-i.is in
     omega (arith, wide, c.requires.inside)

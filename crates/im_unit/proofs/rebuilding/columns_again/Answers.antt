@@ -8,7 +8,7 @@ use Rattle.im_column.specs.Forms.{IsShort}
 use Rattle.im_column.specs.Picks.{values_picked}
 use Rattle.im_history.specs.Rows.{Row}
 use Rattle.im_unit.specs.Holding.{values_in}
-use Rattle.im_unit.specs.inner.Kept.{lent, lent_values}
+use Rattle.im_unit.specs.inner.Kept.{lent_values}
 use Rattle.im_unit.proofs.BuildLemmas.{mapped-more, short-in}
 use Rattle.im_unit.proofs.PieceLemmas.{column-at}
 use Rattle.im_unit.proofs.ReadLemmas.{long-at}
@@ -20,15 +20,14 @@ column_again-requires-clause-places c = λ k d inside.
     let fresh = c.args.fresh.now in
     let column = c.loop-column.column in
     let long = long-at arc_value old c.args.count column c.index-old-column.result c.requires.long c.loop-column-test.true c.index-old-column.is in
-    let many : length (lent_values c.in_ok-values.values.items) ≡ length (lent fresh) =
-    ap length c.in_ok-values.ensures ∙ length-map (lent fresh) (λ (row : Row). get_or row column Null) in
+    let many : length (lent_values c.in_ok-values.values.items) ≡ length fresh =
+    ap length c.in_ok-values.ensures ∙ length-map fresh (λ (row : Row). get_or row column Null) in
     omega (
       arith,
       c.requires.places k d inside,
       long,
       many,
       length-map c.in_ok-values.values.items (λ (value : Bor Value). value.now),
-      length-map fresh (λ (row : Bor Row). row.now),
       ap length c.as_slice.ensures.value,
     )
 
@@ -42,12 +41,12 @@ column_again-requires-clause-short_old c =
 pub column_again-requires-clause-short_fresh : goal.column_again-requires-clause-short_fresh
 column_again-requires-clause-short_fresh c =
     subst (All IsShort) (sym (ap lent_values c.as_slice.ensures.value ∙ c.in_ok-values.ensures))
-    (short-in (length c.args.old.now) (lent c.args.fresh.now) c.loop-column.column c.requires.rows c.loop-column-test.true)
+    (short-in (length c.args.old.now) c.args.fresh.now c.loop-column.column c.requires.rows c.loop-column-test.true)
 
 pub loop-column-preserved : goal.loop-column-preserved
 loop-column-preserved c =
     let old = c.args.old.now in
-    let fresh = lent c.args.fresh.now in
+    let fresh = c.args.fresh.now in
     let places = c.args.places.now in
     let column = c.loop-column.column in
     mapped-more arc_value (λ column. values_picked (get_or (map arc_value old) column []) (values_in column fresh) places)

@@ -6,4 +6,4 @@ use Rattle.im_worker.proofs.rows.padded.Given as goal
 
 -- the rows of the pieces so far
 abbrev pub invariant-loop-piece : goal.invariant-loop-piece
-invariant-loop-piece l = lent_slots l.slots.items ≡ fetched_rows (in_pieces (take l.piece-index l.piece-items))
+invariant-loop-piece l = lent_slots l.slots.items ≡ fetched_rows (in_pieces (take l.piece-index l.pieces))

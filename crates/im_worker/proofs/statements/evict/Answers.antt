@@ -31,7 +31,7 @@ evict_extent-requires-clause-stands g c =
 pub evict_extent-requires-clause-exists : goal.evict_extent-requires-clause-exists
 evict_extent-requires-clause-exists g c =
     named-exists c.args.who c.in-Ok.look c.in-Ok-resolved.resolved (c.in-Some.table, c.in-Some.extent) (g.H.Reach.known c.args.reach.now)
-    (g.H.Reach.known c.look.new.self) c.in-Ok.ensures.ok c.in-Ok-resolved.ensures.serves (sym c.extent_of-extent.ensures ∙ c.in-Some.is)
+    (g.H.Reach.known c.look.new.self) c.in-Ok.ensures.ok c.in-Ok.ensures.lawful c.in-Ok-resolved.ensures.serves (sym c.extent_of-extent.ensures ∙ c.in-Some.is)
 
 pub returns-in-Some : goal.returns-in-Some
 returns-in-Some g c = record {

@@ -1,7 +1,6 @@
-use Rattle.std.proofs.Common.{◌≡◌, ◌+◌, ◌^◌, ◌≤◌, ◌++◌, [], ◌∷◌, List, All, length, subst, sym, ap, ◌∙◌}
+use Rattle.std.proofs.Common.{◌≡◌, ◌+◌, ◌^◌, ◌≤◌, ◌++◌, [], ◌∷◌, All, length, subst, sym, ap, ◌∙◌}
 use Rattle.std.proofs.lemmas.List.{length-append}
 use Rattle.std.proofs.lemmas.List.Elements.{All-push}
-use Rattle.im_history.specs.declared.fetched.Piece.{Piece}
 use Rattle.im_history.specs.declared.fetched.Piece.TheVariants.{Run}
 use Rattle.im_history.specs.Fetched.{HasNumbers, in_pieces, run_from}
 use Rattle.im_history.proofs.FetchedLaws.{in_pieces-push, length-run_from}

@@ -1,4 +1,5 @@
 use Rattle.std.proofs.Common.{◌≡◌, ℕ, Result, Ok, Err, refl}
+use Rattle.std.specs.Option.{option_or}
 use Rattle.std.specs.Result.{IfErr, OnErr}
 use Rattle.im_core.specs.Answers.{IsRefusal}
 use Rattle.im_core.specs.Seen.{Seen}
@@ -6,7 +7,7 @@ use Rattle.im_history.specs.declared.refused.Refused.{Refused}
 use Rattle.im_core.specs.declared.answers.Wrote.{Wrote}
 use Rattle.im_history.specs.History.{History}
 use Rattle.im_history.specs.Legal.{put_from}
-use Rattle.im_history.specs.Refusals.{insert_refusal}
+use Rattle.im_history.specs.Refusals.{altered, insert_refusal}
 use Rattle.im_history.specs.Tables.{given}
 use Rattle.im_reach.specs.Sides.{Found, Known, sole}
 use Rattle.im_reach.proofs.RestLaws.{nobody-came}
@@ -24,5 +25,6 @@ found (Err why) holds misses old new same fact = record { at = old.log; after = 
 pub returns-clause-err : goal.returns-clause-err
 returns-clause-err g c =
     let a = c.args in
-    found c.insert-answer.result (λ at why. IsRefusal at (insert_refusal a.self.now.core.limits at a.who (put_from a.opening.table (given at a.opening.table) a.rows)) why)
+    found c.insert-answer.result (λ at why. IsRefusal at (option_or (altered at a.opening.table a.opening.columns)
+    (insert_refusal a.self.now.core.limits at a.who (put_from a.opening.table (given at a.opening.table) a.rows))) why)
     a.self.now.misses a.self.now.core c.insert-answer.new.self c.insert-answer.ensures.err c.insert-answer.ensures.refused

@@ -4,7 +4,7 @@ use Rattle.im_core.specs.Seen.{Seen, Adds}
 use Rattle.im_history.specs.declared.entry.What.TheVariants.{Open}
 use Rattle.im_history.specs.declared.refused.Refused.{Refused}
 use Rattle.im_history.specs.declared.view.View.{View}
-use Rattle.im_history.specs.Refusals.{open_refusal}
+use Rattle.im_history.specs.Refusals.{altered, open_refusal}
 use Rattle.im_history.specs.Views.{view_at}
 use Rattle.im_reach.specs.Sides.{Added, Known, sole}
 use Rattle.im_reach.proofs.RestLaws.{nobody-came}
@@ -14,15 +14,15 @@ use Rattle.im_reach.proofs.sole.SoleReach.open_cursor.Goals as goal
 abbrev known : Seen → ℕ → Known
 known seen misses = record { side = sole; limits = seen.limits; log = seen.log; misses = misses }
 
-opened : (result : Result View Refused) (who cursor table misses : ℕ) (old new : Seen) → OnOk result (Adds old who (Open cursor table) new)
-    → OnOk result (open_refusal old.log who cursor ≡ None) → IfOk result (λ view. view ≡ view_at old.log who table)
+opened : (result : Result View Refused) (who cursor table columns misses : ℕ) (old new : Seen) → OnOk result (Adds old who (Open cursor table) new)
+    → OnOk result (altered old.log table columns ≡ None) → OnOk result (open_refusal old.log who cursor ≡ None) → IfOk result (λ view. view ≡ view_at old.log who table)
     → IfOk result (λ view. Added (known old misses) (known new misses) who (λ at. Open cursor table) (λ at.
-    (open_refusal at who cursor ≡ None) × (view ≡ view_at at who table)))
-opened (Ok view) who cursor table misses old new added allowed is =
-    record { at = old.log; after = nobody-came sole old.log; now = rw added refl; fact = (allowed, is) }
-opened (Err refused) who cursor table misses old new added allowed is = tt
+    (altered at table columns ≡ None) × (open_refusal at who cursor ≡ None) × (view ≡ view_at at who table)))
+opened (Ok view) who cursor table columns misses old new added seen allowed is =
+    record { at = old.log; after = nobody-came sole old.log; now = rw added refl; fact = (seen, allowed, is) }
+opened (Err refused) who cursor table columns misses old new added seen allowed is = tt
 
 pub returns-clause-ok : goal.returns-clause-ok
 returns-clause-ok g c =
-    opened c.open_cursor-answer.result c.args.who c.args.cursor c.args.opening.table c.args.self.now.misses c.args.self.now.core c.open_cursor-answer.new.self
-    c.open_cursor-answer.ensures.ok c.open_cursor-answer.ensures.allowed c.open_cursor-answer.ensures.view
+    opened c.open_cursor-answer.result c.args.who c.args.cursor c.args.opening.table c.args.opening.columns c.args.self.now.misses c.args.self.now.core c.open_cursor-answer.new.self
+    c.open_cursor-answer.ensures.ok c.open_cursor-answer.ensures.seen c.open_cursor-answer.ensures.allowed c.open_cursor-answer.ensures.view

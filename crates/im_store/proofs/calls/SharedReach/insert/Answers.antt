@@ -2,16 +2,12 @@ use Rattle.im_history.specs.Legal.{put_from}
 use Rattle.im_history.specs.Tables.{given}
 use Rattle.im_history.specs.declared.entry.What.TheVariants.{Write}
 use Rattle.im_store.proofs.CallLemmas.{grew_either, mine_in, went_since}
-use Rattle.im_store.proofs.OtherLaws.{MayInsert-on, seen-on}
+use Rattle.im_store.proofs.OtherLaws.{MayPut-on}
 use Rattle.im_store.proofs.calls.SharedReach.insert.Goals as goal
 
 pub insert-answer-requires-clause-may : goal.insert-answer-requires-clause-may
 insert-answer-requires-clause-may g c =
-    MayInsert-on (went_since c.args.who c.self.view_is c.take-core.ensures.took c.requires.speaks) c.args.opening.table c.args.rows c.requires.may
-
-pub insert-answer-requires-clause-seen : goal.insert-answer-requires-clause-seen
-insert-answer-requires-clause-seen g c =
-    seen-on (went_since c.args.who c.self.view_is c.take-core.ensures.took c.requires.speaks) c.args.opening c.requires.may.exists c.requires.seen
+    MayPut-on (went_since c.args.who c.self.view_is c.take-core.ensures.took c.requires.speaks) c.args.opening c.args.rows c.requires.may
 
 pub give-requires-clause-grew : goal.give-requires-clause-grew
 give-requires-clause-grew g c =

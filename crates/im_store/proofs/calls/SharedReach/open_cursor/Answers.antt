@@ -1,15 +1,11 @@
 use Rattle.im_history.specs.declared.entry.What.TheVariants.{Open}
 use Rattle.im_store.proofs.CallLemmas.{grew_either, mine_in, went_since}
-use Rattle.im_store.proofs.OtherLaws.{Exists-on, seen-on}
+use Rattle.im_store.proofs.OtherLaws.{Exists-on}
 use Rattle.im_store.proofs.calls.SharedReach.open_cursor.Goals as goal
 
 pub open_cursor-answer-requires-clause-exists : goal.open_cursor-answer-requires-clause-exists
 open_cursor-answer-requires-clause-exists g c =
     Exists-on (went_since c.args.who c.self.view_is c.take-core.ensures.took c.requires.speaks) c.args.opening.table c.requires.exists
-
-pub open_cursor-answer-requires-clause-seen : goal.open_cursor-answer-requires-clause-seen
-open_cursor-answer-requires-clause-seen g c =
-    seen-on (went_since c.args.who c.self.view_is c.take-core.ensures.took c.requires.speaks) c.args.opening c.requires.exists c.requires.seen
 
 pub give-requires-clause-grew : goal.give-requires-clause-grew
 give-requires-clause-grew g c =

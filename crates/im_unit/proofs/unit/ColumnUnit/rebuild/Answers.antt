@@ -3,15 +3,13 @@ use Rattle.std.specs.Prelude.{is_some}
 use Rattle.std.specs.Arc.{arc_value}
 use Rattle.std.specs.List.{All}
 use Rattle.std.proofs.lemmas.List.{length-map}
-use denote.Ref.{Bor}
 use Rattle.im_values.specs.declared.content.Content.{Content as Value}
 use Rattle.im_column.specs.Forms.{IsShort}
-use Rattle.im_history.specs.Fetched.{lent_rows}
 use Rattle.im_history.specs.Rows.{Row}
 use Rattle.im_history.specs.Units.{Content}
 use Rattle.im_unit.specs.Holding.{AreShort, HaveWidth, columns_of, count_present, present_rows}
 use Rattle.im_unit.specs.Rebuilt.{fetched_rows, rows_with}
-use Rattle.im_unit.specs.inner.Kept.{AreRows, content_kept, lent, rows_kept}
+use Rattle.im_unit.specs.inner.Kept.{AreRows, content_kept, rows_kept}
 use Rattle.im_unit.specs.inner.Planned.{columns_picked, places_in, stock}
 use Rattle.im_unit.proofs.ForCallers.{count-present}
 use Rattle.im_unit.proofs.KeptLemmas.{are-rows, columns-kept}
@@ -26,7 +24,7 @@ use Rattle.im_unit.proofs.unit.ColumnUnit.rebuild.Goals.{After-count}
 old_few : (c : After-count) → length c.args.old.now.rows < 2147483648
 old_few c =
     let old = c.args.old.now in
-    let fetched = lent_rows c.args.fetched.now in
+    let fetched = c.args.fetched.now in
     let slots = c.in_ok-slots.slots.items in
     let long = planned-long (stock old.rows fetched) slots (rows_with fetched old.first old.rows) c.in_ok-slots.ensures.planned in
     omega (arith, long, length-with fetched old.first old.rows, c.in_ok-slots.ensures.few)
@@ -48,17 +46,17 @@ old_columns c =
 
 -- ---- what is taken from
 
-again_is : (c : After-count) → IsAgain c.args.old.now.columns c.args.old.now.first c.args.old.now.rows (lent_rows c.args.fetched.now) c.in_ok-slots.slots.items
+again_is : (c : After-count) → IsAgain c.args.old.now.columns c.args.old.now.first c.args.old.now.rows c.args.fetched.now c.in_ok-slots.slots.items
 again_is c =
     let old = c.args.old.now in
-    again old.columns old.first old.rows (lent_rows c.args.fetched.now) c.in_ok-slots.slots.items c.in_ok-slots.ensures.planned (old_wide c)
+    again old.columns old.first old.rows c.args.fetched.now c.in_ok-slots.slots.items c.in_ok-slots.ensures.planned (old_wide c)
     c.requires.width (old_short c) c.requires.short (old_few c)
 
 places_are : (c : After-count) → c.as_slice-5.result.now ≡ places_in c.in_ok-slots.slots.items
 places_are c = c.as_slice-5.ensures.value ∙ (c.in_ok-places.ensures ∙ ap places_in c.as_slice-2.ensures.value)
 
-fresh_are : (c : After-count) → lent c.as_slice-4.result.now ≡ present_rows (fetched_rows (lent_rows c.args.fetched.now))
-fresh_are c = ap lent c.as_slice-4.ensures.value ∙ c.in_ok-fresh.ensures
+fresh_are : (c : After-count) → c.as_slice-4.result.now ≡ present_rows (fetched_rows c.args.fetched.now)
+fresh_are c = c.as_slice-4.ensures.value ∙ c.in_ok-fresh.ensures
 
 pub columns_again-requires-clause-few : goal.columns_again-requires-clause-few
 columns_again-requires-clause-few c =
@@ -81,7 +79,6 @@ columns_again-requires-clause-places c =
       count,
       count-present c.args.old.now.rows,
       fresh,
-      length-map c.as_slice-4.result.now (λ (row : Bor Row). row.now),
     ))
 
 pub columns_again-requires-clause-short : goal.columns_again-requires-clause-short
@@ -95,7 +92,7 @@ pub columns_again-requires-clause-rows : goal.columns_again-requires-clause-rows
 columns_again-requires-clause-rows c =
     let at = (goal.at.columns_again-requires-clause-rows c).After-count in
     let old = c.args.old.now in
-    let fetched = lent_rows c.args.fetched.now in
+    let fetched = c.args.fetched.now in
     let rows = fetched_rows fetched in
     let few = rise-few old.first (old.first + length old.rows) fetched c.requires.within (omega arith) in
     let are : AreRows old.columns (present_rows rows) =
@@ -103,21 +100,21 @@ columns_again-requires-clause-rows c =
     (omega (arith, few, old_few at, length-map fetched (λ (found : ℕ × Option Row). found.1))) in
     let wide : old.columns ≡ length c.as_slice-3.result.now =
     sym (ap length c.as_slice-3.ensures.value ∙ ap (λ (k : Content). k.columns) c.old.view_is) in
-    subst (λ n. AreRows n (lent c.as_slice-4.result.now)) wide (subst (AreRows old.columns) (sym (fresh_are at)) are)
+    subst (λ n. AreRows n (c.as_slice-4.result.now)) wide (subst (AreRows old.columns) (sym (fresh_are at)) are)
 
 -- ---- what is built
 
 is_built : (c : After-count) → (columns : List (List Value)) →
-    columns ≡ columns_picked (map arc_value c.as_slice-3.result.now) (lent c.as_slice-4.result.now) c.as_slice-5.result.now →
-    IsBuilt c.args.old.now.columns (rows_with (lent_rows c.args.fetched.now) c.args.old.now.first c.args.old.now.rows) c.in_ok-presence.presence columns
+    columns ≡ columns_picked (map arc_value c.as_slice-3.result.now) (c.as_slice-4.result.now) c.as_slice-5.result.now →
+    IsBuilt c.args.old.now.columns (rows_with c.args.fetched.now c.args.old.now.first c.args.old.now.rows) c.in_ok-presence.presence columns
 is_built c columns picked =
     let old = c.args.old.now in
-    let fetched = lent_rows c.args.fetched.now in
+    let fetched = c.args.fetched.now in
     let is = again_is c in
     built old.columns (rows_with fetched old.first old.rows) c.in_ok-presence.presence columns is.are
     (c.in_ok-presence.ensures ∙ (ap (map is_some) c.as_slice.ensures.value ∙ is.flags))
     (picked
-    ∙ (ap (λ (l : List (List Value)). columns_picked l (lent c.as_slice-4.result.now) c.as_slice-5.result.now)
+    ∙ (ap (λ (l : List (List Value)). columns_picked l (c.as_slice-4.result.now) c.as_slice-5.result.now)
     (ap (map arc_value) c.as_slice-3.ensures.value ∙ old_columns c)
     ∙ (ap (λ (l : List Row). columns_picked (columns_of old) l c.as_slice-5.result.now) (fresh_are c)
     ∙ (ap (columns_picked (columns_of old) (present_rows (fetched_rows fetched))) (places_are c) ∙ is.columns))))
@@ -150,5 +147,5 @@ returns c =
       scn = c.args.scn;
       first = n;
       columns = old.columns;
-      rows = rows_with (lent_rows c.args.fetched.now) old.first old.rows;
+      rows = rows_with c.args.fetched.now old.first old.rows;
     }) (ap (λ (k : Content). k.first) c.old.view_is)))

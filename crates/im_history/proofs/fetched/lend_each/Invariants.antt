@@ -1,7 +1,0 @@
-use Rattle.std.proofs.Common.{◌≡◌, ◌++◌, take}
-use Rattle.im_history.specs.Fetched.{each_at, lent_rows}
-use Rattle.im_history.proofs.fetched.lend_each.Given as goal
-
--- the rows so far are lent
-abbrev pub invariant-loop-at : goal.invariant-loop-at
-invariant-loop-at l = lent_rows l.rows.items ≡ lent_rows l.fn.rows.items ++ each_at (take l.at l.rids) (take l.at l.block)

@@ -1,6 +1,0 @@
-use Rattle.std.proofs.Common.{◌≡◌, ◌++◌, map, take, Some}
-use Rattle.im_history.proofs.fetched.put_run.Given as goal
-
--- the rows so far are there
-abbrev pub invariant-loop-at : goal.invariant-loop-at
-invariant-loop-at l = l.rows.items ≡ l.fn.rows.items ++ map (λ row. Some row) (take l.at l.run)
