@@ -4,6 +4,7 @@ pub mod ForCallers
 mod GatherLemmas
 mod HandingLemmas
 mod ImageLemmas
+mod JoinLemmas
 mod PageLemmas
 mod PickedLemmas
 mod Places

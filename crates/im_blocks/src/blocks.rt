@@ -75,9 +75,9 @@ impl Blocks {
 
     /// Makes the changes of these pieces ready to be put in, in order, and makes room for them.
     ///
-    /// Rows that are put together at row numbers that have no version stay together, and are shared. It costs one look-up for
-    /// each row number below those that were ever used, and for each other change; and the chains that are new. After an
-    /// error some room may be there.
+    /// Rows that are put together at row numbers that have no version stay together, and are shared; those that are put a few values
+    /// at a time at row numbers in a row are copied into one block. It costs one look-up for each row number below those that were
+    /// ever used, and for each other change; and the chains that are new. After an error some room may be there.
     pub fn reserve(&mut self, pieces: &[Changes]) -> Result<Vec<Ready>, NoMemory>
         ensures same { SameVersions self.old self.new }
         ensures ready { IfOk result (λ ready. IsReadyFor self.new ready.items (all_changes pieces.now)) }

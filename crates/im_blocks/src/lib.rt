@@ -18,6 +18,7 @@ mod drawing;
 mod entering;
 mod gathered;
 mod image;
+mod joining;
 mod pages;
 mod picking;
 mod ready;

@@ -12,6 +12,7 @@ ghost use Rattle.im_blocks.specs.inner.Readying.{AreReady};
 ghost use Rattle.im_history.specs.Puts.{all_changes, put_from};
 
 use crate::entering::enter;
+use crate::joining::joined;
 use crate::ready::Ready;
 use crate::run::Run;
 use crate::slot::{MOST, PackedSlot, Slot};
@@ -64,10 +65,20 @@ impl VersionTable {
 
     /// Makes the changes of these pieces ready to be put in, in order, and makes room for them.
     ///
-    /// Rows that are put together at row numbers that have no version stay together, and are shared. It costs one look-up for
-    /// each row number below those that were ever used, and for each other change; and the chains that are new. After an error
-    /// some room may be there.
+    /// Rows that are put together at row numbers that have no version stay together, and are shared; those that are put a few values
+    /// at a time at row numbers in a row are copied into one block. It costs one look-up for each row number below those that were
+    /// ever used, and for each other change; and the chains that are new. After an error some room may be there.
     pub fn reserve(&mut self, pieces: &[Changes]) -> Result<Vec<Ready>, NoMemory>
+        ensures same { SameVersions self.old self.new }
+        ensures ready { IfOk result (λ ready. IsReadyFor self.new ready.items (all_changes pieces.now)) }
+    {
+        let joined = joined(self.alloc, pieces)?;
+        let ready = self.reserve_pieces(joined.as_slice())?;
+        Ok(ready)
+    }
+
+    /// The same, piece by piece.
+    fn reserve_pieces(&mut self, pieces: &[Changes]) -> Result<Vec<Ready>, NoMemory>
         ensures same { SameVersions self.old self.new }
         ensures ready { IfOk result (λ ready. IsReadyFor self.new ready.items (all_changes pieces.now)) }
     {

@@ -40,11 +40,11 @@ fn byte_at(bytes: &[u8], i: usize) -> u8
     if i < bytes.len() { bytes[i] } else { 0 }
 }
 
-/// Whether it is `race>` and blanks.
+/// Whether it is `race>` and blanks. Its first byte tells most lines apart.
 fn is_race(bytes: &[u8]) -> bool
     ensures { result ≡ forms.is_race bytes.now }
 {
-    if bytes.len() < 5 {
+    if byte_at(bytes, 0) != b'r' || bytes.len() < 5 {
         return false;
     }
     let (front, rest) = bytes.split_at(5);

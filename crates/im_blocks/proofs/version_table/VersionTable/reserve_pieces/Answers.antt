@@ -5,7 +5,7 @@ use Rattle.im_history.specs.Puts.{all_changes}
 use Rattle.im_blocks.specs.inner.Readying.{AreReady}
 use Rattle.im_blocks.proofs.Places.{take-next}
 use Rattle.im_blocks.proofs.RoomLemmas.{AreReady-more, IsReadyFor-all, SameVersions-trans, all_changes-push}
-use Rattle.im_blocks.proofs.version_table.VersionTable.reserve.Goals as goal
+use Rattle.im_blocks.proofs.version_table.VersionTable.reserve_pieces.Goals as goal
 
 pub returns-in_err-reserve_piece-clause-same : goal.returns-in_err-reserve_piece-clause-same
 returns-in_err-reserve_piece-clause-same c = SameVersions-trans _ c.loop-piece.self _ c.loop-piece.invariant.same c.reserve_piece.ensures.same

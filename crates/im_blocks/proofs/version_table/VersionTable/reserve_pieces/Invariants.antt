@@ -2,7 +2,7 @@ use Rattle.std.proofs.Common.{[], take}
 use Rattle.im_history.specs.Puts.{all_changes}
 use Rattle.im_blocks.specs.Transitions.{SameVersions}
 use Rattle.im_blocks.specs.inner.Readying.{AreReady}
-use Rattle.im_blocks.proofs.version_table.VersionTable.reserve.Given as goal
+use Rattle.im_blocks.proofs.version_table.VersionTable.reserve_pieces.Given as goal
 
 -- the changes of the pieces so far are ready
 abbrev pub invariant-loop-piece : goal.invariant-loop-piece
