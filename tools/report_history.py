@@ -1,7 +1,8 @@
 """The history of a report, replayed: docs/definitions.md in plain Python, as tools/check_report reads it.
 
 A `Store` takes the entries one by one, each of which has to be one that may come there, and keeps by places what they tell: the SCN, the
-rows of each commit, who had a change to a row pending, what each number had going on, the units, what is used, and the build that comes next.
+horizon, the rows of each commit, who had a change to a row pending, what each number had going on, the units, what is used, and the build
+that comes next.
 """
 import bisect
 import re
@@ -55,6 +56,11 @@ class Table:
         scns, rows = self.versions.get(rid, ((), ()))
         at = bisect.bisect_right(scns, scn)
         return rows[at - 1] if at else None
+
+    def kept(self, horizon, scn):
+        """How many versions a purge keeps: of each row number those behind the horizon, and the row there."""
+        behind = sum(1 for scns, _ in self.versions.values() for one in scns if horizon < one <= scn)
+        return behind + sum(1 for rid in self.versions if self.row_at(rid, horizon) is not None)
 
     def last_touch(self, rid, scn):
         scns = self.versions.get(rid, ((), ()))[0]
@@ -137,7 +143,7 @@ class Store:
     def __init__(self, area):
         self.area, self.entries, self.tables, self.builds, self.sessions = area, [], [], [], {}
         self.units, self.living, self.waiting, self.credits = {}, {}, set(), 0
-        self.scn, self.weight, self.used, self.left, self.next = [0], [0], [0], [0], [None]
+        self.scn, self.weight, self.used, self.left, self.horizon, self.next = [0], [0], [0], [0], [0], [None]
         self.views, self.states = {}, {}  # of an Open's place; of a number: from which place on it had a session's state
 
     def session(self, who):
@@ -167,7 +173,7 @@ class Store:
     def add(self, entry):
         """Replays one entry, which has to be one that may come here."""
         place, session = len(self.entries), self.session(entry.who)
-        for counted in (self.scn, self.weight, self.used, self.left):
+        for counted in (self.scn, self.weight, self.used, self.left, self.horizon):
             counted.append(counted[-1])
         replay = getattr(self, "add_" + entry.what[0], None) if entry.what else None
         if replay is None or len(entry.what) not in self.LENGTHS.get(entry.what[0], range(5, 1 << 20)):
@@ -179,8 +185,8 @@ class Store:
         states.append((place + 1, len(states), state))
         self.next.append(self.next_build())
 
-    LENGTHS = {"add": [5], "memory": [3], "begin": [2], "open": [3], "shut": [2], "write": [2], "commit": [1], "rollback": [1], "build": [5],
-               "switch": [2], "cancel": [3], "trickle": [2], "evict": [3], "leave": [1]}
+    LENGTHS = {"add": [5], "memory": [3], "begin": [2], "open": [3, 4], "shut": [2], "write": [2], "commit": [1], "rollback": [1], "build": [5],
+               "switch": [2], "cancel": [3], "trickle": [2], "evict": [3], "leave": [1], "purge": [1]}
 
     def table_of(self, record, at):
         number = record.whole(at, 1)
@@ -234,9 +240,22 @@ class Store:
         if cursor in session.cursors:
             entry.record.wrong("cursor %d of number %d is open" % (cursor, entry.who))
         own = {rid: row for number, rid, row in session.pending if number == table.number}
-        scn = self.scn[-1] if session.mode == "committed" else session.scn
+        scn = self.snapshot(session)
+        if len(entry.what) == 4:
+            own, scn = {}, self.asked(entry.record)
         session.cursors[cursor] = self.views[place] = View(table, scn, table.given[-1][1], own)
         table.opened = True
+
+    def snapshot(self, session):
+        """The SCN that a statement of a session reads at."""
+        return self.scn[-1] if session.mode == "committed" else session.scn
+
+    def asked(self, record):
+        """The SCN that a cursor asks for, which has to be one that may be asked for."""
+        scn = record.whole(6)
+        if not self.horizon[-1] <= scn <= self.scn[-1]:
+            record.wrong("the SCNs that may be asked for here are those from %d to %d" % (self.horizon[-1], self.scn[-1]))
+        return scn
 
     def add_shut(self, entry, place, session):
         if session.cursors.pop(entry.record.whole(4), None) is None:
@@ -332,6 +351,19 @@ class Store:
             entry.record.wrong("number %d has something open, or has left" % entry.who)
         session.left = True
         self.left[-1] += 1
+
+    def add_purge(self, entry, place, session):
+        self.horizon[-1] = self.keep()
+
+    def keep(self):
+        """The least SCN that somebody may still read at: a statement, an open cursor, or a build that is held."""
+        cursors = [view.scn for session in self.sessions.values() for view in session.cursors.values()]
+        builds = [build.scn for build in self.builds if not build.ended]
+        return min([self.scn[-1]] + [self.snapshot(session) for session in self.sessions.values()] + cursors + builds)
+
+    def kept(self, place):
+        """How many versions of all rows stand at a place."""
+        return sum(table.kept(self.horizon[place], self.scn[place]) for table in self.tables if table.place < place)
 
     def next_build(self):
         """The table, the extent and the credit of the build that comes next, or None."""

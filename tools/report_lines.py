@@ -284,13 +284,14 @@ class Player:
 
     def query(self, line, turns):
         now, what, who = self.now(line, turns), line.what, line.who
-        cursor = what[6] if what[0] == "OPEN" else 0
+        scn, cursor = what[6], what[7] if what[0] == "OPEN" else 0
         table = self.bound(what, now)
         if cursor and (who, cursor) in self.cursors:
             raise Refused("11", "cursor-open", cursor)
         if cursor and sum(1 for other, _ in self.cursors if other == who) >= CURSORS:
             raise Refused("12", "too-many-cursors", CURSORS)
-        place = turns.take(who, self.why(line), "open", cursor, table.number)
+        self.refuse_scn(scn, now)
+        place = turns.take(who, self.why(line), "open", cursor, table.number, *([] if scn is None else [scn]))
         view = self.store.views[place]
         if cursor:
             self.cursors[(who, cursor)] = (view, what)
@@ -300,6 +301,13 @@ class Player:
         if what[0] == "EXPLAIN":
             return place, [["plan", view.scn, view.extents]] + [["served"] + how for how in hows]
         return place, self.answered(what, view)
+
+    def refuse_scn(self, scn, place):
+        """Refuses the SCN that a query names, where it was not reached, or lies below the horizon."""
+        if scn is not None and scn > self.store.scn[place]:
+            raise Refused("23", "no-such-scn", scn, self.store.scn[place])
+        if scn is not None and scn < self.store.horizon[place]:
+            raise Refused("20", "snapshot-too-old", scn, self.store.horizon[place])
 
     def cursor(self, line, turns):
         key = (line.who, line.what[1])
@@ -417,6 +425,9 @@ class Player:
         if word == "TRICKLE":
             place = turns.take(0, self.why(line), "trickle", line.what[1])
             return None, [["trickle", self.credits(place + 1)]]
+        if word == "PURGE":
+            place = turns.take(0, self.why(line), "purge")
+            return None, [["purged", self.store.horizon[place + 1], self.store.kept(place + 1)]]
         _, name, e, _ = line.what
         if name not in self.tables(turns.least):
             raise Refused("03", "unknown-table", name)
@@ -434,7 +445,7 @@ class Player:
     STATEMENTS = {"CREATE": define, "ALTER": define, "INSERT": insert, "UPDATE": rewrite, "DELETE": rewrite, "SELECT": query, "EXPLAIN": query,
                   "OPEN": query, "STEP": cursor, "FETCH": cursor, "CLOSE": cursor, "SET": transaction, "COMMIT": transaction,
                   "ROLLBACK": transaction, "RUN": background, "BEGIN": background, "SWITCH": background, "CANCEL": background,
-                  "TRICKLE": background, "EVICT": background}
+                  "TRICKLE": background, "EVICT": background, "PURGE": background}
 
 
 def change_text(place, change):

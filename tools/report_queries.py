@@ -7,10 +7,10 @@ strings with one character a byte. A statement is a tuple: its first word, what 
 import collections
 import re
 
-KEYWORDS = frozenset("""ADD ALTER AND ASC BEGIN BETWEEN BLOCK BY CANCEL CLOSE COMMIT COMMITTED COUNT CREATE CRITICAL DEFAULT DELETE DESC
+KEYWORDS = frozenset("""ADD ALTER AND AS ASC BEGIN BETWEEN BLOCK BY CANCEL CLOSE COMMIT COMMITTED COUNT CREATE CRITICAL DEFAULT DELETE DESC
     EVICT EXPLAIN EXTENT FETCH FOR FROM GROUP HIGH IN INMEMORY INSERT INTEGER INTO IS ISOLATION LEVEL LOW MAX MEDIUM MEMCOMPRESS MIN NO NONE
-    NOT NULL NUMBER ONLY OPEN OR ORDER PRIORITY QUERY READ ROLLBACK RUN SELECT SERIALIZABLE SET STEP SUM SWITCH TABLE TRANSACTION TRICKLE
-    UPDATE VALUES VARCHAR2 WHERE""".split())
+    NOT NULL NUMBER OF ONLY OPEN OR ORDER PRIORITY PURGE QUERY READ ROLLBACK RUN SCN SELECT SERIALIZABLE SET STEP SUM SWITCH TABLE
+    TRANSACTION TRICKLE UPDATE VALUES VARCHAR2 WHERE""".split())
 TOKEN = re.compile(r"""(?P<blank>[ \t\r]+|--.*)|(?P<word>[A-Za-z][A-Za-z0-9_$#]*)|(?P<number>-?[0-9]+)|(?P<text>'(?:[^']|'')*'(?!'))
     |(?P<sign><>|!=|<=|>=|[(),*=<>])|(?P<end>;)""", re.X | re.S)
 
@@ -239,10 +239,17 @@ class Parser:
     def query(self):
         items = None if self.has("*") else self.listed(self.item)
         self.need("FROM")
-        name, condition = self.name(), self.where()
+        name, scn, condition = self.name(), self.scn(), self.where()
         groups = self.listed(self.column) if self.has("GROUP") and self.need("BY") else None
         keys = self.listed(self.key) if self.has("ORDER") and self.need("BY") else []
-        return name, items, condition, groups, keys
+        return name, items, condition, groups, keys, scn
+
+    def scn(self):
+        if not self.has("AS"):
+            return None
+        self.need("OF")
+        self.need("SCN")
+        return self.number(0, (1 << 63) - 1)
 
     def explain(self):
         self.need("SELECT")
@@ -272,7 +279,7 @@ class Parser:
 SESSION = {"CREATE": Parser.create, "ALTER": Parser.alter, "INSERT": Parser.insert, "UPDATE": Parser.update, "DELETE": Parser.delete,
            "SELECT": Parser.query, "EXPLAIN": Parser.explain, "OPEN": Parser.opening, "STEP": Parser.cursor, "FETCH": Parser.cursor,
            "CLOSE": Parser.cursor, "SET": Parser.mode, "COMMIT": Parser.plain, "ROLLBACK": Parser.plain}
-BACKGROUND = {"RUN": Parser.plain, "BEGIN": Parser.plain, "SWITCH": Parser.plain, "CANCEL": Parser.plain,
+BACKGROUND = {"RUN": Parser.plain, "BEGIN": Parser.plain, "SWITCH": Parser.plain, "CANCEL": Parser.plain, "PURGE": Parser.plain,
               "TRICKLE": lambda p: (p.number(1, 1000000),), "EVICT": lambda p: (p.name(), p.number(0, 4294967295))}
 
 

@@ -26,7 +26,7 @@ const PIECE: usize = 1000;
 const ROOM: usize = 1_000_000;
 
 /// Scripts that are played by other words than `run`, and those words.
-const COMMANDS: [(&str, &[&str]); 15] = [
+const COMMANDS: [(&str, &[&str]); 16] = [
     ("every_form", &["race"]),
     ("every_reply", &["run", "--area", "202"]),
     ("full_area", &["run", "--area", "60"]),
@@ -41,6 +41,7 @@ const COMMANDS: [(&str, &[&str]); 15] = [
     ("race_of_every_entry", &["race", "--area", "130"]),
     ("race_of_no_statement", &["race"]),
     ("race_of_nobody", &["race"]),
+    ("race_of_older_scns", &["race"]),
     ("race_of_one", &["race"]),
     ("race_of_workers", &["race"]),
     ("race_over", &["race", "--turns", "10"]),

@@ -68,7 +68,7 @@ fn is_spelled_again(alloc: Global, text: &str) -> Result<bool, Fail> {
 }
 
 /// A statement of each kind, with each part that it may have. Its tokens have blanks between them.
-const STATEMENTS: [&str; 25] = [
+const STATEMENTS: [&str; 30] = [
     "CREATE TABLE T ( K NUMBER , M INTEGER , N VARCHAR2 ( 2 ) ) BLOCK 2 EXTENT 3 INMEMORY MEMCOMPRESS FOR QUERY LOW PRIORITY HIGH",
     "ALTER TABLE T INMEMORY PRIORITY NONE",
     "ALTER TABLE T NO INMEMORY",
@@ -78,8 +78,12 @@ const STATEMENTS: [&str; 25] = [
     "UPDATE T SET K = 1 , N = NULL WHERE NOT ( K IN ( 1 , 2 ) OR K IS NOT NULL ) AND N NOT BETWEEN 'a' AND 'b'",
     "DELETE FROM T",
     "SELECT K , COUNT ( * ) FROM T WHERE K <> 1 AND K < 2 OR K <= 3 AND K > 4 AND K >= 5 GROUP BY K ORDER BY MAX ( K ) DESC , K ASC , M",
+    "SELECT * FROM T AS OF SCN 0",
+    "SELECT K FROM T AS OF SCN 9223372036854775807 WHERE K = 1 GROUP BY K ORDER BY K",
     "EXPLAIN SELECT * FROM T",
+    "EXPLAIN SELECT * FROM T AS OF SCN 3 WHERE K = 1",
     "OPEN 7 FOR SELECT SUM ( K ) , MIN ( K ) , COUNT ( K ) FROM T",
+    "OPEN 7 FOR SELECT K FROM T AS OF SCN 3 ORDER BY K",
     "STEP 7",
     "FETCH 7",
     "CLOSE 7",
@@ -94,6 +98,7 @@ const STATEMENTS: [&str; 25] = [
     "CANCEL",
     "TRICKLE 6",
     "EVICT T 0",
+    "PURGE",
 ];
 
 #[test]

@@ -13,6 +13,7 @@ use Rattle.im_group.specs.Partials.{Numbered}
 abbrev pub query : Bound
 query = record {
   table = 0;
+  asked = None;
   filter = None;
   items = item.Column 0 ∷ item.CountAll ∷ item.Aggregate function.Sum 1 ∷ item.Aggregate function.Min 1 ∷ [];
   groups = 0 ∷ [];

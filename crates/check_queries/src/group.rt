@@ -27,6 +27,7 @@ fn query(alloc: Global) -> Result<Bound, NoMemory>
     let groups = vec![in alloc; 0]?;
     Ok(Bound {
         table: 0,
+        asked: None,
         filter: None,
         items: List::of(items),
         groups: List::of(groups),

@@ -43,6 +43,12 @@ const SHARED: &str = "race>\n\
     2> INSERT INTO B VALUES (5)\n2> COMMIT\n2> DELETE FROM B WHERE K = 5\n2> ROLLBACK\n\
     2> SELECT COUNT(*) FROM S";
 
+/// Two sessions read at an SCN that they ask for, while one of them writes; below the horizon the other one is refused.
+pub const OLDER: &str = "1> CREATE TABLE T (K NUMBER) BLOCK 2 EXTENT 2 INMEMORY PRIORITY HIGH\n\
+    1> INSERT INTO T VALUES (1), (2), (3)\n1> COMMIT\n1> INSERT INTO T VALUES (4)\n1> COMMIT\nbg> PURGE\nrace>\n\
+    1> UPDATE T SET K = 11 WHERE K = 1\n1> SELECT SUM(K) FROM T AS OF SCN 3\n1> COMMIT\n1> SELECT SUM(K) FROM T\n\
+    2> OPEN 1 FOR SELECT SUM(K) FROM T AS OF SCN 3\n2> STEP 1\n2> FETCH 1\n2> SELECT SUM(K) FROM T AS OF SCN 2";
+
 /// How often each of eight sessions commits.
 const COMMITS: usize = 1000;
 
@@ -112,6 +118,23 @@ fn two_sessions_share_a_table(rt: HostRuntime) -> Result<(), Fail> {
         text.lines().filter(|line| line.contains(",error,")).count(),
         1
     );
+    Ok(())
+}
+
+#[test]
+fn sessions_read_at_an_older_scn(rt: HostRuntime) -> Result<(), Fail> {
+    let words = ["ime", "race", "--workers", "1"];
+    let report = report_of(&rt, rt.alloc(), &words, OLDER, &OpenGate)?;
+    let race = Race {
+        script: OLDER,
+        prelude: 7,
+        workers: 1,
+    };
+    assert_eq!(rt; read_report(rt.alloc(), &race, report.as_slice()), Ok(()));
+    let text = text_of(report.as_slice());
+    assert!(rt; text.contains("\n6,purged,3,4\n") && text.contains("\n9,answer,3,1\n9,row,10\n"));
+    assert!(rt; text.contains("\n14,answer,3,1\n14,row,10\n"));
+    assert!(rt; text.ends_with("\n15,error,20,snapshot-too-old,2,3\n"));
     Ok(())
 }
 

@@ -3,9 +3,9 @@
 //!
 //! It reads races over tables of one column of numbers, so no field is quoted, and replays what their statements come to:
 //!
-//! - before the race CREATE TABLE, INSERT and COMMIT alone
+//! - before the race CREATE TABLE, INSERT, COMMIT and PURGE alone
 //! - in the race also UPDATE and DELETE with one condition `COLUMN = N`, sums and counts of a whole table by SELECT or by a cursor that
-//!   is opened there, COMMIT and ROLLBACK
+//!   is opened there, perhaps as of an SCN, COMMIT and ROLLBACK
 //! - in the race also ALTER TABLE that adds a column of numbers, to tables that are only read in it from there on
 //! - no EVICT, no TRICKLE, and no place in the column store that is left or of the priority `none`: it refuses a report of these
 //!
@@ -13,6 +13,7 @@
 //! builds that may begin comes first, whether units fit into the area, and how many turns a worker has.
 mod answers;
 mod entry;
+mod horizon;
 mod record;
 mod replies;
 mod report;

@@ -1,4 +1,4 @@
-use crate::races::{STEPPED, WORKED};
+use crate::races::{OLDER, STEPPED, WORKED};
 use crate::reader::{Race, Wrong, read_report};
 use std::alloc::Global;
 use std::process::Abort;
@@ -48,6 +48,25 @@ const PRUNED_REPORT: &str =
     h,2,1,write,2\nc,2,1,0,put,10\nc,2,1,1,put,20\nh,3,1,commit\nh,4,17,build,1,1,0,0\nh,5,17,switch,1\n\
     h,6,1,open,0,1\nh,7,1,shut,0\nh,8,1,leave\nworker,17,over,9\nat,5,6\nmark,5,7,0,pruned,2,0\n5,updated,0\n";
 
+/// The race of sessions that ask for an SCN, with one worker.
+const OLDER_RACE: Race<'static> = Race {
+    script: OLDER,
+    prelude: 7,
+    workers: 1,
+};
+
+/// A report of it.
+const OLDER_REPORT: &str =
+    "1,created,1,1\n2,inserted,3,0\n3,committed,2\n4,inserted,1,3\n5,committed,3\n6,purged,3,4\nhistory,23\n\
+    h,0,1,create,T,2,2,K,0\nh,1,1,memory,1,high\nh,2,1,write,3\nc,2,1,0,put,1\nc,2,1,1,put,2\nc,2,1,2,put,3\n\
+    h,3,1,commit\nh,4,1,write,1\nc,4,1,3,put,4\nh,5,1,commit\nh,6,0,purge\nh,7,17,build,1,1,0,0\nh,8,1,open,0,1\n\
+    h,9,1,write,1\nc,9,1,0,put,11\nh,10,1,shut,0\nh,11,1,open,0,1,3\nh,12,17,switch,1\nh,13,1,shut,0\nh,14,1,commit\n\
+    h,15,2,open,1,1,3\nh,16,1,open,0,1\nh,17,1,shut,0\nh,18,1,leave\nh,19,2,shut,1\nh,20,2,leave\nh,21,17,build,2,1,0,0\n\
+    h,22,17,switch,2\nworker,17,over,23\nat,8,9\nmark,8,9,0,blocks\n8,updated,1\nat,9,11\nmark,9,12,0,blocks\n\
+    9,answer,3,1\n9,row,10\nat,10,14\n10,committed,4\nat,11,16\nmark,11,17,0,unit,3,1\n11,answer,4,1\n11,row,20\n\
+    at,12,15\n12,opened,1,3,1\nat,13,16\nmark,13,16,0,unit,3,0\n13,served,0,unit,3,0\nat,14,16\n14,answer,3,1\n14,row,10\n\
+    at,15,20\n15,error,20,snapshot-too-old,2,3\n";
+
 /// A report with lines changed: each that is the first of a pair becomes the second, or is left out where that is empty.
 fn changed(alloc: Global, report: &str, pairs: &[(&str, &str)]) -> Result<String, Fail> {
     let mut text = String::new(alloc);
@@ -86,6 +105,10 @@ fn a_lawful_report_passes(rt: HostRuntime) -> Result<(), Fail> {
     );
     assert_eq!(rt;
         read_changed(rt.alloc(), &PRUNED_RACE, PRUNED_REPORT, &[])?,
+        Ok(())
+    );
+    assert_eq!(rt;
+        read_changed(rt.alloc(), &OLDER_RACE, OLDER_REPORT, &[])?,
         Ok(())
     );
     let spent = [("worker,17,over,16", "worker,17,spent,0,16")];
@@ -204,6 +227,23 @@ const PRUNED_LINES: [Spoilt; 3] = [
     ("5,updated,0", "5,updated,1", Wrong::Reply(5)),
 ];
 
+/// The race of sessions that ask for an SCN, with one line changed.
+const OLDER_LINES: [Spoilt; 8] = [
+    // The horizon of a purge is another one, and so is the number of versions that it keeps.
+    ("6,purged,3,4", "6,purged,2,4", Wrong::Early(6)),
+    ("6,purged,3,4", "6,purged,3,5", Wrong::Early(6)),
+    // A cursor asks for an SCN below the horizon, and for one that was not reached.
+    ("h,11,1,open,0,1,3", "h,11,1,open,0,1,2", Wrong::Asked(11)),
+    ("h,15,2,open,1,1,3", "h,15,2,open,1,1,5", Wrong::Asked(15)),
+    // It asks for another SCN than its line names, and for none.
+    ("h,15,2,open,1,1,3", "h,15,2,open,1,1,4", Wrong::Reply(12)),
+    ("h,11,1,open,0,1,3", "h,11,1,open,0,1", Wrong::Reply(9)),
+    // A row is written by a cursor that asks for an SCN.
+    ("h,8,1,open,0,1", "h,8,1,open,0,1,3", Wrong::Write(8)),
+    // The session's own change is shown at an SCN that was asked for.
+    ("9,row,10", "9,row,20", Wrong::Answer(9)),
+];
+
 /// Compares what the reader says of the report of a race with a line changed.
 fn check_spoilt<R: Abort>(
     rt: &R,
@@ -225,7 +265,8 @@ fn check_spoilt<R: Abort>(
 fn a_report_with_a_line_spoilt_is_refused(rt: HostRuntime) -> Result<(), Fail> {
     check_spoilt(&rt, rt.alloc(), &RACE, REPORT, &LINES)?;
     check_spoilt(&rt, rt.alloc(), &STEPS_RACE, STEPS_REPORT, &STEPS_LINES)?;
-    check_spoilt(&rt, rt.alloc(), &PRUNED_RACE, PRUNED_REPORT, &PRUNED_LINES)
+    check_spoilt(&rt, rt.alloc(), &PRUNED_RACE, PRUNED_REPORT, &PRUNED_LINES)?;
+    check_spoilt(&rt, rt.alloc(), &OLDER_RACE, OLDER_REPORT, &OLDER_LINES)
 }
 
 #[test]

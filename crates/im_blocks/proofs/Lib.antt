@@ -2,14 +2,18 @@ mod EnterLemmas
 mod ExtentLemmas
 pub mod ForCallers
 mod GatherLemmas
+mod GivenLemmas
 mod HandingLemmas
+mod HistoryLemmas
 mod ImageLemmas
 mod JoinLemmas
+mod LettingLemmas
 mod PageLemmas
 mod PickedLemmas
 mod Places
 mod RoomLemmas
 mod RunLemmas
 mod ScatterLemmas
+mod StandingLemmas
 mod StoreLemmas
 mod VersionLemmas

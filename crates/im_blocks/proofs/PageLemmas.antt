@@ -1,6 +1,6 @@
 -- What pages show, as changes are noted and put in.
 use Prim.Native.Nat.{zero, suc}
-use Rattle.std.proofs.Common.{◌≡◌, ℕ, ◌+◌, ◌*◌, ◌-◌, ◌/◌, ◌%◌, ◌<◌, ◌≤◌, Bool, true, false, ◌&&◌, ◌==◌, inl, List, [], ◌∷◌, ◌++◌, drop, get_or, length, take, Option, Some, None, is_some, if◌then◌else◌, refl, sym, ap, ◌∙◌, subst, ⊎_elim, arith, append-nil}
+use Rattle.std.proofs.Common.{◌≡◌, ℕ, ◌+◌, ◌*◌, ◌-◌, ◌/◌, ◌%◌, ◌<◌, ◌≤◌, Bool, true, false, ◌&&◌, ◌==◌, inl, List, [], ◌∷◌, ◌++◌, drop, get_or, length, max, take, Option, Some, None, is_some, if◌then◌else◌, refl, sym, ap, ◌∙◌, subst, ⊎_elim, arith, append-nil}
 use Rattle.std.specs.Prelude.{slice_get}
 use Rattle.std.specs.List.{All}
 use Rattle.std.specs.Option.{option_or}
@@ -13,6 +13,7 @@ use Rattle.im_tables.proofs.Tests.{and-true, eq-true}
 use Rattle.im_values.specs.declared.content.Content.{Content as Value}
 use Rattle.im_versions.specs.declared.version.Version.{Version}
 use Rattle.im_versions.specs.Versions.{row_at}
+use Rattle.im_versions.proofs.ForCallers.{row_at-cut}
 use Rattle.im_history.specs.declared.change.Change.{Change}
 use Rattle.im_history.specs.Fetched.{run_from}
 use Rattle.im_history.specs.Touched.{is_to}
@@ -25,11 +26,11 @@ use Rattle.im_blocks.specs.declared.ready.Ready.TheVariants.{Run, One}
 use Rattle.im_blocks.specs.Chains.{AllVersions, no_versions, rows_at, versions_at}
 use Rattle.im_blocks.specs.Readied.{HasPlace, changes_of, ready_changes}
 use Rattle.im_blocks.specs.Runs.{is_in}
-use Rattle.im_blocks.specs.Transitions.{Applied, SameVersions}
+use Rattle.im_blocks.specs.Transitions.{Applied, Purged, SameVersions}
 use Rattle.im_blocks.specs.VersionsOf.{last_change, version_by}
 use Rattle.im_blocks.specs.inner.Gathering.{Gathers}
 use Rattle.im_blocks.specs.inner.Images.{IsForgotten, IsFresh, IsImageOf}
-use Rattle.im_blocks.specs.inner.Pages.{AreNoted, AreShown, HidesOne, IsNoted, IsNotedAt, ShowWithin, Shows, ShowsNone, ShowsWithin, no_page, page_at, place_in}
+use Rattle.im_blocks.specs.inner.Pages.{AreNoted, AreShown, HidesOne, IsNoted, IsNotedAt, ShowWithin, Shows, ShowsNone, ShowsWithin, StayShown, no_page, page_at, place_in}
 use Rattle.im_blocks.specs.inner.Reading.{AreRead, IsReadable, IsShownTo}
 use Rattle.im_blocks.proofs.ExtentLemmas.{Gathers-same, drop-got}
 use Rattle.im_blocks.proofs.Places.{got, take-next}
@@ -139,23 +140,35 @@ hide_still old new ready within hidden =
     All-weaker (HidesOne old) (HidesOne new) (λ one hides. hides_still old new one within hides) ready hidden
 
 -- no pages show anything
-pub AreShown-none : AreShown no_versions []
-AreShown-none = record {
-  each = λ table number place scn row small shows. absurd ((ShowsNone-without (page_at [] table number) place
+pub AreShown-none : (floor : ℕ) → AreShown no_versions floor []
+AreShown-none floor = record {
+  each = λ table number place scn row small above shows. absurd ((ShowsNone-without (page_at [] table number) place
       (ap (λ (page : Page). page.image) (cell_at-nil no_page table number))).none scn row shows);
 }
 
 -- less is shown
-pub AreShown-within : (blocks : AllVersions) (old new : List (List Page)) → AreShown blocks old → ShowWithin old new → AreShown blocks new
-AreShown-within blocks old new shown within = record {
-  each = λ table number place scn row small shows. shown.each table number place scn row small ((within.each table number).each place scn row shows);
+pub AreShown-within : (blocks : AllVersions) (floor : ℕ) (old new : List (List Page)) → AreShown blocks floor old → ShowWithin old new → AreShown blocks floor new
+AreShown-within blocks floor old new shown within = record {
+  each = λ table number place scn row small above shows. shown.each table number place scn row small above ((within.each table number).each place scn row shows);
 }
 
 -- the versions are the same
-pub AreShown-same : (old new : AllVersions) (pages : List (List Page)) → SameVersions old new → AreShown old pages → AreShown new pages
-AreShown-same old new pages same shown = record {
-  each = λ table number place scn row small shows. ap (λ (vs : List Version). row_at vs scn) (same.versions table (number * 2048 + place))
-      ∙ shown.each table number place scn row small shows;
+pub AreShown-same : (old new : AllVersions) (floor : ℕ) (pages : List (List Page)) → SameVersions old new → AreShown old floor pages
+    → AreShown new floor pages
+AreShown-same old new floor pages same shown = record {
+  each = λ table number place scn row small above shows. ap (λ (vs : List Version). row_at vs scn) (same.versions table (number * 2048 + place))
+      ∙ shown.each table number place scn row small above shows;
+}
+
+-- old versions went that are not asked for at a floor and above it
+pub AreShown-purged : (old new : AllVersions) (before floor : ℕ) (pages : List (List Page)) → Purged old new floor → AreShown old before pages
+    → AreShown new (max before floor) pages
+AreShown-purged old new before floor pages purged shown = record {
+  each = λ table number place scn row small above shows.
+      let rid = number * 2048 + place in
+      ap (λ (vs : List Version). row_at vs scn) (purged.versions table rid)
+      ∙ (row_at-cut floor scn (versions_at old table rid) (purged.rising table rid) (omega (arith, above))
+      ∙ shown.each table number place scn row small (omega (arith, above)) shows);
 }
 
 -- growth shows nothing
@@ -214,9 +227,10 @@ IsNotedAt-past pages table rid past = record {
 }
 
 -- a page with a new image
-pub AreShown-set : (blocks : AllVersions) (pages : List (List Page)) (table number : ℕ) (page : Page) (image : Image) → HasCell pages table number
-    → AreShown blocks pages → page.image ≡ Some image → IsImageOf blocks table (number * 2048) image → AreShown blocks (with_cell table number page pages)
-AreShown-set blocks pages table number page image has shown is made = record { each = each }
+pub AreShown-set : (blocks : AllVersions) (floor : ℕ) (pages : List (List Page)) (table number : ℕ) (page : Page) (image : Image) → HasCell pages table number
+    → AreShown blocks floor pages → page.image ≡ Some image → IsImageOf blocks table (number * 2048) image
+    → AreShown blocks floor (with_cell table number page pages)
+AreShown-set blocks floor pages table number page image has shown is made = record { each = each }
   where
     of_page : (place scn : ℕ) (row : Option (List Value)) → Shows page place scn row → row_at (versions_at blocks table (number * 2048 + place)) scn ≡ row
     of_page place scn row shows =
@@ -224,16 +238,33 @@ AreShown-set blocks pages table number page image has shown is made = record { e
         made.each place scn (subst (λ (i : Image). get_or i.fresh.items place false ≡ true) own shows.fresh) (subst (λ (i : Image). i.scn ≤ scn) own shows.from)
         ∙ (ap (λ (i : Image). slice_get i.rows place) (sym own) ∙ shows.row_is)
 
-    each : (t n place scn : ℕ) (row : Option (List Value)) → place < 2048 → Shows (page_at (with_cell table number page pages) t n) place scn row
+    each : (t n place scn : ℕ) (row : Option (List Value)) → place < 2048 → floor ≤ scn → Shows (page_at (with_cell table number page pages) t n) place scn row
         → row_at (versions_at blocks t (n * 2048 + place)) scn ≡ row
-    each t n place scn row small shows =
+    each t n place scn row small above shows =
         either (λ (p : Page). Shows p place scn row → row_at (versions_at blocks t (n * 2048 + place)) scn ≡ row) ((table == t) && (number == n)) page
         (page_at pages t n)
         (λ are_same here. let are = both_are table number t n are_same in
         subst (λ (k : ℕ). row_at (versions_at blocks k (n * 2048 + place)) scn ≡ row) are.0
         (subst (λ (k : ℕ). row_at (versions_at blocks table (k * 2048 + place)) scn ≡ row) are.1 (of_page place scn row here)))
-        (λ apart here. shown.each t n place scn row small here)
+        (λ apart here. shown.each t n place scn row small above here)
         (subst (λ (p : Page). Shows p place scn row) (set_page pages table number page t n has) shows)
+
+-- ---- what is shown from each floor on
+
+pub StayShown-refl : (blocks : AllVersions) (pages : List (List Page)) → StayShown blocks pages pages
+StayShown-refl blocks pages = record { each = λ floor shown. shown }
+
+pub StayShown-trans : (blocks : AllVersions) (a b c : List (List Page)) → StayShown blocks a b → StayShown blocks b c → StayShown blocks a c
+StayShown-trans blocks a b c ab bc = record { each = λ floor shown. bc.each floor (ab.each floor shown) }
+
+pub StayShown-within : (blocks : AllVersions) (old new : List (List Page)) → ShowWithin old new → StayShown blocks old new
+StayShown-within blocks old new within = record { each = λ floor shown. AreShown-within blocks floor old new shown within }
+
+pub StayShown-set : (blocks : AllVersions) (pages : List (List Page)) (table number : ℕ) (page : Page) (image : Image) → HasCell pages table number
+    → page.image ≡ Some image → IsImageOf blocks table (number * 2048) image → StayShown blocks pages (with_cell table number page pages)
+StayShown-set blocks pages table number page image has is made = record {
+  each = λ floor shown. AreShown-set blocks floor pages table number page image has shown is made;
+}
 
 -- ---- changes that are put in
 
@@ -242,10 +273,10 @@ none_either false o is = refl
 none_either true o is = absurd (true≢false is)
 
 -- a row number that is shown is not among those that are touched
-not_in : (blocks : AllVersions) (pages : List (List Page)) (one : Ready) (table number place scn : ℕ) (row : Option (List Value)) → AreShown blocks pages
-    → HasPlace blocks one → HidesOne pages one → place < 2048 → Shows (page_at pages table number) place scn row
+not_in : (blocks : AllVersions) (floor : ℕ) (pages : List (List Page)) (one : Ready) (table number place scn : ℕ) (row : Option (List Value))
+    → AreShown blocks floor pages → HasPlace blocks one → HidesOne pages one → place < 2048 → floor ≤ scn → Shows (page_at pages table number) place scn row
     → last_change (changes_of one) table (number * 2048 + place) ≡ None
-not_in blocks pages (Run t first rows) table number place scn row shown has hides small shows =
+not_in blocks floor pages (Run t first rows) table number place scn row shown has hides small above shows =
     let rid = number * 2048 + place in
     last_change-put_from t first rows table rid
     ∙ none_either (is_in t first (length rows) table rid) (Some (put_of t first rows rid))
@@ -256,11 +287,11 @@ not_in blocks pages (Run t first rows) table number place scn row shown has hide
   where
     some_row : versions_at blocks table (number * 2048 + place) ≡ [] → ⊥
     some_row none =
-        let read = shown.each table number place scn row small shows in
+        let read = shown.each table number place scn row small above shows in
         let found = slice_get-get_or shows.image.rows place [] shows.there in
         let nothing : None ≡ row = ap (λ (vs : List Version). row_at vs scn) (sym none) ∙ read in
         true≢false (sym (ap is_some (nothing ∙ (sym shows.row_is ∙ found))))
-not_in blocks pages (One change) table number place scn row shown has hides small shows =
+not_in blocks floor pages (One change) table number place scn row shown has hides small above shows =
     last_change-cons change [] table (number * 2048 + place)
     ∙ none_either (is_to table (number * 2048 + place) change) (Some change)
     (⊎_elim
@@ -283,36 +314,38 @@ not_in blocks pages (One change) table number place scn row shown has hides smal
 or_none : (o p : Option Change) → o ≡ None → p ≡ None → option_or o p ≡ None
 or_none o p first second = rw (first, second) refl
 
-untouched : (blocks : AllVersions) (pages : List (List Page)) (ready : List Ready) (table number place scn : ℕ) (row : Option (List Value)) → AreShown blocks pages
-    → All (HasPlace blocks) ready → All (HidesOne pages) ready → place < 2048 → Shows (page_at pages table number) place scn row
+untouched : (blocks : AllVersions) (floor : ℕ) (pages : List (List Page)) (ready : List Ready) (table number place scn : ℕ) (row : Option (List Value))
+    → AreShown blocks floor pages → All (HasPlace blocks) ready → All (HidesOne pages) ready → place < 2048 → floor ≤ scn → Shows (page_at pages table number) place scn row
     → last_change (ready_changes ready) table (number * 2048 + place) ≡ None
-untouched blocks pages [] table number place scn row shown places hidden small shows = refl
-untouched blocks pages (one ∷ ready) table number place scn row shown places hidden small shows =
+untouched blocks floor pages [] table number place scn row shown places hidden small above shows = refl
+untouched blocks floor pages (one ∷ ready) table number place scn row shown places hidden small above shows =
     let rid = number * 2048 + place in
     last_change-append (changes_of one) (ready_changes ready) table rid
     ∙ or_none (last_change (ready_changes ready) table rid) (last_change (changes_of one) table rid)
-    (untouched blocks pages ready table number place scn row shown (All-tail (HasPlace blocks) one ready places) (All-tail (HidesOne pages) one ready hidden) small shows)
-    (not_in blocks pages one table number place scn row shown (All-head (HasPlace blocks) one ready places) (All-head (HidesOne pages) one ready hidden) small shows)
+    (untouched blocks floor pages ready table number place scn row shown (All-tail (HasPlace blocks) one ready places) (All-tail (HidesOne pages) one ready hidden) small
+    above shows)
+    (not_in blocks floor pages one table number place scn row shown (All-head (HasPlace blocks) one ready places) (All-head (HidesOne pages) one ready hidden) small
+    above shows)
 
 -- what is still shown is what the versions have once changes are put in
-pub AreShown-applied : (old new : AllVersions) (scn : ℕ) (before pages : List (List Page)) (ready : List Ready) → AreShown old before
-    → All (HasPlace old) ready → AreNoted before pages ready → Applied old new scn (ready_changes ready) → AreShown new pages
-AreShown-applied old new scn before pages ready shown places noted applied = record { each = each }
+pub AreShown-applied : (old new : AllVersions) (floor scn : ℕ) (before pages : List (List Page)) (ready : List Ready) → AreShown old floor before
+    → All (HasPlace old) ready → AreNoted before pages ready → Applied old new scn (ready_changes ready) → AreShown new floor pages
+AreShown-applied old new floor scn before pages ready shown places noted applied = record { each = each }
   where
-    still : AreShown old pages
-    still = AreShown-within old before pages shown noted.within
+    still : AreShown old floor pages
+    still = AreShown-within old floor before pages shown noted.within
 
-    each : (table number place n : ℕ) (row : Option (List Value)) → place < 2048 → Shows (page_at pages table number) place n row
+    each : (table number place n : ℕ) (row : Option (List Value)) → place < 2048 → floor ≤ n → Shows (page_at pages table number) place n row
         → row_at (versions_at new table (number * 2048 + place)) n ≡ row
-    each table number place n row small shows =
+    each table number place n row small above shows =
         let rid = number * 2048 + place in
-        let none = untouched old pages ready table number place n row still places noted.gone small shows in
+        let none = untouched old floor pages ready table number place n row still places noted.gone small above shows in
         let by_none : version_by scn (ready_changes ready) table rid ≡ [] =
         ap (λ (o : Option Change). version_of scn o) none in
         ap (λ (vs : List Version). row_at vs n)
         (applied.versions table rid
         ∙ (ap (λ (vs : List Version). versions_at old table rid ++ vs) by_none ∙ append-nil (versions_at old table rid)))
-        ∙ still.each table number place n row small shows
+        ∙ still.each table number place n row small above shows
 
 -- ---- changes that are noted
 
@@ -336,10 +369,11 @@ unfolding cell_at
 page_found pages table number page is = got (row_of pages table) number page no_page is
 
 -- its image shows what stands there
-pub IsReadable-shown : (blocks : AllVersions) (pages : List (List Page)) (table number scn : ℕ) (page : Page) (image : Image) → AreShown blocks pages
-    → page_at pages table number ≡ page → page.image ≡ Some image → image.scn ≤ scn → IsReadable blocks table number scn image
-IsReadable-shown blocks pages table number scn page image shown found is from = record {
-  each = λ place in_page there fresh. shown.each table number place scn (slice_get image.rows place) in_page (record {
+pub IsReadable-shown : (blocks : AllVersions) (floor : ℕ) (pages : List (List Page)) (table number scn : ℕ) (page : Page) (image : Image)
+    → AreShown blocks floor pages → page_at pages table number ≡ page → page.image ≡ Some image → floor ≤ scn → image.scn ≤ scn
+    → IsReadable blocks table number scn image
+IsReadable-shown blocks floor pages table number scn page image shown found is above from = record {
+  each = λ place in_page there fresh. shown.each table number place scn (slice_get image.rows place) in_page above (record {
     image = image;
     is = ap (λ (p : Page). p.image) found ∙ is;
     fresh = fresh;

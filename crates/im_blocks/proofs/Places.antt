@@ -37,6 +37,14 @@ set-here [] k x y is = absurd (cc is)
 set-here (z ∷ zs) zero x y is = refl
 set-here (z ∷ zs) (suc k) x y is = set-here zs k x y is
 
+-- each other item stands where it stood
+pub set-apart : {X : Type 0} (xs : List X) (k j : ℕ) (y : X) → (j ≡ k → ⊥) → slice_get (set xs k y) j ≡ slice_get xs j
+set-apart [] k j y apart = refl
+set-apart (z ∷ zs) zero zero y apart = absurd (apart refl)
+set-apart (z ∷ zs) zero (suc j) y apart = refl
+set-apart (z ∷ zs) (suc k) zero y apart = refl
+set-apart (z ∷ zs) (suc k) (suc j) y apart = set-apart zs k j y (λ is. apart (ap suc is))
+
 -- the item at a place is read there, and the place is one of the list
 pub got : {X : Type 0} (xs : List X) (k : ℕ) (x d : X) → slice_get xs k ≡ Some x → get_or xs k d ≡ x
 got [] k x d is = absurd (cc is)

@@ -2,6 +2,7 @@ pub mod Gathering
 pub mod Handing
 pub mod Images
 pub mod Joining
+pub mod Letting
 pub mod Packing
 pub mod Pages
 pub mod Picked

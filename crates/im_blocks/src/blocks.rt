@@ -1,9 +1,10 @@
-ghost use Rattle.std.specs.Prelude.{◌≡◌, ◌+◌, ◌-◌, ◌/◌, ◌%◌, ◌^◌, ◌<◌, ◌≤◌, [], ◌∷◌, drop, length, option_copied, take, IfOk, IfSome, OnOk, Some};
+ghost use Rattle.std.specs.Prelude.{◌≡◌, ◌+◌, ◌-◌, ◌/◌, ◌%◌, ◌^◌, ◌<◌, ◌≤◌, [], ◌∷◌, drop, length, min, option_copied, take, IfOk, IfSome, OnOk, Some};
 ghost use Rattle.im_versions.specs.Versions.{row_at};
 ghost use Rattle.im_blocks.specs.Chains as seen;
 ghost use Rattle.im_blocks.specs.Chains.{newest_scn, rows_among, rows_at, versions_at};
 ghost use Rattle.im_blocks.specs.Readied.{HasRoom, IsReadyFor, ready_changes};
-ghost use Rattle.im_blocks.specs.Transitions.{Applied, IsBefore, SameVersions};
+ghost use Rattle.im_blocks.specs.Standing.{standing};
+ghost use Rattle.im_blocks.specs.Transitions.{Applied, IsBefore, Purged, SameVersions};
 ghost use Rattle.im_blocks.specs.inner.Gathering.{Gathers, IsWhole};
 ghost use Rattle.im_blocks.specs.inner.Picked.{ArePicked, Picks};
 ghost use Rattle.im_blocks.specs.inner.Reading.{AreRead, IsReadable, IsShownTo};
@@ -48,6 +49,8 @@ pub struct Blocks {
     alloc: Global,
     versions: VersionTable,
     pages: Cells<Page>,
+    /// No image is read at an SCN below it: the versions that it showed there may be gone.
+    floor: u64,
 }
 
 impl Model for Blocks {
@@ -58,7 +61,7 @@ impl Model for Blocks {
 
     ghost view = { λ b. b.versions };
 
-    ghost invariant = { λ b. AreShown b.versions b.pages };
+    ghost invariant = { λ b. AreShown b.versions b.floor b.pages };
 }
 
 impl Blocks {
@@ -70,6 +73,7 @@ impl Blocks {
             alloc,
             versions: VersionTable::new(alloc),
             pages: Cells::new(alloc),
+            floor: 0,
         }
     }
 
@@ -119,6 +123,23 @@ impl Blocks {
     {
         note_each(&mut self.pages, ready.as_slice(), scn);
         self.versions.apply(scn, ready);
+    }
+
+    /// Lets go of the versions that no reading at this floor or above it asks for. It takes no memory.
+    ///
+    /// It costs a look at each row number that was touched again after the commit that put it, and what is let go of.
+    pub fn purge(&mut self, floor: u64)
+        ensures { Purged self.old self.new floor }
+    {
+        self.versions.purge(floor);
+        self.floor = self.floor.max(floor);
+    }
+
+    /// How many versions stand, or the greatest number of 64 bits where there are more. It costs a look at each row number.
+    pub fn versions(&self) -> u64
+        ensures { result ≡ min (standing self.now) (2 ^ 64 - 1) }
+    {
+        self.versions.versions()
     }
 
     /// The values of the row of a row number at an SCN, or none where there was none. It is at most one step.
@@ -283,6 +304,9 @@ impl Blocks {
     fn image_at(&self, table: u32, rid: u64, scn: u64) -> Option<&Image>
         ensures { IfSome result (λ image. IsReadable self.now table (rid / 2048) scn image.now) }
     {
+        if scn < self.floor {
+            return None;
+        }
         let page = self.pages.get(table, rid / PAGE)?;
         let image = page.image.as_ref()?;
         if image.scn > scn {

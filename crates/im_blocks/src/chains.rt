@@ -1,6 +1,7 @@
-ghost use Rattle.std.specs.Prelude.{◌≡◌, ◌+◌, ◌∷◌, ◌<◌, ◌≤◌, ◌++◌, [], length, option_copied, true, IfOk, OnOk, OnErr};
+ghost use Rattle.std.specs.Prelude.{◌≡◌, ◌+◌, ◌^◌, ◌∷◌, ◌<◌, ◌≤◌, ◌++◌, [], All, length, option_copied, true, IfOk, OnOk, OnErr};
 ghost use Rattle.im_versions.specs.Versions as versions;
 ghost use Rattle.im_blocks.specs.Chains.{chain_at, chain_versions, newest_scn};
+ghost use Rattle.im_blocks.specs.inner.Letting.{ArePurged};
 ghost use Rattle.im_blocks.specs.inner.Packing.{IsNumbered};
 ghost use Rattle.im_blocks.specs.inner.Puts.{IsChained};
 
@@ -76,4 +77,35 @@ pub fn push(chains: &mut Vec<Touched>, table: u32, rid: u64, chain: Chain) -> Re
     chain.reserve()?;
     chains.push(Touched { table, rid, chain })?;
     Ok(number)
+}
+
+/// How many versions a row number has, by its chain.
+pub fn count(touched: Option<&Touched>) -> u64
+    ensures { result ≡ length (chain_versions (option_copied touched.entry)) }
+{
+    match touched {
+        Some(touched) => touched.chain.count(),
+        None => 0,
+    }
+}
+
+/// Lets go of the versions in all chains that no reading at a floor or above it asks for. It takes no memory.
+pub fn purge_each(chains: &mut Vec<Touched>, floor: u64)
+    ensures { ArePurged chains.old.items chains.new.items floor }
+{
+    for touched in chains.iter_mut() {
+        touched.purge(floor);
+    }
+}
+
+/// A number past those of the tables that the chains are of.
+pub fn tables_end(chains: &[Touched]) -> u64
+    ensures few { result ≤ 2 ^ 32 }
+    ensures past { All (λ touched. touched.table < result) chains.now }
+{
+    let mut end: u64 = 0;
+    for touched in chains {
+        end = end.max(u64::from(touched.table) + 1);
+    }
+    end
 }

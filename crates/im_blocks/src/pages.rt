@@ -3,7 +3,7 @@ ghost use Rattle.std.specs.Bool.{OnTrue};
 ghost use Rattle.im_tables.specs.Table.{HasCell};
 ghost use Rattle.im_blocks.specs.declared.pages.Page.{Page as AnyPage};
 ghost use Rattle.im_blocks.specs.inner.Pages as spec;
-ghost use Rattle.im_blocks.specs.inner.Pages.{AreNoted, AreShown, HidesOne, IsNoted, IsNotedAt, ShowWithin};
+ghost use Rattle.im_blocks.specs.inner.Pages.{AreNoted, HidesOne, IsNoted, IsNotedAt, ShowWithin, StayShown};
 
 use crate::drawing::image_of;
 use crate::image::Image;
@@ -163,8 +163,7 @@ fn renew(
     most: u64,
 ) -> Result<(), NoMemory>
     requires number { number < 2 ^ 53 }
-    requires shown { AreShown versions.now pages.old }
-    ensures { AreShown versions.now pages.new }
+    ensures { StayShown versions.now pages.old pages.new }
 {
     let table = asked.table;
     if number >= pages.count(table) {
@@ -202,8 +201,7 @@ pub fn renew_each(
     first: u64,
     most: u64,
 )
-    requires { AreShown versions.now pages.old }
-    ensures { AreShown versions.now pages.new }
+    ensures { StayShown versions.now pages.old pages.new }
 {
     let end = page_behind(asked.end).min(pages.count(asked.table));
     for number in first / PAGE..end {

@@ -1,4 +1,4 @@
-ghost use Rattle.std.specs.Prelude.{◌≡◌, ℕ, option_copied, IfOk, IfSome};
+ghost use Rattle.std.specs.Prelude.{◌≡◌, ℕ, ◌^◌, ◌<◌, ◌≤◌, All, option_copied, IfOk, IfSome};
 ghost use Rattle.im_versions.specs.Versions as versions;
 ghost use Rattle.im_blocks.specs.Chains.{newest_scn, run_at, run_versions};
 ghost use Rattle.im_blocks.specs.inner.Seen.{AreSeen};
@@ -82,4 +82,16 @@ pub fn chain_of(alloc: Global, run: Option<&Run>, rid: u64) -> Result<Chain, NoM
     chain.reserve()?;
     chain.push(run.scn, run.row(alloc, rid)?);
     Ok(chain)
+}
+
+/// A number past those of the tables that the runs are of.
+pub fn tables_end(runs: &[Run]) -> u64
+    ensures few { result ≤ 2 ^ 32 }
+    ensures past { All (λ run. run.table < result) runs.now }
+{
+    let mut end: u64 = 0;
+    for run in runs {
+        end = end.max(u64::from(run.table) + 1);
+    }
+    end
 }

@@ -1,5 +1,6 @@
 ghost use Rattle.std.specs.Prelude.{◌≡◌, ◌<◌, OnOk};
 ghost use Rattle.im_blocks.specs.Chains.{newest_scn};
+ghost use Rattle.im_blocks.specs.inner.Letting.{IsPurged};
 ghost use Rattle.im_blocks.specs.inner.Puts.{IsRoomier, IsOneLonger};
 
 use im_values::{NoMemory, Row};
@@ -34,5 +35,11 @@ impl Touched {
         ensures { IsOneLonger self.old self.new scn row }
     {
         self.chain.push(scn, row);
+    }
+    /// Lets go of the versions that no reading at this floor or above it asks for. It takes no memory.
+    pub fn purge(&mut self, floor: u64)
+        ensures { IsPurged self.old self.new floor }
+    {
+        self.chain.purge(floor);
     }
 }

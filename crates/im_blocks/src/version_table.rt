@@ -27,6 +27,7 @@ use std::marker::Model;
 use std::sync::ledger::Ledger;
 
 pub mod extents;
+mod standing;
 
 /// Where the versions of every row of every table are kept.
 #[derive(Drop)]

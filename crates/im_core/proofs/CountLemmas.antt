@@ -11,7 +11,7 @@ use Rattle.im_history.specs.declared.entry.Entry.{Entry}
 use Rattle.im_history.specs.declared.entry.Mode.{Mode}
 use Rattle.im_values.specs.declared.priority.Priority.{Priority}
 use Rattle.im_history.specs.declared.entry.What.{What}
-use Rattle.im_history.specs.declared.entry.What.TheVariants.{Create, Add, Memory, Begin, Open, Shut, Write, Commit, Rollback, Build, Switch, Cancel, Trickle, Evict, Leave}
+use Rattle.im_history.specs.declared.entry.What.TheVariants.{Create, Add, Memory, Begin, Open, Shut, Write, Commit, Rollback, Build, Switch, Cancel, Trickle, Evict, Leave, Purge}
 use Rattle.im_history.specs.declared.look.TableInfo.{TableInfo}
 use Rattle.im_history.specs.Grid.{Grid}
 use Rattle.im_history.specs.History.{History}
@@ -31,8 +31,8 @@ pub record IsLight (what : What) : Type 0 where
 pub light-begin : (mode : Mode) → IsLight (Begin mode)
 light-begin mode = record { tables = λ ts. refl; given = λ table n. refl; weight = λ n. refl }
 
-pub light-open : (cursor table : ℕ) → IsLight (Open cursor table)
-light-open cursor table = record { tables = λ ts. refl; given = λ t n. refl; weight = λ n. refl }
+pub light-open : (cursor table : ℕ) (asked : Option ℕ) → IsLight (Open cursor table asked)
+light-open cursor table asked = record { tables = λ ts. refl; given = λ t n. refl; weight = λ n. refl }
 
 pub light-shut : (cursor : ℕ) → IsLight (Shut cursor)
 light-shut cursor = record { tables = λ ts. refl; given = λ t n. refl; weight = λ n. refl }
@@ -60,6 +60,9 @@ light-trickle count = record { tables = λ ts. refl; given = λ t n. refl; weigh
 
 pub light-leave : IsLight Leave
 light-leave = record { tables = λ ts. refl; given = λ t n. refl; weight = λ n. refl }
+
+pub light-purge : IsLight Purge
+light-purge = record { tables = λ ts. refl; given = λ t n. refl; weight = λ n. refl }
 
 pub given-light : (h : History) (entry : Entry) (table : ℕ) → IsLight entry.what → given (h ++ entry ∷ []) table ≡ given h table
 given-light h entry table light = given-push h entry table ∙ light.given table (given h table)

@@ -9,6 +9,7 @@ use Rattle.im_history.specs.declared.view.View.{View}
 use Rattle.im_history.specs.Stored.{Stored}
 use Rattle.im_history.specs.Cursors.{Opened, opened, cursor_at, is_cursor}
 use Rattle.im_history.specs.History.{History}
+use Rattle.im_history.specs.Horizon.{horizon}
 use Rattle.im_history.specs.Tables.{given}
 use Rattle.im_blocks.specs.Chains.{AllVersions, rows_at}
 use Rattle.im_blocks.specs.Kept.{IsKept}
@@ -77,10 +78,10 @@ finds_view h who cursor extent found views light found_is within = by (cursor_at
 
 -- what is read for it
 pub fetched_is : (h : History) (blocks : AllVersions) (view : View) (extent count : ℕ) (cursor : Cursor) → IsKept h blocks
-    → HasView view extent cursor → count ≡ min cursor.per (cursor.rows - extent * cursor.per)
+    → horizon h ≤ view.scn → HasView view extent cursor → count ≡ min cursor.per (cursor.rows - extent * cursor.per)
     → rows_at blocks cursor.table (extent * cursor.per) count cursor.scn ≡ committed_in h view extent
-fetched_is h blocks view extent count cursor keeps has count_is =
-    rows_at_kept h blocks keeps cursor.table (extent * cursor.per) count cursor.scn
+fetched_is h blocks view extent count cursor keeps old has count_is =
+    rows_at_kept h blocks keeps cursor.table (extent * cursor.per) count cursor.scn (rw has.scn old)
     ∙ rw (count_is, has.table, has.scn, has.rows, has.per) refl
 
 pub rows_in_is : (view : View) (extent count : ℕ) (cursor : Cursor) → HasView view extent cursor → count ≡ min cursor.per (cursor.rows - extent * cursor.per)

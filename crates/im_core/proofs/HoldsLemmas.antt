@@ -9,7 +9,7 @@ use Rattle.im_history.specs.declared.change.Change.{Change}
 use Rattle.im_history.specs.declared.entry.Entry.{Entry}
 use Rattle.im_history.specs.declared.entry.Mode.{Mode}
 use Rattle.im_history.specs.declared.entry.What.{What}
-use Rattle.im_history.specs.declared.entry.What.TheVariants.{Create, Add, Begin, Open, Shut, Write, Commit, Rollback}
+use Rattle.im_history.specs.declared.entry.What.TheVariants.{Create, Add, Begin, Open, Shut, Write, Commit, Rollback, Purge}
 use Rattle.im_history.specs.declared.limits.Limits.{Limits}
 use Rattle.im_history.specs.declared.refused.Why.TheVariants.{TransactionOpen}
 use Rattle.im_history.specs.declared.look.TableInfo.{TableInfo}
@@ -17,6 +17,7 @@ use Rattle.im_history.specs.Commits.{scn}
 use Rattle.im_history.specs.Cursors.{is_cursor_open}
 use Rattle.im_history.specs.Grid.{Grid}
 use Rattle.im_history.specs.History.{replay}
+use Rattle.im_history.specs.Horizon.{horizon, keep}
 use Rattle.im_history.specs.Legal.{IsAllowed, Exists, MayAdd, MayCreate}
 use Rattle.im_history.specs.Refusals.{begin_refusal, open_refusal}
 use Rattle.im_history.specs.Stored.{Stored}
@@ -24,11 +25,12 @@ use Rattle.im_history.specs.Tables.{tables, given, lengthened, new_table}
 use Rattle.im_history.specs.Transactions.{begun, is_open, pending}
 use Rattle.im_history.specs.Units.{Content}
 use Rattle.im_history.specs.Weights.{weight, changes_weight}
+use Rattle.im_history.proofs.HorizonLaws.{horizon-le-keep, horizon-push}
 use Rattle.im_history.proofs.Laws.{IsLegal-push, weight-push}
 use Rattle.im_blocks.specs.Chains.{AllVersions, no_versions}
 use Rattle.im_blocks.specs.Kept.{IsKept}
-use Rattle.im_blocks.specs.Transitions.{SameVersions, Applied}
-use Rattle.im_blocks.proofs.ForCallers.{IsKept-nil, IsKept-quiet, IsKept-create, IsKept-add, IsKept-same, IsKept-commit}
+use Rattle.im_blocks.specs.Transitions.{SameVersions, Applied, Purged}
+use Rattle.im_blocks.proofs.ForCallers.{IsKept-nil, IsKept-quiet, IsKept-create, IsKept-add, IsKept-same, IsKept-commit, IsKept-purge}
 use Rattle.im_txn.specs.Agrees.{Agrees, cursor_of}
 use Rattle.im_txn.specs.Effects.{IsIdle, IsBegun, IsOpened, IsShut, IsWritten, IsEnded, IsGrown}
 use Rattle.im_txn.specs.Standing.{Standing, IsFree}
@@ -40,7 +42,7 @@ use Rattle.im_directory.proofs.ForCallers.{Agrees-new as units-new, Agrees-told 
 use Rattle.im_core.specs.inner.Holds.{Caches, Holds, owed}
 use Rattle.im_core.specs.inner.Kept.{Began, Gives, beginning_at}
 use Rattle.im_core.proofs.BeginLemmas.{as_it_was, ended, Began-kept, Began-begun, Began-set}
-use Rattle.im_core.proofs.CountLemmas.{IsLight, light-begin, light-open, light-shut, light-commit, light-rollback, weight-light, Counts-light, Counts-create, Counts-add, Counts-write}
+use Rattle.im_core.proofs.CountLemmas.{IsLight, light-begin, light-open, light-shut, light-commit, light-rollback, light-purge, weight-light, Counts-light, Counts-create, Counts-add, Counts-write}
 use Rattle.im_core.proofs.ViewLemmas.{Views-nil, Views-push}
 use Rattle.im_core.proofs.WriteLemmas.{room_left}
 
@@ -172,7 +174,7 @@ module _ {U : Type 0} (content : U → Content) (limits : Limits) (history : Sto
       (light_step after (record { who = who; what = Begin mode }) (owed caches.standing caches.kept + 2)
       (set caches.beginnings who (scn history.entries)) caches.blocks new caches.kept holds known grew (light-begin mode) allowed
       (Began-begun history.entries (record { who = who; what = Begin mode }) caches.beginnings known none holds.began)
-      (IsKept-quiet history.entries (record { who = who; what = Begin mode }) caches.blocks refl holds.rows)
+      (IsKept-quiet history.entries (record { who = who; what = Begin mode }) caches.blocks refl refl holds.rows)
       (Agrees-begin history.entries who mode caches.standing new holds.sessions known (rw place_is at is))
       (units-apart content history.entries who (Begin mode) caches.kept refl holds.units)
       (omega (arith, one)))
@@ -181,18 +183,18 @@ module _ {U : Type 0} (content : U → Content) (limits : Limits) (history : Sto
       none_begun None e = refl
       none_begun (Some p) e = cc
 
-  pub Holds-open : (after : Stored) (who cursor table : ℕ) (mid new : Standing) → Holds content limits history caches → who < NUMBERS
-      → Exists history.entries table → open_refusal history.entries who cursor ≡ None → is_cursor_open history.entries who cursor ≡ false
-      → IsGrown caches.standing mid → Grew history after (record { who = who; what = Open cursor table }) (owed mid caches.kept + 2)
-      → IsOpened mid new who (cursor_of history.entries who cursor table) → Holds content limits after (record caches { standing = new })
-  Holds-open after who cursor table mid new holds known exists allowed shut grown grew is =
-      let one = owed-opened who (cursor_of history.entries who cursor table) mid new is in
-      light_step after (record { who = who; what = Open cursor table }) (owed mid caches.kept + 2) caches.beginnings caches.blocks new caches.kept holds known
-      grew (light-open cursor table) (record { exists = exists; allowed = allowed })
-      (Began-kept history.entries (record { who = who; what = Open cursor table }) caches.beginnings (as_it_was refl) holds.began)
-      (IsKept-quiet history.entries (record { who = who; what = Open cursor table }) caches.blocks refl holds.rows)
-      (Agrees-open history.entries who cursor table mid new (Agrees-grown history.entries caches.standing mid holds.sessions grown) known shut is)
-      (units-apart content history.entries who (Open cursor table) caches.kept refl holds.units)
+  pub Holds-open : (after : Stored) (who cursor table : ℕ) (asked : Option ℕ) (mid new : Standing) → Holds content limits history caches → who < NUMBERS
+      → Exists history.entries table → open_refusal history.entries who cursor asked ≡ None → is_cursor_open history.entries who cursor ≡ false
+      → IsGrown caches.standing mid → Grew history after (record { who = who; what = Open cursor table asked }) (owed mid caches.kept + 2)
+      → IsOpened mid new who (cursor_of history.entries who cursor table asked) → Holds content limits after (record caches { standing = new })
+  Holds-open after who cursor table asked mid new holds known exists allowed shut grown grew is =
+      let one = owed-opened who (cursor_of history.entries who cursor table asked) mid new is in
+      light_step after (record { who = who; what = Open cursor table asked }) (owed mid caches.kept + 2) caches.beginnings caches.blocks new caches.kept holds known
+      grew (light-open cursor table asked) (record { exists = exists; allowed = allowed })
+      (Began-kept history.entries (record { who = who; what = Open cursor table asked }) caches.beginnings (as_it_was refl) holds.began)
+      (IsKept-quiet history.entries (record { who = who; what = Open cursor table asked }) caches.blocks refl refl holds.rows)
+      (Agrees-open history.entries who cursor table asked mid new (Agrees-grown history.entries caches.standing mid holds.sessions grown) known shut is)
+      (units-apart content history.entries who (Open cursor table asked) caches.kept refl holds.units)
       (omega (arith, one))
 
   pub Holds-shut : (after : Stored) (who cursor : ℕ) (new : Standing) → Holds content limits history caches → who < NUMBERS
@@ -208,7 +210,7 @@ module _ {U : Type 0} (content : U → Content) (limits : Limits) (history : Sto
       light_step after (record { who = who; what = Shut cursor }) history.spare caches.beginnings caches.blocks new caches.kept holds known
       (grew-spare history after (record { who = who; what = Shut cursor }) some added) (light-shut cursor) opened
       (Began-kept history.entries (record { who = who; what = Shut cursor }) caches.beginnings (as_it_was refl) holds.began)
-      (IsKept-quiet history.entries (record { who = who; what = Shut cursor }) caches.blocks refl holds.rows)
+      (IsKept-quiet history.entries (record { who = who; what = Shut cursor }) caches.blocks refl refl holds.rows)
       (Agrees-shut history.entries who cursor caches.standing new holds.sessions known is)
       (units-apart content history.entries who (Shut cursor) caches.kept refl holds.units)
       (omega (arith, fewer, room))
@@ -250,10 +252,25 @@ module _ {U : Type 0} (content : U → Content) (limits : Limits) (history : Sto
       light_step after (record { who = who; what = Rollback }) history.spare caches.beginnings caches.blocks new caches.kept holds known
       (grew-spare history after (record { who = who; what = Rollback }) some added) light-rollback opened
       (Began-kept history.entries (record { who = who; what = Rollback }) caches.beginnings (ended refl) holds.began)
-      (IsKept-quiet history.entries (record { who = who; what = Rollback }) caches.blocks refl holds.rows)
+      (IsKept-quiet history.entries (record { who = who; what = Rollback }) caches.blocks refl refl holds.rows)
       (Agrees-rollback history.entries who caches.standing new holds.sessions known is)
       (units-apart content history.entries who Rollback caches.kept refl holds.units)
       (omega (arith, fewer, room))
+
+  -- old versions are let go
+  pub Holds-purge : (after : Stored) (who floor : ℕ) (new_blocks : AllVersions) → Holds content limits history caches → who < NUMBERS
+      → floor ≡ keep history.entries → Grew history after (record { who = who; what = Purge }) (owed caches.standing caches.kept + 1)
+      → Purged caches.blocks new_blocks floor → Holds content limits after (record caches { blocks = new_blocks })
+  Holds-purge after who floor new_blocks holds known floor_is grew purged =
+      let h = history.entries in
+      let entry : Entry = record { who = who; what = Purge } in
+      let moved : horizon (h ++ entry ∷ []) ≡ keep h = horizon-push h entry in
+      light_step after entry (owed caches.standing caches.kept + 1) caches.beginnings new_blocks caches.standing caches.kept holds known grew light-purge tt
+      (Began-kept h entry caches.beginnings (as_it_was refl) holds.began)
+      (IsKept-purge h who caches.blocks new_blocks (rw moved (horizon-le-keep limits h holds.legal)) (rw (moved, ← floor_is) purged) holds.rows)
+      (Agrees-apart h who Purge caches.standing refl holds.sessions)
+      (units-apart content h who Purge caches.kept refl holds.units)
+      (omega arith)
 
   pub Holds-create : (after : Stored) (who : ℕ) (name : List ℕ) (schema : List Column) (grid : Grid) → Holds content limits history caches → who < NUMBERS
       → MayCreate history.entries who name schema grid → length caches.catalog < MOST_TABLES
@@ -331,7 +348,7 @@ module _ {U : Type 0} (content : U → Content) (limits : Limits) (history : Sto
             rw (grew.entries, weight_is) (Counts-write h who table count changes caches.catalog caches.counts caches.weighed first last gives holds.tables);
         began = rw (grew.entries, index_is, begins_is) (Began-set h who changes caches.beginnings known holds.began);
         views = rw grew.entries (Views-push h entry holds.views);
-        rows = rw grew.entries (IsKept-quiet h entry caches.blocks refl holds.rows);
+        rows = rw grew.entries (IsKept-quiet h entry caches.blocks refl refl holds.rows);
         sessions =
             rw grew.entries (Agrees-write h who changes mid new (Agrees-grown h caches.standing mid holds.sessions grown) known free (rw place_is at is));
         units = rw grew.entries (units-apart content h who (Write changes) caches.kept refl holds.units);

@@ -1,5 +1,5 @@
 -- What a pin is lent of an extent, and what it reads beside that.
-use Rattle.std.proofs.Common.{◌≡◌, ℕ, ◌==◌, ◌<◌, Bool, true, false, List, length, map, take, nat_le, Option, Some, None, if◌then◌else◌, refl, sym, ap, ◌∙◌, subst}
+use Rattle.std.proofs.Common.{◌≡◌, ℕ, ◌==◌, ◌<◌, ◌≤◌, Bool, true, false, List, length, map, take, nat_le, Option, Some, None, if◌then◌else◌, refl, sym, ap, ◌∙◌, subst}
 use Rattle.std.specs.Option.{option_map}
 use Rattle.std.proofs.lemmas.List.{length-map}
 use Rattle.std.proofs.lemmas.List.FromFn.{length-range_with_len}
@@ -9,6 +9,7 @@ use Rattle.im_history.specs.declared.look.TableInfo.{TableInfo}
 use Rattle.im_history.specs.declared.view.View.{View}
 use Rattle.im_history.specs.Fetched.{all_widened}
 use Rattle.im_history.specs.History.{History}
+use Rattle.im_history.specs.Horizon.{horizon}
 use Rattle.im_history.specs.Legal.{Exists}
 use Rattle.im_history.specs.Rows.{Row, rows}
 use Rattle.im_history.specs.Serving.{committed_in, fetched_in, not_newer, read_in, rows_in, serving_content, shown_all}
@@ -156,12 +157,12 @@ pub record KeepsStale (h : History) (blocks : AllVersions) (table extent scn at 
   pub long : length rids ≡ length (stale_in h table extent scn at)
 
 pub keeps_stale : {U : Type 0} {content : U → Content} {limits : Limits} {history : Stored} {caches : Caches U} {rids : List ℕ} (table extent scn at : ℕ)
-    → Holds content limits history caches → unit history.entries table extent ≡ Some at → rids ≡ stale_told caches.kept table extent scn
+    → Holds content limits history caches → horizon history.entries ≤ scn → unit history.entries table extent ≡ Some at → rids ≡ stale_told caches.kept table extent scn
     → KeepsStale history.entries caches.blocks table extent scn at rids
-keeps_stale {U} {content} {limits} {history} {caches} {rids} table extent scn at holds is told =
+keeps_stale {U} {content} {limits} {history} {caches} {rids} table extent scn at holds old is told =
     let h = history.entries in
     let stale_is = told ∙ stale-of content h caches.kept table extent at scn holds.units (per_at-some limits h table holds.legal) is in
     record {
-      rows = rows_among_kept h caches.blocks holds.rows table rids scn ∙ ap (map (λ rid. (rid, rows h table scn rid))) stale_is;
+      rows = rows_among_kept h caches.blocks holds.rows table rids scn old ∙ ap (map (λ rid. (rid, rows h table scn rid))) stale_is;
       long = ap length stale_is ∙ sym (length-map _ _);
     }

@@ -3,6 +3,7 @@ mod CountLemmas
 mod FetchLemmas
 pub mod ForCallers
 mod HoldsLemmas
+mod HorizonLemmas
 mod LastColumnLemmas
 mod LendLemmas
 mod OpenLemmas

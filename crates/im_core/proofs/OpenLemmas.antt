@@ -1,16 +1,13 @@
 -- What stays of a cursor's view while the cursor is open.
-use Rattle.std.proofs.Common.{◌≡◌, ℕ, ◌+◌, ◌<◌, ◌≤◌, ◌==◌, ◌&&◌, ◌||◌, Bool, true, false, not, if◌then◌else◌, max, All, List, [], ◌∷◌, ◌++◌, take, drop, Option, Some, None, refl, sym, ap, subst, ◌∙◌, ⊎_elim, arith, append_assoc, append-nil}
+use Rattle.std.proofs.Common.{◌≡◌, ℕ, ◌+◌, ◌<◌, ◌≤◌, ◌==◌, ◌&&◌, ◌||◌, Bool, true, false, not, if◌then◌else◌, max, All, List, [], ◌∷◌, ◌++◌, Option, Some, None, refl, sym, ap, subst, ◌∙◌, ⊎_elim, arith, append_assoc, append-nil}
 use Rattle.std.specs.List.{filter, find}
 use Rattle.std.specs.Option.{option_or}
 use Rattle.std.proofs.lemmas.Bool.{cases_lt}
 use Rattle.std.proofs.lemmas.Bool.Decides.{nat_tests}
-use Rattle.std.proofs.lemmas.List.{take-append-drop}
 use Rattle.std.proofs.lemmas.List.Elements.{All-nil, All-cons, All-head, All-tail, All-append, All-filter, All-weaker}
 use Rattle.std.proofs.lemmas.List.Folds.{find-append, list_any-append}
 use Rattle.im_history.specs.declared.change.Change.{Change}
 use Rattle.im_history.specs.declared.entry.Entry.{Entry}
-use Rattle.im_history.specs.declared.entry.Mode.{Mode}
-use Rattle.im_history.specs.declared.entry.Mode.TheVariants as mode
 use Rattle.im_history.specs.declared.entry.What.{What}
 use Rattle.im_history.specs.declared.entry.What.TheVariants.{Create, Add, Commit, Open, Rollback, Shut, Write}
 use Rattle.im_history.specs.declared.limits.Limits.{Limits}
@@ -19,16 +16,17 @@ use Rattle.im_history.specs.Commits.{commits, moves_clock, scn}
 use Rattle.im_history.specs.Cursors.{Opened, cursor_at, is_cursor, opened, opened_after}
 use Rattle.im_history.specs.History.{History, replay}
 use Rattle.im_history.specs.Legal.{Exists, IsAllowed, IsLegal}
-use Rattle.im_history.specs.Rows.{rows, snapshot, snapshot_under}
+use Rattle.im_history.specs.Rows.{rows}
 use Rattle.im_history.specs.Tables.{given, given_after, given_by}
 use Rattle.im_history.specs.Touched.{is_to, touches}
-use Rattle.im_history.specs.Transactions.{begun, mode as mode_of, pending, pending_after}
-use Rattle.im_history.specs.Views.{per_at, view_at}
+use Rattle.im_history.specs.Transactions.{pending, pending_after}
+use Rattle.im_history.specs.Views.{per_at, reads_at, view_at}
 use Rattle.im_history.proofs.GivenLaws.{given-grows, given_by-grows}
 use Rattle.im_history.proofs.Laws.{IsLegal-pop, given-push, opened-push, pending-push, scn-push}
 use Rattle.im_history.proofs.RowLaws.{each_history, each_longer, rows-append, rows-push_commit, rows-push_empty, rows-push_quiet, rows_past}
 use Rattle.im_history.proofs.StaleLaws.{untouched}
 use Rattle.im_history.proofs.TableLaws.{Exists-push, per_at-push}
+use Rattle.im_history.proofs.ViewLaws.{asked-reached, open-asked}
 use Rattle.im_core.specs.Pins.{StaysOpen, is_shut, shuts}
 use Rattle.im_core.proofs.FetchLemmas.{found_has}
 
@@ -124,22 +122,6 @@ scn-push_grows h entry = grows (scn h) (scn (h ++ entry ∷ [])) (if moves_clock
     grows : (before now step : ℕ) → now ≡ before + step → before ≤ now
     grows before now step is = omega (arith, is)
 
-scn-longer : (h more : History) → scn h ≤ scn (h ++ more)
-scn-longer h more =
-    each_longer (λ (log : History). scn h ≤ scn log)
-    (λ log entry so_far. let grows = scn-push_grows log entry in omega (arith, so_far, grows)) h more (omega arith)
-
-earlier : (h : History) (place : ℕ) → scn (take place h) ≤ scn h
-earlier h place =
-    subst (λ (log : History). scn (take place h) ≤ scn log) (take-append-drop place h) (scn-longer (take place h) (drop place h))
-
-snapshot-under : (h : History) (m : Mode) (began : Option ℕ) → snapshot_under h m began ≤ scn h
-snapshot-under h mode.Committed began = omega arith
-snapshot-under h mode.Serializable None = omega arith
-snapshot-under h mode.Serializable (Some place) = earlier h place
-snapshot-under h mode.ReadOnly None = omega arith
-snapshot-under h mode.ReadOnly (Some place) = earlier h place
-
 -- ---- the view of an open cursor
 
 -- its table is there and cut as the view has it, its SCN was reached, and at it no row stands behind those that the view has
@@ -149,12 +131,12 @@ pub record IsFixed (h : History) (view : View) : Type 0 where
   pub known : view.scn ≤ scn h
   pub ungiven : (rid : ℕ) → view.rows ≤ rid → rows h view.table view.scn rid ≡ None
 
-fixed-view : (h : History) (who table : ℕ) → Exists h table → IsFixed h (view_at h who table)
-fixed-view h who table exists = record {
+fixed-view : (h : History) (who table : ℕ) (asked : Option ℕ) → Exists h table → reads_at h who asked ≤ scn h → IsFixed h (view_at h who table asked)
+fixed-view h who table asked exists reached = record {
   exists = exists;
   per = refl;
-  known = snapshot-under h (mode_of h who) (begun h who);
-  ungiven = λ rid past. (nowhere table rid h past).done (snapshot h who);
+  known = reached;
+  ungiven = λ rid past. (nowhere table rid h past).done (reads_at h who asked);
 }
 
 fixed-push : (h : History) (entry : Entry) (view : View) → IsFixed h view → IsFixed (h ++ entry ∷ []) view
@@ -188,9 +170,10 @@ AllFixed-push limits h entry allowed so_far = record {
   where
     after : (who : ℕ) (os : List Opened) (what : What) → IsAllowed limits h entry.who what → All (Fixed h) os
         → All (Fixed h) (opened_after h who os what)
-    after who os (Open cursor table) may all =
-        All-append (Fixed h) os (record { cursor = cursor; view = view_at h who table } ∷ []) all
-        (All-cons (Fixed h) (record { cursor = cursor; view = view_at h who table }) [] (fixed-view h who table may.exists) (All-nil (Fixed h)))
+    after who os (Open cursor table asked) may all =
+        All-append (Fixed h) os (record { cursor = cursor; view = view_at h who table asked } ∷ []) all
+        (All-cons (Fixed h) (record { cursor = cursor; view = view_at h who table asked }) []
+        (fixed-view h who table asked may.exists (asked-reached h who asked (open-asked h entry.who cursor asked may.allowed))) (All-nil (Fixed h)))
     after who os (Shut cursor) may all = All-filter (λ other. not (is_cursor cursor other)) (Fixed h) os all
     after who os _ may all = all
 
@@ -242,8 +225,8 @@ stays-push : (h : History) (entry : Entry) (who cursor : ℕ) (found : Opened) �
 stays-push h entry who cursor found stays is = rw (opened-push h entry who) (by (entry.who == who) refl stays)
   where
     after : (what : What) → is_shut cursor what ≡ false → find (is_cursor cursor) (opened_after h who (opened h who) what) ≡ Some found
-    after (Open other table) apart =
-        found-append cursor (opened h who) (record { cursor = other; view = view_at h who table } ∷ []) found is
+    after (Open other table asked) apart =
+        found-append cursor (opened h who) (record { cursor = other; view = view_at h who table asked } ∷ []) found is
     after (Shut other) apart = found-filter cursor other (opened h who) found apart is
     after _ apart = is
 

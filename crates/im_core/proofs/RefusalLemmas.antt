@@ -11,35 +11,39 @@ use Rattle.im_history.specs.declared.refused.Why.{Why}
 use Rattle.im_history.specs.declared.refused.Why.TheVariants.{TableExists, TooManyTables, CursorOpen, TooManyCursors, RowLocked, Serialize}
 use Rattle.im_history.specs.Cursors.{is_cursor_open, is_own, cursors_open}
 use Rattle.im_history.specs.History.{History}
-use Rattle.im_history.specs.Refusals.{first_cause, when, create_refusal, lock_on, open_refusal, touch_after}
+use Rattle.im_history.specs.Refusals.{first_cause, when, asked_refusal, create_refusal, lock_on, open_refusal, touch_after}
 use Rattle.im_history.specs.Tables.{tables, number_among, table_named}
 use Rattle.im_history.specs.Touched.{last_touch}
 use Rattle.im_txn.specs.Agrees.{Agrees}
 use Rattle.im_txn.specs.Standing.{Standing, holder_in}
 use Rattle.im_txn.proofs.ForCallers.{holder-by}
 
-pub open_refused : (h : History) (who cursor : ℕ) → is_cursor_open h who cursor ≡ true → Some CursorOpen ≡ open_refusal h who cursor
-open_refused h who cursor opened = rw opened refl
+pub open_refused : (h : History) (who cursor : ℕ) (asked : Option ℕ) → is_cursor_open h who cursor ≡ true → Some CursorOpen ≡ open_refusal h who cursor asked
+open_refused h who cursor asked opened = rw opened refl
 
-pub too_many_open : (h : History) (who cursor : ℕ) → is_cursor_open h who cursor ≡ false → is_own cursor ≡ false → MOST_CURSORS ≤ cursors_open h who
-    → Some TooManyCursors ≡ open_refusal h who cursor
-too_many_open h who cursor shut other many =
+pub too_many_open : (h : History) (who cursor : ℕ) (asked : Option ℕ) → is_cursor_open h who cursor ≡ false → is_own cursor ≡ false
+    → MOST_CURSORS ≤ cursors_open h who → Some TooManyCursors ≡ open_refusal h who cursor asked
+too_many_open h who cursor asked shut other many =
     let no : nat_lt (cursors_open h who) MOST_CURSORS ≡ false = grind (arith, nat_tests) in
     rw (shut, other, no) refl
 
-pub may_open : (h : History) (who cursor : ℕ) → is_cursor_open h who cursor ≡ false → cursors_open h who < MOST_CURSORS → None ≡ open_refusal h who cursor
-may_open h who cursor shut few = by (is_own cursor)
+-- where neither is so, it is the SCN that may refuse
+pub may_open : (h : History) (who cursor : ℕ) (asked : Option ℕ) → is_cursor_open h who cursor ≡ false → cursors_open h who < MOST_CURSORS
+    → asked_refusal h asked ≡ open_refusal h who cursor asked
+may_open h who cursor asked shut few = by (is_own cursor)
   where
     room : nat_lt (cursors_open h who) MOST_CURSORS ≡ true
     room = grind (arith, nat_tests)
 
     by : (b : Bool)
-        → None ≡ option_or (when (is_cursor_open h who cursor) CursorOpen) (when (not b && not (nat_lt (cursors_open h who) MOST_CURSORS)) TooManyCursors)
+        → asked_refusal h asked ≡ option_or (when (is_cursor_open h who cursor) CursorOpen)
+        (option_or (when (not b && not (nat_lt (cursors_open h who) MOST_CURSORS)) TooManyCursors) (asked_refusal h asked))
     by true = rw shut refl
     by false = rw (shut, room) refl
 
-pub may_open_own : (h : History) (who cursor : ℕ) → is_cursor_open h who cursor ≡ false → is_own cursor ≡ true → None ≡ open_refusal h who cursor
-may_open_own h who cursor shut own = rw (shut, own) refl
+pub may_open_own : (h : History) (who cursor : ℕ) (asked : Option ℕ) → is_cursor_open h who cursor ≡ false → is_own cursor ≡ true
+    → asked_refusal h asked ≡ open_refusal h who cursor asked
+may_open_own h who cursor asked shut own = rw (shut, own) refl
 
 -- a table has the name
 pub table_taken : (h : History) (name : List ℕ) (catalog : List TableInfo) (table : ℕ) → catalog ≡ tables h → number_among catalog name ≡ Some table
@@ -95,8 +99,7 @@ touch_found h scn last change is later =
     rw (is, yes) refl
 
 -- none did
-pub touch_none : (h : History) (scn last : ℕ) (change : Change) → last ≡ last_touch h change.table change.rid → last ≤ scn
-    → None ≡ touch_after h scn change
-touch_none h scn last change is earlier =
+pub touch_none : (h : History) (scn : ℕ) (change : Change) → last_touch h change.table change.rid ≤ scn → None ≡ touch_after h scn change
+touch_none h scn change earlier =
     let no : nat_lt scn (last_touch h change.table change.rid) ≡ false = grind (arith, nat_tests) in
     rw no refl

@@ -8,6 +8,7 @@ use Rattle.im_history.specs.declared.entry.What.TheVariants.{Write}
 use Rattle.im_history.specs.declared.limits.Limits.{Limits}
 use Rattle.im_history.specs.Cursors.{Opened, opened, is_cursor}
 use Rattle.im_history.specs.History.{History}
+use Rattle.im_history.specs.Horizon.{horizon}
 use Rattle.im_history.specs.Legal.{Exists, IsLegal, MayWrite, IsAllowed}
 use Rattle.im_history.specs.Refusals.{write_refusal}
 use Rattle.im_history.specs.Stored.{Stored}
@@ -25,6 +26,7 @@ use Rattle.im_core.specs.inner.Holds.{Caches, Holds}
 use Rattle.im_core.specs.inner.Kept.{IsView, Gives}
 use Rattle.im_core.proofs.CountLemmas.{Gives-rewrite}
 use Rattle.im_core.proofs.FetchLemmas.{found_has}
+use Rattle.im_core.proofs.HorizonLemmas.{cursor-old}
 
 -- a table that exists has a number
 pub exists_range : (h : History) (table : ℕ) → Exists h table → (1 ≤ table) × (table ≤ length (tables h))
@@ -39,6 +41,7 @@ pub record Rewrites (limits : Limits) (h : History) (who cursor : ℕ) (changes 
   pub exists : Exists h view.table
   pub range : (1 ≤ view.table) × (view.table ≤ length (tables h))
   pub scn : view.scn ≡ (cursor_view h who cursor).scn
+  pub old : horizon h ≤ view.scn
   pub gives : Gives h view.table changes (given h view.table)
   pub allowed : write_refusal limits h who (cursor_view h who cursor).scn changes ≡ None → IsAllowed limits h who (Write changes)
 
@@ -52,6 +55,7 @@ kept_of limits h who cursor changes may legal view light =
       exists = exists;
       range = exists_range h may.opened.view.table exists;
       scn = scn_is;
+      old = cursor-old limits h who cursor may.opened legal may.is;
       gives = Gives-rewrite h may.opened.view.table changes may.same
           (λ i within. let inside = may.inside i within in let given_then = view.within in omega (arith, inside, given_then)) light;
       allowed = λ none. inr (record { cursor = cursor; may = may; allowed = rw scn_is none });

@@ -11,6 +11,7 @@ use Rattle.im_history.specs.declared.task.Task.{Task}
 use Rattle.im_history.specs.Columns.{defaults_at}
 use Rattle.im_history.specs.Fetched.{all_widened}
 use Rattle.im_history.specs.History.{History}
+use Rattle.im_history.specs.Horizon.{horizon}
 use Rattle.im_history.specs.Legal.{Exists, IsLegal}
 use Rattle.im_history.specs.Rows.{Row}
 use Rattle.im_history.specs.Serving.{not_newer}
@@ -57,10 +58,10 @@ pub task_rows_are : (h : History) (task : Task) (given count : ℕ) → HasTask 
     → count ≡ task_rows h task
 task_rows_are h task given count has count_is = count_is ∙ ap (λ n. min task.per (n - task.extent * task.per)) (sym has.is)
 
-pub task_fetched_is : (h : History) (blocks : AllVersions) (task : Task) (given count : ℕ) → IsKept h blocks → HasTask h task given
+pub task_fetched_is : (h : History) (blocks : AllVersions) (task : Task) (given count : ℕ) → IsKept h blocks → horizon h ≤ task.scn → HasTask h task given
     → count ≡ min task.per (given - task.extent * task.per) → rows_at blocks task.table (task.extent * task.per) count task.scn ≡ task_read_by h task None
-task_fetched_is h blocks task given count keeps has count_is =
-    rows_at_kept h blocks keeps task.table (task.extent * task.per) count task.scn ∙ rw (task_rows_are h task given count has count_is) refl
+task_fetched_is h blocks task given count keeps old has count_is =
+    rows_at_kept h blocks keeps task.table (task.extent * task.per) count task.scn old ∙ rw (task_rows_are h task given count has count_is) refl
 
 -- ---- what a build is lent
 

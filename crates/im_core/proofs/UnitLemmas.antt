@@ -12,6 +12,7 @@ use Rattle.im_history.specs.declared.task.Choice.{Choice}
 use Rattle.im_history.specs.declared.task.Held.{Held}
 use Rattle.im_history.specs.Area.{used}
 use Rattle.im_history.specs.Commits.{moves_clock}
+use Rattle.im_history.specs.Horizon.{moves_horizon}
 use Rattle.im_history.specs.Legal.{IsAllowed, MayCancel, MayLeave, MaySetMemory, used_with}
 use Rattle.im_history.specs.History.{History}
 use Rattle.im_history.specs.Queue.{build_of, next}
@@ -38,10 +39,11 @@ use Rattle.im_core.proofs.CountLemmas.{IsLight, Counts-light, Counts-memory, lig
 use Rattle.im_core.proofs.HoldsLemmas.{Grew, grew-spare}
 use Rattle.im_core.proofs.ViewLemmas.{Views-push}
 
--- an entry of this kind begins no transaction, ends none, and commits nothing
+-- an entry of this kind begins no transaction, ends none, commits nothing, and leaves the horizon
 pub record IsOfStore (what : What) : Type 0 where
   pub light : IsLight what
   pub quiet : moves_clock what ≡ false
+  pub still : moves_horizon what ≡ false
   pub apart : is_apart what ≡ true
   pub begins : (place : ℕ) (began : Option ℕ) → begun_after place began what ≡ began
 
@@ -85,7 +87,7 @@ module _ {U : Type 0} (content : U → Content) (limits : Limits) (history : Sto
         rw grew.entries
         (Began-kept history.entries entry caches.beginnings (as_it_was (of.begins (length history.entries) (begun history.entries entry.who))) holds.began);
     views = rw grew.entries (Views-push history.entries entry holds.views);
-    rows = rw grew.entries (IsKept-quiet history.entries entry caches.blocks of.quiet holds.rows);
+    rows = rw grew.entries (IsKept-quiet history.entries entry caches.blocks of.quiet of.still holds.rows);
     sessions = rw grew.entries (Agrees-apart history.entries entry.who entry.what caches.standing of.apart holds.sessions);
     units = rw grew.entries units;
     room = let more = grew.spare in omega (arith, more, few);
@@ -106,6 +108,7 @@ module _ {U : Type 0} (content : U → Content) (limits : Limits) (history : Sto
       (record {
         light = light-build (builds history.entries + 1) choice.table choice.extent choice.trickle;
         quiet = refl;
+        still = refl;
         apart = refl;
         begins = λ place began. refl;
       })
@@ -140,7 +143,7 @@ module _ {U : Type 0} (content : U → Content) (limits : Limits) (history : Sto
       let room = holds.room in
       store_step after (record { who = who; what = Switch id }) history.spare new holds known
       (grew-spare history after (record { who = who; what = Switch id }) (owed-held id held holds is) added)
-      (record { light = light-switch id; quiet = refl; apart = refl; begins = λ place began. refl })
+      (record { light = light-switch id; quiet = refl; still = refl; apart = refl; begins = λ place began. refl })
       (record { may = record { held = held; is = is; mine = mine }; lives = lives; fits = fits })
       (Agrees-switch content history.entries who id held of caches.kept new holds.units is lives holds_rows switched)
       (omega (arith, count, room))
@@ -155,7 +158,7 @@ module _ {U : Type 0} (content : U → Content) (limits : Limits) (history : Sto
       let room = holds.room in
       store_step after (record { who = who; what = Cancel id full }) history.spare new holds known
       (grew-spare history after (record { who = who; what = Cancel id full }) (owed-held id held holds is) added)
-      (record { light = light-cancel id full; quiet = refl; apart = refl; begins = λ place began. refl })
+      (record { light = light-cancel id full; quiet = refl; still = refl; apart = refl; begins = λ place began. refl })
       may
       (Agrees-cancel content history.entries who id full held caches.kept new holds.units is cancelled)
       (omega (arith, count, room))
@@ -169,7 +172,7 @@ module _ {U : Type 0} (content : U → Content) (limits : Limits) (history : Sto
       let count : count_by is_some new.builds ≡ count_by is_some caches.kept.builds =
       ap (count_by is_some) dropped.builds ∙ count-killed caches.kept.builds _ in
       store_step after (record { who = who; what = Evict table extent }) (owed caches.standing caches.kept + 1) new holds known grew
-      (record { light = light-evict table extent; quiet = refl; apart = refl; begins = λ place began. refl })
+      (record { light = light-evict table extent; quiet = refl; still = refl; apart = refl; begins = λ place began. refl })
       there
       (Agrees-drop content history.entries who (Evict table extent) caches.kept new refl holds.units (rw place_is at dropped))
       (omega (arith, count))
@@ -179,7 +182,7 @@ module _ {U : Type 0} (content : U → Content) (limits : Limits) (history : Sto
       → Grew history after (record { who = who; what = Trickle count }) (owed caches.standing caches.kept + 1) → Holds content limits after caches
   Holds-trickle after who count holds known grew =
       store_step after (record { who = who; what = Trickle count }) (owed caches.standing caches.kept + 1) caches.kept holds known grew
-      (record { light = light-trickle count; quiet = refl; apart = refl; begins = λ place began. refl })
+      (record { light = light-trickle count; quiet = refl; still = refl; apart = refl; begins = λ place began. refl })
       tt (units-apart content history.entries who (Trickle count) caches.kept refl holds.units) (omega arith)
 
   -- a session leaves
@@ -187,7 +190,7 @@ module _ {U : Type 0} (content : U → Content) (limits : Limits) (history : Sto
       → Grew history after (record { who = who; what = Leave }) (owed caches.standing caches.kept + 1) → Holds content limits after caches
   Holds-leave after who holds known may grew =
       store_step after (record { who = who; what = Leave }) (owed caches.standing caches.kept + 1) caches.kept holds known grew
-      (record { light = light-leave; quiet = refl; apart = refl; begins = λ place began. refl })
+      (record { light = light-leave; quiet = refl; still = refl; apart = refl; begins = λ place began. refl })
       may (units-apart content history.entries who Leave caches.kept refl holds.units) (omega arith)
 
   -- what the units take is the history's
@@ -211,7 +214,7 @@ module _ {U : Type 0} (content : U → Content) (limits : Limits) (history : Sto
         tables = rw (grew.entries, catalog_is) (Counts-memory h who table priority caches.catalog caches.counts caches.weighed holds.tables);
         began = rw grew.entries (Began-kept h entry caches.beginnings (as_it_was refl) holds.began);
         views = rw grew.entries (Views-push h entry holds.views);
-        rows = rw grew.entries (IsKept-quiet h entry caches.blocks refl holds.rows);
+        rows = rw grew.entries (IsKept-quiet h entry caches.blocks refl refl holds.rows);
         sessions = rw grew.entries (Agrees-apart h who (Memory table priority) caches.standing refl holds.sessions);
         units = rw grew.entries units;
         room = let more = grew.spare in omega (arith, more, same);

@@ -1,5 +1,5 @@
 -- What open cursors see was given, one entry on; and what an opening sees.
-use Rattle.std.proofs.Common.{◌≡◌, ℕ, zero, suc, ◌-◌, ◌==◌, Bool, true, false, not, if◌then◌else◌, List, [], ◌∷◌, ◌++◌, length, get_or, slice_get, Some, refl, sym, ap, ◌∙◌, arith, All}
+use Rattle.std.proofs.Common.{◌≡◌, ℕ, zero, suc, ◌-◌, ◌==◌, Bool, true, false, not, if◌then◌else◌, List, [], ◌∷◌, ◌++◌, length, get_or, slice_get, Option, Some, refl, sym, ap, ◌∙◌, arith, All}
 use Rattle.std.proofs.lemmas.List.Elements.{All-head, All-tail, All-nil, All-cons, All-append, All-filter}
 use Rattle.std.proofs.lemmas.Option.{slice_get_read, slice_get_within}
 use Rattle.im_values.specs.declared.content.Content.{Content as Value}
@@ -12,9 +12,8 @@ use Rattle.im_history.specs.declared.look.TableInfo.{TableInfo}
 use Rattle.im_history.specs.Cursors.{Opened, opened, opened_after, is_cursor}
 use Rattle.im_history.specs.Grid.{extents_for, per_extent}
 use Rattle.im_history.specs.History.{History, replay}
-use Rattle.im_history.specs.Rows.{own_changes, snapshot}
 use Rattle.im_history.specs.Tables.{given, table_among, table_at}
-use Rattle.im_history.specs.Views.{view_at}
+use Rattle.im_history.specs.Views.{reads_at, shows_own, view_at}
 use Rattle.im_history.proofs.GivenLaws.{given-grows}
 use Rattle.im_history.proofs.Laws.{opened-push}
 use Rattle.im_core.specs.inner.Kept.{IsView, Views}
@@ -32,9 +31,9 @@ later h entry (o ∷ os) all =
     (later h entry os (All-tail (Within h) o os all))
 
 after : (h : History) (who : ℕ) (os : List Opened) (what : What) → All (Within h) os → All (Within h) (opened_after h who os what)
-after h who os (Open cursor table) all =
-    All-append (Within h) os (record { cursor = cursor; view = view_at h who table } ∷ []) all
-    (All-cons (Within h) (record { cursor = cursor; view = view_at h who table }) [] (record { within = omega arith; cut = refl }) (All-nil _))
+after h who os (Open cursor table asked) all =
+    All-append (Within h) os (record { cursor = cursor; view = view_at h who table asked } ∷ []) all
+    (All-cons (Within h) (record { cursor = cursor; view = view_at h who table asked }) [] (record { within = omega arith; cut = refl }) (All-nil _))
 after h who os (Shut cursor) all = All-filter (λ other. not (is_cursor cursor other)) (Within h) os all
 after h who os _ all = all
 
@@ -64,12 +63,13 @@ info-there catalog (suc before) made info is found =
     cc
 
 -- a view of what is told of a table is the view that an opening has
-pub view-made : (h : History) (who table place at rows per : ℕ) (columns : List Column) (defaults : List Value) (own : List Change) (info : TableInfo)
-    → table_at h table ≡ Some info → place ≡ length h → at ≡ snapshot h who → rows ≡ given h table → per ≡ per_extent info.shape
-    → columns ≡ info.schema → defaults ≡ info.defaults → own ≡ own_changes h who table
+pub view-made : (h : History) (who table : ℕ) (asked : Option ℕ) (place at rows per : ℕ) (columns : List Column) (defaults : List Value) (own : List Change) (info : TableInfo)
+    → table_at h table ≡ Some info → place ≡ length h → at ≡ reads_at h who asked → rows ≡ given h table → per ≡ per_extent info.shape
+    → columns ≡ info.schema → defaults ≡ info.defaults → own ≡ shows_own h who table asked
     → record {
       place = place;
       table = table;
+      asked = asked;
       scn = at;
       rows = rows;
       per = per;
@@ -78,6 +78,6 @@ pub view-made : (h : History) (who table place at rows per : ℕ) (columns : Lis
       defaults = defaults;
       own = own;
     }
-    ≡ view_at h who table
-view-made h who table place at rows per columns defaults own info is place_is at_is rows_are per_is columns_are defaults_are own_is =
+    ≡ view_at h who table asked
+view-made h who table asked place at rows per columns defaults own info is place_is at_is rows_are per_is columns_are defaults_are own_is =
     rw (is, place_is, at_is, rows_are, per_is, columns_are, defaults_are, own_is) refl

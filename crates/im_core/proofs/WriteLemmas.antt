@@ -108,8 +108,8 @@ table_room h name none =
     grind (arith, nat_tests)
 
 -- a cursor that may be opened is not open
-pub open_shut : (h : History) (who cursor : ℕ) → open_refusal h who cursor ≡ None → is_cursor_open h who cursor ≡ false
-open_shut h who cursor none = when_none _ CursorOpen (left_none (when (is_cursor_open h who cursor) CursorOpen) _ none)
+pub open_shut : (h : History) (who cursor : ℕ) (asked : Option ℕ) → open_refusal h who cursor asked ≡ None → is_cursor_open h who cursor ≡ false
+open_shut h who cursor asked none = when_none _ CursorOpen (left_none (when (is_cursor_open h who cursor) CursorOpen) _ none)
 
 -- a table may get a column: there is room for it
 pub column_room : (h : History) (table : ℕ) (name : List ℕ) → add_refusal h table name ≡ None → columns_of (table_at h table) < MOST_COLUMNS

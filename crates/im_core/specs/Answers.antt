@@ -44,7 +44,7 @@ pub record MayPut (history : History) (opening : Opening) (rows : List Row) : Ty
 
 -- the view of a cursor that is not open: it has no rows, and no columns
 abbrev pub no_view : View
-no_view = record { place = 0; table = 0; scn = 0; rows = 0; per = 0; extents = 0; columns = []; defaults = []; own = [] }
+no_view = record { place = 0; table = 0; asked = None; scn = 0; rows = 0; per = 0; extents = 0; columns = []; defaults = []; own = [] }
 
 -- the view of a cursor
 abbrev pub view_of : Option Opened → View

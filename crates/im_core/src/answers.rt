@@ -48,6 +48,17 @@ pub struct Committed {
     pub scn: u64,
 }
 
+/// Old versions of rows were let go.
+#[derive(Clone, Copy)]
+pub struct Purged {
+    /// The place of the entry.
+    pub place: u64,
+    /// The horizon behind it: the least SCN that may be asked for.
+    pub horizon: u64,
+    /// How many versions are kept.
+    pub kept: u64,
+}
+
 /// What a scan needs of one extent.
 #[derive(Drop)]
 pub struct Pin<U> {

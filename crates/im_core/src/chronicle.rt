@@ -1,18 +1,20 @@
-ghost use Rattle.std.specs.Prelude.{◌≡◌, ◌+◌, ◌-◌, ◌^◌, ◌<◌, ◌≤◌, [], ◌∷◌, ◌++◌, length, max, OnOk, OnErr};
+ghost use Rattle.std.specs.Prelude.{◌≡◌, ◌+◌, ◌-◌, ◌^◌, ◌<◌, ◌≤◌, [], ◌∷◌, ◌++◌, false, length, max, OnOk, OnErr};
 ghost use Rattle.im_values.specs.declared.limits.TheConstants.{MOST_TABLES};
+ghost use Rattle.im_history.specs.declared.entry.What.TheVariants as what;
 ghost use Rattle.im_history.specs.Commits.{scn};
+ghost use Rattle.im_history.specs.Horizon.{horizon, keep, moves_horizon};
 ghost use Rattle.im_history.specs.Tables.{last_added};
 ghost use Rattle.im_queue.specs.Demand.{IsDemand, IsPaid};
 
 use crate::last_columns::LastColumns;
-use im_history::{Entry, History};
+use im_history::{Entry, History, What};
 use im_queue::Demand;
 use im_values::NoMemory;
 use std::alloc::Global;
 use std::marker::Model;
 
-/// The history, and what is counted of it as it grows: credits, who left, which tables were opened, and where each got its last
-/// column.
+/// The history, and what is counted of it as it grows: credits, who left, which tables were opened, where each got its last
+/// column, and the horizon.
 ///
 /// Contracts see the history.
 #[derive(Drop)]
@@ -20,6 +22,8 @@ pub struct Chronicle {
     history: History,
     demand: Demand,
     columns: LastColumns,
+    /// The least SCN that may be asked for.
+    horizon: u64,
 }
 
 impl Model for Chronicle {
@@ -27,13 +31,17 @@ impl Model for Chronicle {
 
     ghost Value = { Stored };
 
-    ghost use Rattle.std.specs.Prelude.{◌^◌, ◌<◌, length};
+    ghost use Rattle.std.specs.Prelude.{◌≡◌, ◌^◌, ◌<◌, length};
+    ghost use Rattle.im_history.specs.Horizon as horizons;
     ghost use Rattle.im_queue.specs.Demand.{IsDemand};
     ghost use Rattle.im_core.specs.inner.LastColumns.{AreLast};
 
     ghost view = { λ c. c.history };
 
-    ghost invariant = { λ c. IsDemand c.history.entries c.demand × ((length c.history.entries < 2 ^ 63) × AreLast c.history.entries c.columns) };
+    ghost invariant = { λ c. IsDemand c.history.entries c.demand
+        × (length c.history.entries < 2 ^ 63)
+        × AreLast c.history.entries c.columns
+        × (c.horizon ≡ horizons.horizon c.history.entries) };
 }
 
 impl Chronicle {
@@ -45,6 +53,7 @@ impl Chronicle {
             history: History::new(alloc),
             demand: Demand::new(),
             columns: LastColumns::new(),
+            horizon: 0,
         }
     }
 
@@ -56,15 +65,45 @@ impl Chronicle {
         self.history.reserve(room)
     }
 
-    /// Adds an entry at the end, and counts it. It takes no memory.
+    /// Adds an entry that is no purge at the end, and counts it. It takes no memory.
     pub fn append(&mut self, entry: Entry)
         requires room { 0 < self.old.spare }
         requires paid { IsPaid self.old.entries entry.what }
+        requires still { moves_horizon entry.what ≡ false }
+        ensures added { self.new ≡ record { entries = self.old.entries ++ entry ∷ []; spare = self.old.spare - 1 } }
+        ensures few { length self.new.entries < 2 ^ 63 }
+    {
+        let horizon = self.horizon;
+        self.add(entry, horizon);
+    }
+
+    /// Adds a purge at the end, which moves the horizon to this SCN. It takes no memory.
+    pub fn append_purge(&mut self, who: u32, horizon: u64)
+        requires room { 0 < self.old.spare }
+        requires keeps { horizon ≡ keep self.old.entries }
+        ensures added { self.new ≡ record {
+          entries = self.old.entries ++ record { who = who; what = what.Purge } ∷ [];
+          spare = self.old.spare - 1;
+        } }
+    {
+        let purge = Entry {
+            who,
+            what: What::Purge,
+        };
+        self.add(purge, horizon);
+    }
+
+    /// Adds an entry at the end, behind which the horizon is this, and counts it.
+    fn add(&mut self, entry: Entry, behind: u64)
+        requires room { 0 < self.old.spare }
+        requires paid { IsPaid self.old.entries entry.what }
+        requires horizon { behind ≡ horizon (self.old.entries ++ entry ∷ []) }
         ensures added { self.new ≡ record { entries = self.old.entries ++ entry ∷ []; spare = self.old.spare - 1 } }
         ensures few { length self.new.entries < 2 ^ 63 }
     {
         self.columns.note(self.history.len(), &entry.what);
         self.demand.note(&entry.what);
+        self.horizon = behind;
         self.history.append(entry);
     }
 
@@ -74,6 +113,13 @@ impl Chronicle {
         ensures few { result < 2 ^ 63 }
     {
         self.history.scn()
+    }
+
+    /// The least SCN that may be asked for.
+    pub fn horizon(&self) -> u64
+        ensures { result ≡ horizon self.now.entries }
+    {
+        self.horizon
     }
 
     /// How many entries there are.

@@ -1,15 +1,16 @@
-ghost use Rattle.std.specs.Prelude.{◌≡◌, ◌+◌, ◌<◌, ◌≤◌, length, nat_le, take, true, Some, None, IfOk, IfErr, OnOk, OnErr, if◌then◌else◌};
+ghost use Rattle.std.specs.Prelude.{◌≡◌, ◌+◌, ◌<◌, ◌≤◌, [], length, nat_le, take, true, Some, None, IfOk, IfErr, OnOk, OnErr, if◌then◌else◌};
 ghost use Rattle.std.specs.Option.{ForSome, option_map, option_or};
 ghost use Rattle.im_history.specs.declared.entry.What.TheVariants as what;
 ghost use Rattle.im_history.specs.Cursors.{is_cursor_open};
 ghost use Rattle.im_history.specs.Fetched.{all_widened};
+ghost use Rattle.im_history.specs.Horizon.{horizon};
 ghost use Rattle.im_history.specs.Legal.{Exists};
 ghost use Rattle.im_history.specs.Refusals.{altered, open_refusal};
 ghost use Rattle.im_history.specs.Rows.{snapshot};
 ghost use Rattle.im_history.specs.Serving.{committed_in, fetched_in, not_newer, read_in, rows_in, serving_content};
 ghost use Rattle.im_history.specs.Tables.{table_at};
 ghost use Rattle.im_history.specs.Units.{content_at, unit};
-ghost use Rattle.im_history.specs.Views.{defaults_of, view_at};
+ghost use Rattle.im_history.specs.Views.{defaults_of, reads_at, shows_own, view_at};
 ghost use Rattle.im_core.specs.Answers.{IsRefusal, content_in, cursor_view};
 ghost use Rattle.im_core.specs.inner.Kept.{beginning_at};
 ghost use Rattle.im_core.specs.inner.Lending.{stale_in};
@@ -18,53 +19,71 @@ ghost use Rattle.im_core.specs.Seen.{Adds};
 use crate::answers::{Pin, Written};
 use crate::store::{Core, owed};
 use im_history::{
-    Entry, Fetched, Mode, Opening, Refused, ShownRows, UnitLike, View, What, Who, Why,
+    Entry, Fetched, LastRows, Mode, Opening, OwnChanges, Refused, ShownRows, UnitLike, View, What,
+    Who, Why,
 };
 use im_txn::Cursor;
 use im_values::limits::{MOST_ROWS, NUMBERS};
 use im_values::{NoMemory, Steps, clone_row};
+use std::alloc::Global;
 use std::sync::Arc;
 use std::sync::ledger::Ledger;
 
 impl<U: UnitLike> Core<U> {
-    /// Opens a cursor on a table: what it sees is fixed here. It is refused where the table has got columns since the caller saw it, then
-    /// where this cursor is open, and then where [`MOST_CURSORS`](im_values::limits::MOST_CURSORS) are open beside its statements' own.
-    pub fn open_cursor(&mut self, who: u32, cursor: u32, opening: Opening) -> Result<View, Refused>
+    /// Opens a cursor on a table: what it sees is fixed here. Where it asks for an SCN it reads there, and shows none of the session's own
+    /// changes.
+    ///
+    /// It is refused where the table has got columns since the caller saw it, then where this cursor is open, then where
+    /// [`MOST_CURSORS`](im_values::limits::MOST_CURSORS) are open beside its statements' own, then where the SCN that it asks for was not
+    /// reached, and then where that is below the horizon.
+    pub fn open_cursor(
+        &mut self,
+        who: u32,
+        cursor: u32,
+        opening: Opening,
+        asked: Option<u64>,
+    ) -> Result<View, Refused>
         requires session { who < NUMBERS }
         requires exists { Exists self.old.log opening.table }
-        ensures ok { OnOk result (Adds self.old who (what.Open cursor opening.table) self.new) }
+        ensures ok { OnOk result (Adds self.old who (what.Open cursor opening.table asked) self.new) }
         ensures seen { OnOk result (altered self.old.log opening.table opening.columns ≡ None) }
-        ensures allowed { OnOk result (open_refusal self.old.log who cursor ≡ None) }
-        ensures view { IfOk result (λ view. view ≡ view_at self.old.log who opening.table) }
+        ensures allowed { OnOk result (open_refusal self.old.log who cursor asked ≡ None) }
+        ensures view { IfOk result (λ view. view ≡ view_at self.old.log who opening.table asked) }
         ensures few { IfOk result (λ view. view.rows ≤ MOST_ROWS) }
         ensures some { IfOk result (λ view. 1 ≤ view.per) }
         ensures err { OnErr result (self.new ≡ self.old) }
         ensures refused { IfErr result (λ why. IsRefusal self.old.log
-            (option_or (altered self.old.log opening.table opening.columns) (open_refusal self.old.log who cursor)) why) }
+            (option_or (altered self.old.log opening.table opening.columns) (open_refusal self.old.log who cursor asked)) why) }
     {
         let caller = Who::of(who);
         if let Some(why) = self.altered(opening) {
             return Err(self.refused(why));
         }
-        if let Some(why) = self.open_refusal(caller, cursor) {
+        if let Some(why) = self.open_refusal(caller, cursor, asked) {
             return Err(self.refused(why));
         }
-        match self.record_open(caller, cursor, opening.table) {
+        match self.record_open(caller, cursor, opening.table, asked) {
             Ok(view) => Ok(view),
             Err(NoMemory) => Err(self.refused(Why::NoMemory)),
         }
     }
 
-    fn record_open(&mut self, who: Who, cursor: u32, table: u32) -> Result<View, NoMemory>
+    fn record_open(
+        &mut self,
+        who: Who,
+        cursor: u32,
+        table: u32,
+        asked: Option<u64>,
+    ) -> Result<View, NoMemory>
         requires exists { Exists self.old.log table }
-        requires allowed { open_refusal self.old.log who cursor ≡ None }
-        ensures ok { OnOk result (Adds self.old who (what.Open cursor table) self.new) }
-        ensures view { IfOk result (λ view. view ≡ view_at self.old.log who table) }
+        requires allowed { open_refusal self.old.log who cursor asked ≡ None }
+        ensures ok { OnOk result (Adds self.old who (what.Open cursor table asked) self.new) }
+        ensures view { IfOk result (λ view. view ≡ view_at self.old.log who table asked) }
         ensures few { IfOk result (λ view. view.rows ≤ MOST_ROWS) }
         ensures some { IfOk result (λ view. 1 ≤ view.per) }
         ensures err { OnErr result (self.new ≡ self.old) }
     {
-        let view = self.view(who, table)?;
+        let view = self.view(who, table, asked)?;
         self.sessions.reserve_cursor(who)?;
         self.history
             .reserve(owed(&self.sessions, &self.directory) + 2)?;
@@ -81,20 +100,24 @@ impl<U: UnitLike> Core<U> {
         );
         self.history.append(Entry {
             who: who.number(),
-            what: What::Open { cursor, table },
+            what: What::Open {
+                cursor,
+                table,
+                asked,
+            },
         });
         Ok(view)
     }
 
     /// The view that an opening has now.
-    fn view(&mut self, who: Who, table: u32) -> Result<View, NoMemory>
+    fn view(&mut self, who: Who, table: u32, asked: Option<u64>) -> Result<View, NoMemory>
         requires exists { Exists self.old.log table }
         ensures same { self.new ≡ self.old }
-        ensures view { IfOk result (λ view. view ≡ view_at self.old.log who table) }
+        ensures view { IfOk result (λ view. view ≡ view_at self.old.log who table asked) }
         ensures few { IfOk result (λ view. view.rows ≤ MOST_ROWS) }
         ensures some { IfOk result (λ view. 1 ≤ view.per) }
     {
-        let own = self.sessions.own(who, table)?;
+        let own = self.shows_own(who, table, asked)?;
         let rows = self.given_of(table);
         let info = self.catalog.tables()[table as usize - 1].info();
         let per = info.shape.per_extent();
@@ -103,7 +126,8 @@ impl<U: UnitLike> Core<U> {
         Ok(View {
             place: self.history.len(),
             table,
-            scn: self.snapshot(who),
+            asked,
+            scn: self.reads_at(who, asked),
             rows,
             per,
             extents: (rows + per - 1) / per,
@@ -113,8 +137,34 @@ impl<U: UnitLike> Core<U> {
         })
     }
 
+    /// The session's own changes to a table that an opening shows: none of them where it asks for an SCN.
+    fn shows_own(
+        &mut self,
+        who: Who,
+        table: u32,
+        asked: Option<u64>,
+    ) -> Result<OwnChanges, NoMemory>
+        ensures same { self.new ≡ self.old }
+        ensures own { IfOk result (λ own. own ≡ shows_own self.old.log who table asked) }
+    {
+        match asked {
+            Some(_) => no_changes(self.alloc, table),
+            None => self.sessions.own(who, table),
+        }
+    }
+
+    /// The SCN that an opening reads at.
+    fn reads_at(&self, who: Who, asked: Option<u64>) -> u64
+        ensures { result ≡ reads_at self.now.log who asked }
+    {
+        match asked {
+            Some(scn) => scn,
+            None => self.snapshot(who),
+        }
+    }
+
     /// The SCN that a statement of the session reads at.
-    fn snapshot(&self, who: Who) -> u64
+    pub(crate) fn snapshot(&self, who: Who) -> u64
         ensures { result ≡ snapshot self.now.log who }
     {
         match self.sessions.mode(who) {
@@ -278,6 +328,7 @@ impl<U: UnitLike> Core<U> {
         scn: u64,
         steps: &mut Steps<L>,
     ) -> Result<Fetched, NoMemory>
+        requires old { horizon self.now.log ≤ scn }
         ensures fetched { IfOk result (λ fetched. ForSome (unit self.now.log table extent) (λ at.
             fetched ≡ stale_in self.now.log table extent scn at)) }
         ensures steps { ForSome (unit self.now.log table extent) (λ at.
@@ -327,6 +378,14 @@ impl<U: UnitLike> Core<U> {
         });
         place
     }
+}
+
+/// No changes to a table.
+fn no_changes(alloc: Global, table: u32) -> Result<OwnChanges, NoMemory>
+    ensures { IfOk result (λ own. own ≡ []) }
+{
+    let none = Vec::new(alloc);
+    Ok(OwnChanges::of(table, LastRows::new(alloc)?, &none))
 }
 
 /// A unit, unless it is newer than this SCN.

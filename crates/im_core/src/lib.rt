@@ -11,6 +11,9 @@
 //! same rows of an extent at any two moments, whichever units it was lent. [`a_lent_unit_is_mended`] is the law that a build needs of
 //! its extent no more than the unit that it is lent and the rows that are stale beside that (`specs/Tasks.antt`).
 //!
+//! A cursor may ask for an SCN, from the horizon on. [`Core::purge`] moves the horizon, and lets go of the versions that only older
+//! SCNs show; nobody reads below it (`nobody_reads_below_the_horizon` of `im_history`).
+//!
 //! Start with `specs/Seen.antt` and `store.rt`; `specs/inner/Holds.antt` says how what is kept agrees with the history.
 #![tactic(auto)]
 
@@ -19,6 +22,7 @@ mod chronicle;
 mod cursors;
 mod last_columns;
 mod laws;
+mod purges;
 mod refusals;
 mod store;
 mod tables;
@@ -27,7 +31,9 @@ mod units;
 mod weights;
 mod writes;
 
-pub use answers::{AddedColumn, Begun, Committed, Evicted, Made, Offer, Pin, Switched, Wrote};
+pub use answers::{
+    AddedColumn, Begun, Committed, Evicted, Made, Offer, Pin, Purged, Switched, Wrote,
+};
 pub use im_history::ShownRows;
 pub use laws::{a_lent_unit_is_mended, pins_of_a_cursor_are_one};
 pub use store::Core;

@@ -1,4 +1,5 @@
-ghost use Rattle.std.specs.Prelude.{◌≡◌, ◌<◌};
+ghost use Rattle.std.specs.Prelude.{◌≡◌, ◌≤◌};
+ghost use Rattle.im_history.specs.Horizon.{horizon};
 ghost use Rattle.im_history.specs.Legal.{Exists};
 ghost use Rattle.im_history.specs.Puts.{lent_change};
 ghost use Rattle.im_history.specs.Refusals as refusal;
@@ -48,13 +49,29 @@ impl<U: UnitLike> Core<U> {
         })
     }
 
-    pub(crate) fn open_refusal(&self, who: Who, cursor: u32) -> Option<Why>
-        ensures { result ≡ refusal.open_refusal self.now.log who cursor }
+    pub(crate) fn open_refusal(&self, who: Who, cursor: u32, asked: Option<u64>) -> Option<Why>
+        ensures { result ≡ refusal.open_refusal self.now.log who cursor asked }
     {
         if self.sessions.cursor(who, cursor).is_some() {
             Some(Why::CursorOpen)
         } else if !is_own(cursor) && self.sessions.cursors_open(who) >= MOST_CURSORS {
             Some(Why::TooManyCursors)
+        } else {
+            self.asked_refusal(asked)
+        }
+    }
+
+    /// Whether an SCN was not reached yet, or is too old.
+    fn asked_refusal(&self, asked: Option<u64>) -> Option<Why>
+        ensures { result ≡ refusal.asked_refusal self.now.log asked }
+    {
+        let asked = asked?;
+        let scn = self.history.scn();
+        let horizon = self.history.horizon();
+        if asked > scn {
+            Some(Why::NoSuchScn { asked, scn })
+        } else if asked < horizon {
+            Some(Why::SnapshotTooOld { asked, horizon })
         } else {
             None
         }
@@ -95,6 +112,7 @@ impl<U: UnitLike> Core<U> {
 
     /// Whether a commit after this SCN touched the row of a change.
     fn touch_after(&self, scn: u64, change: LentChange<'_>) -> Option<Why>
+        requires { horizon self.now.log ≤ scn }
         ensures { result ≡ refusal.touch_after self.now.log scn (lent_change change.entry) }
     {
         let last = self.blocks.latest(change.table, change.rid);
@@ -110,6 +128,7 @@ impl<U: UnitLike> Core<U> {
 
     /// The first row that a commit after this SCN touched.
     fn serialize(&self, scn: u64, changes: &Changes) -> Option<Why>
+        requires { horizon self.now.log ≤ scn }
         ensures { result ≡ refusal.serialize self.now.log scn changes.now }
     {
         for place in 0..changes.len() {
@@ -176,7 +195,8 @@ impl<U: UnitLike> Core<U> {
         changes: &Changes,
         weight: u64,
     ) -> Option<Why>
-        requires { weight ≡ changes_weight changes.now }
+        requires weight { weight ≡ changes_weight changes.now }
+        requires old { horizon self.now.log ≤ scn }
         ensures { result ≡ refusal.write_refusal self.now.limits self.now.log who scn changes.now }
     {
         if let Some(why) = self.read_only(who) {

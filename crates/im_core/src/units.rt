@@ -353,6 +353,7 @@ impl<U: UnitLike> Core<U> {
         ensures steps { ForSome (unit self.now.log task.now.table task.now.extent) (λ at.
             steps.new ≤ steps.old + length (task_read_by self.now.log task.now (Some at))) }
     {
+        self.known();
         self.fetch_stale(task.table, task.extent, task.scn, steps)
     }
 

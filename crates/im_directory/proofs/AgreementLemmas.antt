@@ -16,11 +16,12 @@ use Rattle.im_history.specs.Transactions.{pending}
 use Rattle.im_history.specs.Units.{Content, drops, held_at, killed_by}
 use Rattle.im_history.proofs.BuildLaws.{held_at-nil, held_at-plain}
 use Rattle.im_history.proofs.ContentLaws.{content_at-push}
-use Rattle.im_history.proofs.UnitLaws.{builds-nil, builds-plain, is_plain, is_quiet, living-nil, living-plain, unit-nil, unit-plain}
+use Rattle.im_history.proofs.UnitLaws.{builds-nil, builds-plain, held-nil, held-plain, is_plain, is_quiet, living-nil, living-plain, unit-nil, unit-plain}
 use Rattle.im_directory.specs.Agrees.{Agrees, IsGrowth, IsStock, is_apart, scn_of, takes_out}
 use Rattle.im_directory.specs.Effects.{IsDropped, IsNew, IsNoted, SameTold, notes_of, with_notes}
-use Rattle.im_directory.specs.Slots.{Growth, Kept, Stock, Told, build_among, told_at}
+use Rattle.im_directory.specs.Slots.{Growth, Kept, Stock, Told, build_among, held_among, told_at}
 use Rattle.im_directory.proofs.AgreesLemmas.{IsGrowth-quiet, IsStock-quiet, all_killed-apart, drops-apart, found_by, killed-apart, plain-apart, plain-out, quiet-apart, quiet-out, scn_noted, task-killed, was_mapped}
+use Rattle.im_directory.proofs.HeldLemmas.{held-mapped}
 use Rattle.im_directory.proofs.JournalLemmas.{IsJournal-commit}
 use Rattle.im_directory.proofs.SoundLemmas.{IsKilling, IsSound-killed, IsSound-new, IsSound-noted, IsSound-told, ap_if, build_in-new, build_mapped, number_noted, same_either, told_at-new}
 use Rattle.im_directory.proofs.WaitLemmas.{waits-apart, waits-nil, waits-out, waits-push}
@@ -44,6 +45,7 @@ module _ {U : Type 0} (content : U → Content) where
     numbered = ap length new.builds ∙ sym builds-nil;
     sound = IsSound-new kept new;
     held = λ id. build_in-new kept id new ∙ sym (held_at-nil id);
+    all = ap held_among new.builds ∙ sym held-nil;
     units = λ table extent. ap (λ (t : Told U). scn_of content t.current) (told_at-new kept table extent new) ∙ sym (unit-nil table extent);
     living = λ table extent. ap (λ (t : Told U). number_of t.growing) (told_at-new kept table extent new) ∙ sym (living-nil table extent);
     waits = λ table extent. ap waits_of (told_at-new kept table extent new) ∙ sym (waits-nil table extent);
@@ -56,6 +58,7 @@ module _ {U : Type 0} (content : U → Content) where
     numbered = ap length same.builds ∙ agrees.numbered;
     sound = IsSound-told old new same agrees.sound;
     held = λ id. ap (λ (b : List (Option Held)). build_among b id) same.builds ∙ agrees.held id;
+    all = ap held_among same.builds ∙ agrees.all;
     units = λ table extent. ap (λ (t : Told U). scn_of content t.current) (same.slots table extent) ∙ agrees.units table extent;
     living = λ table extent. ap (λ (t : Told U). number_of t.growing) (same.slots table extent) ∙ agrees.living table extent;
     waits = λ table extent. ap waits_of (same.slots table extent) ∙ agrees.waits table extent;
@@ -115,6 +118,9 @@ module _ {U : Type 0} (content : U → Content) where
         numbered = ap length left.builds ∙ (long ∙ (agrees.numbered ∙ sym (builds-plain h entry plain)));
         sound = IsSound-killed old new (length h) what killing agrees.sound;
         held = λ id. killing.builds id ∙ (ap (option_map (killed_by (length h) what)) (agrees.held id) ∙ sym (held_at-plain h entry id plain));
+        all = ap held_among left.builds
+            ∙ (held-mapped (killed_by (length h) what) old.builds
+            ∙ (ap (map (killed_by (length h) what)) agrees.all ∙ sym (held-plain h entry plain)));
         units = λ table extent.
             ap (λ (t : Told U). scn_of content t.current) (left.slots table extent)
             ∙ (ap_if (λ (t : Told U). scn_of content t.current) (drops table extent what) _ _
@@ -197,6 +203,10 @@ module _ {U : Type 0} (content : U → Content) where
         held = λ id.
             ap (λ (b : List (Option Held)). build_among b id) noted.builds
             ∙ (agrees.held id ∙ sym (held_at-plain h entry id refl ∙ killed-apart (length h) Commit (held_at h id) (λ t e. refl)));
+        all =
+            ap held_among (noted.builds ∙ all_killed-apart (length h) Commit old.builds (λ t e. refl))
+            ∙ (held-mapped (killed_by (length h) Commit) old.builds
+            ∙ (ap (map (killed_by (length h) Commit)) agrees.all ∙ sym (held-plain h entry refl)));
         units = λ table extent.
             ap (λ (t : Told U). scn_of content t.current) (noted.slots table extent)
             ∙ (scn_noted content (notes_of (tables h) (scn h + 1) (pending h who) table extent) (told_at old table extent).current

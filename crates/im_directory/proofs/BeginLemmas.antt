@@ -1,5 +1,5 @@
 -- A directory goes on to agree with a history when a build begins.
-use Rattle.std.proofs.Common.{◌≡◌, ℕ, ◌+◌, ◌==◌, Bool, true, false, [], ◌∷◌, ◌++◌, length, Option, Some, None, if◌then◌else◌, refl, sym, ap, subst, ◌∙◌, arith}
+use Rattle.std.proofs.Common.{◌≡◌, ℕ, ◌+◌, ◌==◌, Bool, true, false, List, [], ◌∷◌, ◌++◌, length, Option, Some, None, if◌then◌else◌, refl, sym, ap, subst, ◌∙◌, arith}
 use Rattle.std.specs.Option.{option_or}
 use Rattle.std.proofs.lemmas.Bool.{eq-eqb, eqb-true, eqb-false, ne_eqb}
 use Rattle.std.proofs.lemmas.List.{length_push}
@@ -10,12 +10,13 @@ use Rattle.im_history.specs.History.{History}
 use Rattle.im_history.specs.Legal.{Exists}
 use Rattle.im_history.specs.Units.{Content, builds, held_at, is_on, living}
 use Rattle.im_history.proofs.BuildLaws.{held_at-build}
-use Rattle.im_history.proofs.UnitLaws.{builds-push, living-push, unit-push}
+use Rattle.im_history.proofs.UnitLaws.{builds-push, held-push, living-push, unit-push}
 use Rattle.im_directory.specs.Agreement.{next_build}
 use Rattle.im_directory.specs.Agrees.{Agrees, IsGrowth, scn_of}
 use Rattle.im_directory.specs.Effects.{IsBegun}
-use Rattle.im_directory.specs.Slots.{Growth, Kept, Told, build_in, told_at}
+use Rattle.im_directory.specs.Slots.{Growth, Kept, Told, build_in, held_among, told_at}
 use Rattle.im_directory.proofs.AgreesLemmas.{IsGrowth-quiet, IsStock-quiet, or_first, or_none_after, or_second}
+use Rattle.im_directory.proofs.HeldLemmas.{held-begun}
 use Rattle.im_directory.proofs.JournalLemmas.{IsJournal-begun}
 use Rattle.im_directory.proofs.SoundLemmas.{IsBeginning, IsBeginning-begun, IsSound-begun, ap_if, build_past, on_parts, same_either, some_same}
 use Rattle.im_directory.proofs.WaitLemmas.{waits-push}
@@ -104,6 +105,10 @@ module _ {U : Type 0} (content : U → Content) where
               IsSound-begun old new (next_build h who table extent trickle) number_is refl (begins.agrees.living table extent
               ∙ begins.free) begins.begun begins.agrees.sound;
           held = held_begun;
+          all =
+              ap held_among begins.begun.builds
+              ∙ (held-begun old.builds (next_build h who table extent trickle)
+              ∙ (ap (λ (held : List Held). held ++ next_build h who table extent trickle ∷ []) begins.agrees.all ∙ sym (held-push h entry)));
           units = λ t e. ap (scn_of content) (current_same t e) ∙ (begins.agrees.units t e ∙ sym (unit-push h entry t e));
           living = λ t e.
               started.living t e

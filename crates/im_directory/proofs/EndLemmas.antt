@@ -1,5 +1,5 @@
 -- A directory goes on to agree with a history when a build ends.
-use Rattle.std.proofs.Common.{◌≡◌, ℕ, ◌-◌, ◌==◌, ◌||◌, Bool, true, false, [], ◌∷◌, ◌++◌, length, set, Option, Some, None, is_some, if◌then◌else◌, refl, sym, ap, ap₂, subst, ◌∙◌, length-set}
+use Rattle.std.proofs.Common.{◌≡◌, ℕ, ◌-◌, ◌==◌, ◌||◌, Bool, true, false, not, [], ◌∷◌, ◌++◌, length, filter, set, Option, Some, None, is_some, if◌then◌else◌, refl, sym, ap, ap₂, subst, ◌∙◌, length-set}
 use Rattle.std.specs.Option.{option_map}
 use Rattle.std.proofs.lemmas.Bool.{false≢true, ne_eqb}
 use Rattle.im_history.specs.declared.entry.Entry.{Entry}
@@ -7,17 +7,18 @@ use Rattle.im_history.specs.declared.entry.What.TheVariants.{Switch, Cancel}
 use Rattle.im_history.specs.declared.task.Held.{Held}
 use Rattle.im_history.specs.History.{History}
 use Rattle.im_history.specs.Queue.{waits}
-use Rattle.im_history.specs.Units.{Content, content_at, held_at, is_on, switched, unit as unit_at, unless_ended}
+use Rattle.im_history.specs.Units.{Content, content_at, held as all_held, held_at, is_id, is_on, switched, unit as unit_at, unless_ended}
 use Rattle.im_history.proofs.BuildLaws.{held_at-cancel, held_at-switch}
 use Rattle.im_history.proofs.ContentLaws.{content_at-push}
-use Rattle.im_history.proofs.UnitLaws.{builds-push, is_quiet, living-push, unit-push}
+use Rattle.im_history.proofs.UnitLaws.{builds-push, held-push, is_quiet, living-push, unit-push}
 use Rattle.im_directory.specs.Agrees.{Agrees, IsGrowth, IsJournal, IsStock, scn_of}
 use Rattle.im_directory.specs.Effects.{IsCancelled, IsSwitched, ended_in, grown, unless_of}
-use Rattle.im_directory.specs.Slots.{Growth, Kept, Stock, Told, build_in, told_at}
+use Rattle.im_directory.specs.Slots.{Growth, Kept, Stock, Told, build_in, held_among, told_at}
 use Rattle.im_directory.specs.Sound.{IsSound}
 use Rattle.im_directory.proofs.AgreesLemmas.{IsGrowth-quiet, IsStock-quiet, was_mapped}
+use Rattle.im_directory.proofs.HeldLemmas.{held-ended}
 use Rattle.im_directory.proofs.JournalLemmas.{IsJournal-quiet}
-use Rattle.im_directory.proofs.SoundLemmas.{IsEnding-cancelled, IsEnding-switched, IsSound-ended, ap_if, living_on, living_own, on_parts, same_either, some_same}
+use Rattle.im_directory.proofs.SoundLemmas.{IsEnding-cancelled, IsEnding-switched, IsSound-ended, ap_if, build_some, living_on, living_own, on_parts, same_either, some_same}
 use Rattle.im_directory.proofs.WaitLemmas.{waits-cancel, waits-push}
 
 -- a living build that is left is not the one that ended
@@ -46,6 +47,15 @@ module _ {U : Type 0} (content : U → Content) where
   growth_off h id held old t e growth sound is off found =
       ne_eqb growth.id id (λ same.
       false≢true (sym off ∙ living_on old t e id held sound is (ap (option_map (λ (g : Growth). g.id)) found ∙ ap Some same)))
+
+  -- a held build of this number is not among them any more
+  all_ended : (h : History) (id : ℕ) (held : Held) (old : Kept U) → Agrees content h old → build_in old id ≡ Some held →
+      held_among (set old.builds (held.task.id - 1) None) ≡ filter (λ held. not (is_id id held)) (all_held h)
+  all_ended h id held old agrees is =
+      let number : held.task.id ≡ id = agrees.sound.numbered id held is in
+      ap (λ (k : ℕ). held_among (set old.builds (k - 1) None)) number
+      ∙ (held-ended old.builds id agrees.sound.numbered (build_some old.builds id held is)
+      ∙ ap (filter (λ held. not (is_id id held))) agrees.all)
 
   -- ---- without its unit
 
@@ -106,6 +116,7 @@ module _ {U : Type 0} (content : U → Content) where
           held =
               λ other. ending.builds other ∙ (ap (λ (o : Option Held). if other == id then None else o) (agrees.held other)
               ∙ sym (held_at-cancel h who id full other));
+          all = ap held_among cancels.cancelled.builds ∙ (all_ended h id held old agrees cancelled_is ∙ sym (held-push h entry));
           units = λ t e. ap (scn_of content) (current_kept t e) ∙ (agrees.units t e ∙ sym (unit-push h entry t e));
           living = λ t e. ending.living t e ∙ (ap (unless_ended id) (agrees.living t e) ∙ sym (living-push h entry t e));
           waits = waits_ended;
@@ -210,6 +221,7 @@ module _ {U : Type 0} (content : U → Content) where
           held =
               λ other. ending.builds other ∙ (ap (λ (o : Option Held). if other == id then None else o) (agrees.held other)
               ∙ sym (held_at-switch h who id other));
+          all = ap held_among switches.switched.builds ∙ (all_ended h id held old agrees build_is ∙ sym (held-push h entry));
           units = λ t e.
               ap (λ (told : Told U). scn_of content told.current) (switches.switched.slots t e)
               ∙ (unit_by (is_on t e held) t e refl

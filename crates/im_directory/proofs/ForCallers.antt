@@ -1,15 +1,16 @@
 -- What a directory answers of a history that it agrees with, and how it goes on to agree with it.
-use Rattle.std.proofs.Common.{◌≡◌, ℕ, ◌≤◌, Option, Some, None, refl, sym, ap, ◌∙◌}
+use Rattle.std.proofs.Common.{◌≡◌, ℕ, ◌≤◌, map, Option, Some, None, refl, sym, ap, ◌∙◌}
 use Rattle.im_history.specs.declared.task.Held.{Held}
 use Rattle.im_history.specs.Commits.{scn}
 use Rattle.im_history.specs.History.{History}
+use Rattle.im_history.specs.Horizon.{scns_built}
 use Rattle.im_history.specs.Units.{Content, held_at, living, stale, unit}
 use Rattle.im_history.specs.Views.{per_at}
 use Rattle.im_journal.specs.Stale.{stale_rows_at}
 use Rattle.im_directory.specs.Agreement.{IsLivingBuild}
 use Rattle.im_directory.specs.Agrees.{Agrees, scn_of}
 use Rattle.im_directory.specs.Effects.{IsBefore}
-use Rattle.im_directory.specs.Slots.{Kept, Stock, notes_of_unit, stale_told, told_at}
+use Rattle.im_directory.specs.Slots.{Kept, Stock, notes_of_unit, scns_among, stale_told, told_at}
 use Rattle.im_directory.specs.Sound.{IsAlive}
 use Rattle.im_directory.proofs.JournalLemmas.{upto-later}
 use Rattle.im_directory.proofs.StaleLemmas.{NoneBehind-from, stale-noted}
@@ -67,3 +68,7 @@ module _ {U : Type 0} (content : U → Content) where
   pub IsAlive-by : (h : History) (kept : Kept U) (id : ℕ) (held : Held) → Agrees content h kept → held_at h id ≡ Some held → held.killed ≡ None →
       IsAlive kept id
   IsAlive-by h kept id held agrees is alive = record { held = held; is = agrees.held id ∙ is; alive = alive }
+
+  -- the SCNs of the held builds are the history's, in its order
+  pub scns-by : (h : History) (kept : Kept U) → Agrees content h kept → scns_among kept.builds ≡ scns_built h
+  scns-by h kept agrees = ap (map (λ (held : Held). held.task.scn)) agrees.all

@@ -8,6 +8,7 @@ mod DropLemmas
 mod EffectLemmas
 mod EndLemmas
 pub mod ForCallers
+mod HeldLemmas
 mod JournalLemmas
 mod ListedLemmas
 mod ListLemmas

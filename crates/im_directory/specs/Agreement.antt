@@ -8,6 +8,7 @@ use Rattle.im_history.specs.Commits.{scn}
 use Rattle.im_history.specs.Area.{used}
 use Rattle.im_history.specs.Extents.{AreOfExtents}
 use Rattle.im_history.specs.History.{History}
+use Rattle.im_history.specs.Horizon.{scns_built}
 use Rattle.im_history.specs.Legal.{Exists}
 use Rattle.im_history.specs.Queue as Queue
 use Rattle.im_history.specs.Tables.{given, tables}
@@ -18,7 +19,7 @@ use Rattle.im_directory.specs.Agrees.{Agrees, is_apart, takes_out}
 use Rattle.im_directory.specs.Effects.{IsBefore, IsBegun, IsCancelled, IsDropped, IsNew, IsNoted, IsSwitched, SameTold}
 use Rattle.im_directory.specs.Lists as Lists
 use Rattle.im_directory.specs.Lists.{used_in}
-use Rattle.im_directory.specs.Slots.{Kept, Stock, told_at}
+use Rattle.im_directory.specs.Slots.{Kept, Stock, scns_among, told_at}
 use Rattle.im_directory.specs.Sound.{IsAlive}
 
 -- what is held of the next build of a history, which begins at its end
@@ -71,3 +72,4 @@ module _ {U : Type 0} (content : U → Content) where
     pub stale : (table extent : ℕ) → 1 ≤ per_at h table →
         Lists.is_stale content (told_at kept table extent) ≡ Queue.is_stale h (record { table = table; number = extent })
     pub used : AreOfExtents h → used_in content kept.slots ≡ used h
+    pub scns : scns_among kept.builds ≡ scns_built h

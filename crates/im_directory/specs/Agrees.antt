@@ -9,9 +9,9 @@ use Rattle.im_history.specs.History.{History}
 use Rattle.im_history.specs.Kinds.{scope_of}
 use Rattle.im_history.specs.Legal.{Exists}
 use Rattle.im_history.specs.Queue.{waits}
-use Rattle.im_history.specs.Units.{Content, builds, content_at, held_at, living, touched_between, unit}
+use Rattle.im_history.specs.Units.{Content, builds, content_at, held as all_held, held_at, living, touched_between, unit}
 use Rattle.im_history.specs.Views.{per_at}
-use Rattle.im_directory.specs.Slots.{Growth, Kept, Stock, build_in, living_in, told_at}
+use Rattle.im_directory.specs.Slots.{Growth, Kept, Stock, build_in, held_among, living_in, told_at}
 use Rattle.im_directory.specs.Sound.{IsSound}
 
 -- the notes say what commits behind an SCN touched of an extent: at each SCN those up to it
@@ -42,6 +42,7 @@ module _ {U : Type 0} (content : U → Content) where
     pub numbered : length kept.builds ≡ builds history
     pub sound : IsSound kept
     pub held : (id : ℕ) → build_in kept id ≡ held_at history id
+    pub all : held_among kept.builds ≡ all_held history
     pub units : (table extent : ℕ) → scn_of (told_at kept table extent).current ≡ unit history table extent
     pub living : (table extent : ℕ) → living_in kept table extent ≡ living history table extent
     pub waits : (table extent : ℕ) → (told_at kept table extent).waits ≡ waits history table extent

@@ -1,5 +1,5 @@
 -- What is kept of each extent and of each build, read by their numbers.
-use Rattle.std.specs.Prelude.{ℕ, zero, suc, Bool, false, List, [], slice_index_or, Option, Some, None}
+use Rattle.std.specs.Prelude.{ℕ, zero, suc, Bool, false, List, [], map, filter_map, slice_index_or, Option, Some, None}
 use Rattle.std.specs.Option.{option_map}
 use Rattle.im_tables.specs.Table.{cell_at}
 use Rattle.im_journal.specs.Stale.{Note, stale_rows_at}
@@ -45,6 +45,14 @@ growth growing = record { id = growing.id; notes = growing.journal.notes }
 abbrev pub build_among : List (Option Held) → ℕ → Option Held
 build_among builds zero = None
 build_among builds (suc before) = slice_index_or builds before None
+
+-- all held builds, in the order in which they began
+abbrev pub held_among : List (Option Held) → List Held
+held_among builds = filter_map (λ build. build) builds
+
+-- their SCNs
+abbrev pub scns_among : List (Option Held) → List ℕ
+scns_among builds = map (λ held. held.task.scn) (held_among builds)
 
 module _ {U : Type 0} where
   -- an extent of which nothing is kept

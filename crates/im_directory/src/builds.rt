@@ -1,6 +1,7 @@
 ghost use Rattle.std.specs.Prelude.{◌≡◌, ◌+◌, ◌-◌, ◌^◌, ◌<◌, [], ◌∷◌, ◌++◌, count_by, is_some, length, option_copied, option_map, set, IsSome, OnErr, OnOk};
 ghost use Rattle.std.specs.Option.{ForSome};
-ghost use Rattle.im_directory.specs.Slots.{build_among};
+ghost use Rattle.im_history.specs.Horizon.{least};
+ghost use Rattle.im_directory.specs.Slots.{build_among, scns_among};
 ghost use Rattle.im_directory.specs.Steps.{builds_killed, killed_at};
 
 use im_history::Held;
@@ -64,6 +65,17 @@ impl Builds {
         self.list.get(id as usize - 1)?.as_ref()
     }
 
+    /// The least of a number and the SCNs of all held builds. It costs a step for each build that began.
+    pub fn least_scn(&self, most: u64) -> u64
+        ensures { result ≡ least most (scns_among self.now) }
+    {
+        let mut least = most;
+        for build in &self.list {
+            least = least_with(least, build);
+        }
+        least
+    }
+
     /// A build more, which is held.
     pub fn push(&mut self, held: Held) -> Result<(), NoMemory>
         ensures ok { OnOk result (self.new ≡ self.old ++ Some held ∷ []) }
@@ -92,6 +104,16 @@ impl Builds {
         if let Some(id) = id {
             kill(&mut self.list[id as usize - 1], place);
         }
+    }
+}
+
+/// The least of a number and the SCN of this build, if it is held.
+fn least_with(most: u64, build: &Option<Held>) -> u64
+    ensures { result ≡ least most (scns_among (build.now ∷ [])) }
+{
+    match build {
+        Some(held) => most.min(held.task.scn),
+        None => most,
     }
 }
 

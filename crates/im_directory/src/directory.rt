@@ -2,11 +2,12 @@ ghost use Rattle.std.specs.Prelude.{◌≡◌, ◌+◌, ◌^◌, ◌<◌, count_
 ghost use Rattle.std.specs.Option.{ForSome};
 ghost use Rattle.im_journal.specs.Stale.{stale_rows};
 ghost use Rattle.im_history.specs.Contents.{unit_bytes};
+ghost use Rattle.im_history.specs.Horizon.{least};
 ghost use Rattle.im_history.specs.Puts.{all_changes};
 ghost use Rattle.im_history.specs.declared.entry.What.TheVariants.{Evict, Memory};
 ghost use Rattle.im_directory.specs.Effects.{HasRoom, IsBefore, IsBegun, IsCancelled, IsDropped, IsNew, IsNoted, IsSwitched, SameTold};
 ghost use Rattle.im_directory.specs.Lists.{IsFirst, NonePasses, is_due, is_empty, is_stale, used_in};
-ghost use Rattle.im_directory.specs.Slots.{build_in, living_in, notes_in, stale_told, told_at, unit_in};
+ghost use Rattle.im_directory.specs.Slots.{build_in, living_in, notes_in, scns_among, stale_told, told_at, unit_in};
 ghost use Rattle.im_directory.specs.Sound.{IsAlive};
 ghost use Rattle.im_directory.specs.inner.Placed.{IsOut};
 
@@ -72,6 +73,14 @@ impl<U: UnitLike> Directory<U> {
         ensures { option_copied result ≡ build_in self.now id }
     {
         self.builds.get(id)
+    }
+
+    /// The least of a number and the SCNs of the held builds, the killed ones among them. It costs a step for each build that
+    /// began.
+    pub fn least_scn(&self, most: u64) -> u64
+        ensures { result ≡ least most (scns_among self.now.builds) }
+    {
+        self.builds.least_scn(most)
     }
 
     /// The number of an extent's living build. It takes constant time.

@@ -26,11 +26,11 @@ use Rattle.im_history.specs.Columns.{columns_at, columns_of, defaults_at, schema
 use Rattle.im_history.specs.Commits.{commits, committed_by, moves_clock, scn}
 use Rattle.im_history.specs.History.{History, replay}
 use Rattle.im_history.specs.Legal.{AreNarrow, IsAllowed, IsInsert, IsLegal, IsRewrite, put_from, row_fits, text_limit}
-use Rattle.im_history.specs.Rows.{Row, changes_until, own_changes, row_after, rows, seen, snapshot}
+use Rattle.im_history.specs.Rows.{Row, changes_until, own_changes, row_after, rows, seen}
 use Rattle.im_history.specs.Tables.{table_at, tables}
 use Rattle.im_history.specs.Transactions.{pending, pending_after}
 use Rattle.im_history.specs.Units.{unit_row}
-use Rattle.im_history.specs.Views.{defaults_of, schema_of, seen_by, shown, view_at}
+use Rattle.im_history.specs.Views.{defaults_of, reads_at, schema_of, seen_by, shown, shows_own, view_at}
 use Rattle.im_history.proofs.Laws.{IsLegal-pop, commits-push, pending-push, scn-push}
 use Rattle.im_history.proofs.RowLaws.{each_history, rows-append}
 use Rattle.im_history.proofs.ColumnLaws.{columns_at-grows, columns_at-now, schema_at-push, take-take}
@@ -328,16 +328,22 @@ shown-fits limits h view n rid row legal has within found =
     ∙ widened-fits view.defaults wide.written view.columns all
     (starts-take (columns_at h view.table n) view.columns (Some wide.written) starts)
 
+-- what an opening shows of the session's own changes fits
+shows-fit : (limits : Limits) (h : History) (who table : ℕ) (asked : Option ℕ) → IsLegal limits h → All (Fits h) (shows_own h who table asked)
+shows-fit limits h who table None legal =
+    All-filter (λ change. change.table == table) (Fits h) (pending h who) ((all_fits limits h legal).waiting who)
+shows-fit limits h who table (Some asked) legal = All-nil (Fits h)
+
 -- each row that a statement sees of a table that stands fits it
-pub seen-fits : (limits : Limits) (h : History) (who table rid : ℕ) (made : TableInfo) (row : Row) → IsLegal limits h → table_at h table ≡ Some made
-    → seen_by h (view_at h who table) rid ≡ Some row → fits row made.schema ≡ true
+pub seen-fits : (limits : Limits) (h : History) (who table : ℕ) (asked : Option ℕ) (rid : ℕ) (made : TableInfo) (row : Row) → IsLegal limits h
+    → table_at h table ≡ Some made → seen_by h (view_at h who table asked) rid ≡ Some row → fits row made.schema ≡ true
 unfolding seen
-seen-fits limits h who table rid made row legal is found =
-    let saw = wide-is (view_at h who table).defaults (seen h table (snapshot h who) (own_changes h who table) rid) row found in
+seen-fits limits h who table asked rid made row legal is found =
+    let saw = wide-is (view_at h who table asked).defaults (seen h table (reads_at h who asked) (shows_own h who table asked) rid) row found in
     let fit : fits_first saw.written made.schema ≡ true =
     present-fits (table_at h table) made _ saw.written
-    (fold-fits h table rid (rows h table (snapshot h who) rid) (own_changes h who table) (committed-fit limits h table (snapshot h who) rid legal)
-    (All-filter (λ change. change.table == table) (Fits h) (pending h who) ((all_fits limits h legal).waiting who)))
+    (fold-fits h table rid (rows h table (reads_at h who asked) rid) (shows_own h who table asked)
+    (committed-fit limits h table (reads_at h who asked) rid legal) (shows-fit limits h who table asked legal))
     is saw.is in
     ap (λ (r : Row). fits r made.schema) (saw.wide ∙ ap (λ (t : Option TableInfo). widened (defaults_of t) saw.written) is)
     ∙ widened-fits made.defaults saw.written made.schema (defaults-fit limits h table made legal is) fit

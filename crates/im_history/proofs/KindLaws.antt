@@ -73,7 +73,7 @@ weighs-nothing so_far _ none = refl
 -- the session's cursors
 pub cursors-kept : (before : History) (who : ℕ) (so_far : List Opened) (what : What) → (scope_of what).cursors ≡ false
     → opened_after before who so_far what ≡ so_far
-cursors-kept before who so_far (Open cursor table) none = absurd (true≢false none)
+cursors-kept before who so_far (Open cursor table asked) none = absurd (true≢false none)
 cursors-kept before who so_far (Shut cursor) none = absurd (true≢false none)
 cursors-kept before who so_far _ none = refl
 

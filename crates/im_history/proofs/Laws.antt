@@ -105,6 +105,10 @@ pub IsLegal-pop : (limits : Limits) (h : History) (entry : Entry) → IsLegal li
 IsLegal-pop limits h entry legal =
     let both = IsLegalFrom-pop limits [] h entry legal.each in (record { each = both.0 }, both.1.allowed)
 
+-- and whoever made it has a number
+pub IsLegal-number : (limits : Limits) (h : History) (entry : Entry) → IsLegal limits (h ++ entry ∷ []) → entry.who < NUMBERS
+IsLegal-number limits h entry legal = (IsLegalFrom-pop limits [] h entry legal.each).1.number
+
 numbers_from : (limits : Limits) (before h : History) → IsLegalFrom limits before h → All (λ entry. entry.who < NUMBERS) h
 numbers_from limits before [] legal = All-nil _
 numbers_from limits before (entry ∷ rest) legal =

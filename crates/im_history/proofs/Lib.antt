@@ -11,6 +11,7 @@ pub mod FitLaws
 pub mod GivenLaws
 pub mod GridLaws
 pub mod HeldLaws
+pub mod HorizonLaws
 pub mod LastLaws
 pub mod KindLaws
 pub mod Laws

@@ -1,6 +1,8 @@
 -- In a legal history the view of an open cursor has the first columns that its table has.
-use Rattle.std.proofs.Common.{◌≡◌, ℕ, ◌==◌, ◌≤◌, Bool, true, false, not, if◌then◌else◌, List, [], ◌∷◌, ◌++◌, length, take, drop, All, Option, Some, None, sym, ap, subst, ◌∙◌, length-append, arith}
+use Rattle.std.proofs.Common.{◌≡◌, ℕ, ◌==◌, ◌≤◌, Bool, true, false, not, nat_lt, if◌then◌else◌, List, [], ◌∷◌, ◌++◌, length, take, drop, All, Option, Some, None, refl, sym, ap, subst, ◌∙◌, length-append, arith}
 use Rattle.std.specs.List.{find}
+use Rattle.std.specs.Option.{option_or}
+use Rattle.std.proofs.lemmas.Bool.Decides.{nat_tests}
 use Rattle.std.proofs.lemmas.List.{take-append-drop, take-append-le, take_all}
 use Rattle.std.proofs.lemmas.List.Elements.{All-nil, All-cons, All-append, All-filter, All-head, All-tail, All-weaker}
 use Rattle.im_history.specs.declared.entry.Entry.{Entry}
@@ -10,16 +12,20 @@ use Rattle.im_history.specs.declared.entry.What.{What}
 use Rattle.im_history.specs.declared.entry.What.TheVariants.{Open, Shut}
 use Rattle.im_history.specs.declared.limits.Limits.{Limits}
 use Rattle.im_history.specs.declared.look.TableInfo.{TableInfo}
+use Rattle.im_history.specs.declared.refused.Why.{Why}
+use Rattle.im_history.specs.declared.refused.Why.TheVariants.{NoSuchScn, SnapshotTooOld}
 use Rattle.im_history.specs.declared.view.View.{View}
 use Rattle.im_history.specs.Columns.{columns_at, columns_of}
 use Rattle.im_history.specs.Commits.{commits, scn}
 use Rattle.im_history.specs.Cursors.{Opened, cursor_at, is_cursor, opened, opened_after}
 use Rattle.im_history.specs.History.{History, replay}
+use Rattle.im_history.specs.Horizon.{horizon}
 use Rattle.im_history.specs.Legal.{Exists, IsAllowed, IsLegal}
 use Rattle.im_history.specs.Rows.{scn_at, snapshot, snapshot_under}
 use Rattle.im_history.specs.Tables.{table_at}
 use Rattle.im_history.specs.Transactions.{begun, mode}
-use Rattle.im_history.specs.Views.{defaults_of, schema_of, view_at}
+use Rattle.im_history.specs.Refusals.{asked_refusal, open_refusal, when}
+use Rattle.im_history.specs.Views.{defaults_of, reads_at, schema_of, view_at}
 use Rattle.im_history.proofs.ColumnLaws.{columns_at-few, columns_at-push, defaults-long}
 use Rattle.im_history.proofs.Laws.{IsLegal-pop, opened-push, scn-push}
 use Rattle.im_history.proofs.RowLaws.{commits-append, each_history, each_longer}
@@ -42,6 +48,34 @@ under-reached h ReadOnly (Some place) = scn_at-reached h place
 pub snapshot-reached : (h : History) (who : ℕ) → snapshot h who ≤ scn h
 snapshot-reached h who = under-reached h (mode h who) (begun h who)
 
+-- of two causes none applies
+right-none : (a b : Option Why) → option_or a b ≡ None → b ≡ None
+right-none None b e = e
+right-none (Some w) b e = cc
+
+left-none : (a b : Option Why) → option_or a b ≡ None → a ≡ None
+left-none None b e = refl
+left-none (Some w) b e = e
+
+when-none : (b : Bool) (why : Why) → when b why ≡ None → b ≡ false
+when-none true why e = cc
+when-none false why e = refl
+
+-- where nothing refuses an opening, nothing refuses the SCN that it asks for
+pub open-asked : (h : History) (who cursor : ℕ) (asked : Option ℕ) → open_refusal h who cursor asked ≡ None → asked_refusal h asked ≡ None
+open-asked h who cursor asked allowed = right-none _ _ (right-none _ _ allowed)
+
+-- such an SCN was reached, and is not below the horizon
+pub asked-within : (h : History) (asked : ℕ) → asked_refusal h (Some asked) ≡ None → (horizon h ≤ asked) × (asked ≤ scn h)
+asked-within h asked allowed =
+    let above : nat_lt (scn h) asked ≡ false = when-none (nat_lt (scn h) asked) (NoSuchScn asked (scn h)) (left-none (when (nat_lt (scn h) asked) (NoSuchScn asked (scn h))) _ allowed) in
+    let below : nat_lt asked (horizon h) ≡ false = when-none (nat_lt asked (horizon h)) (SnapshotTooOld asked (horizon h)) (right-none _ _ allowed) in
+    (grind (arith, nat_tests, below), grind (arith, nat_tests, above))
+
+pub asked-reached : (h : History) (who : ℕ) (asked : Option ℕ) → asked_refusal h asked ≡ None → reads_at h who asked ≤ scn h
+asked-reached h who None allowed = snapshot-reached h who
+asked-reached h who (Some asked) allowed = (asked-within h asked allowed).1
+
 -- the table of a view exists, and has the columns and the defaults that the view has before those that it got since. The view reads at an
 -- SCN that was reached, and has all columns that the table had there
 pub record HasColumns (h : History) (view : View) : Type 0 where
@@ -54,12 +88,13 @@ pub record HasColumns (h : History) (view : View) : Type 0 where
   pub reached : view.scn ≤ scn h
 
 -- an opening fixes the columns that the table has
-pub HasColumns-view : (h : History) (who table : ℕ) → Exists h table → HasColumns h (view_at h who table)
-HasColumns-view h who table exists =
+pub HasColumns-view : (h : History) (who table : ℕ) (asked : Option ℕ) → Exists h table → reads_at h who asked ≤ scn h
+    → HasColumns h (view_at h who table asked)
+HasColumns-view h who table asked exists upto =
     let wide : schema_of (table_at h table) ≡ exists.made.schema = ap schema_of exists.is in
     let width : columns_of (table_at h table) ≡ length exists.made.schema = ap length wide in
     let long = defaults-long h table exists.made exists.is in
-    let few = columns_at-few h table (snapshot h who) in
+    let few = columns_at-few h table (reads_at h who asked) in
     record {
       made = exists.made;
       is = exists.is;
@@ -67,7 +102,7 @@ HasColumns-view h who table exists =
       defaults = ap defaults_of exists.is ∙ sym (take_all (columns_of (table_at h table)) exists.made.defaults (omega (arith, width, long)));
       few = omega (arith, width);
       enough = few;
-      reached = snapshot-reached h who;
+      reached = upto;
     }
 
 -- and it goes on to have them
@@ -119,9 +154,10 @@ AllHave-push limits h entry allowed so_far = record {
 }
   where
     after : (who : ℕ) (os : List Opened) (what : What) → IsAllowed limits h entry.who what → All (Has h) os → All (Has h) (opened_after h who os what)
-    after who os (Open cursor table) may all =
-        All-append (Has h) os (record { cursor = cursor; view = view_at h who table } ∷ []) all
-        (All-cons (Has h) (record { cursor = cursor; view = view_at h who table }) [] (HasColumns-view h who table may.exists) (All-nil (Has h)))
+    after who os (Open cursor table asked) may all =
+        All-append (Has h) os (record { cursor = cursor; view = view_at h who table asked } ∷ []) all
+        (All-cons (Has h) (record { cursor = cursor; view = view_at h who table asked }) []
+        (HasColumns-view h who table asked may.exists (asked-reached h who asked (open-asked h entry.who cursor asked may.allowed))) (All-nil (Has h)))
     after who os (Shut cursor) may all = All-filter (λ other. not (is_cursor cursor other)) (Has h) os all
     after who os _ may all = all
 

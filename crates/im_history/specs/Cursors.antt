@@ -19,7 +19,7 @@ is_cursor cursor opened = opened.cursor == cursor
 
 -- the open cursors of a session after one more entry of it
 abbrev pub opened_after : History → ℕ → List Opened → What → List Opened
-opened_after before who so_far (Open cursor table) = so_far ++ record { cursor = cursor; view = view_at before who table } ∷ []
+opened_after before who so_far (Open cursor table asked) = so_far ++ record { cursor = cursor; view = view_at before who table asked } ∷ []
 opened_after before who so_far (Shut cursor) = filter (λ other. not (is_cursor cursor other)) so_far
 opened_after before who so_far what = so_far
 

@@ -1,7 +1,7 @@
 -- The kinds of entry, and what an entry of each may change of what a history tells.
 use Rattle.std.specs.Prelude.{Bool, true, false, is_none}
 use Rattle.im_history.specs.declared.entry.What.{What}
-use Rattle.im_history.specs.declared.entry.What.TheVariants.{Create, Add, Memory, Begin, Open, Shut, Write, Commit, Rollback, Build, Switch, Cancel, Trickle, Evict, Leave}
+use Rattle.im_history.specs.declared.entry.What.TheVariants.{Create, Add, Memory, Begin, Open, Shut, Write, Commit, Rollback, Build, Switch, Cancel, Trickle, Evict, Leave, Purge}
 
 -- what an entry may change: where a field is false it changes nothing of that
 pub record Scope : Type 0 where
@@ -25,6 +25,8 @@ pub record Scope : Type 0 where
   pub credits : Bool
   -- who left
   pub leaves : Bool
+  -- which snapshots may be asked for
+  pub horizon : Bool
 
 -- of an entry that changes nothing
 abbrev pub no_scope : Scope
@@ -39,6 +41,7 @@ no_scope = record {
   takes_out = false;
   credits = false;
   leaves = false;
+  horizon = false;
 }
 
 -- what an entry of each kind may change
@@ -47,7 +50,7 @@ scope_of (Create name schema grid) = record no_scope { clock = true; tables = tr
 scope_of (Add table column default) = record no_scope { clock = true; tables = true }
 scope_of (Memory table priority) = record no_scope { tables = true; takes_out = is_none priority }
 scope_of (Begin mode) = record no_scope { transaction = true }
-scope_of (Open cursor table) = record no_scope { cursors = true }
+scope_of (Open cursor table asked) = record no_scope { cursors = true }
 scope_of (Shut cursor) = record no_scope { cursors = true }
 scope_of (Write changes) = record no_scope { transaction = true; changes = true }
 scope_of Commit = record no_scope { clock = true; rows = true; transaction = true }
@@ -58,3 +61,4 @@ scope_of (Cancel id full) = record no_scope { builds = true }
 scope_of (Trickle count) = record no_scope { credits = true }
 scope_of (Evict table extent) = record no_scope { takes_out = true }
 scope_of Leave = record no_scope { leaves = true }
+scope_of Purge = record no_scope { horizon = true }

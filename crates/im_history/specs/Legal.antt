@@ -10,7 +10,7 @@ use Rattle.im_values.specs.Fits.{fits, may_stand}
 use Rattle.im_history.specs.declared.change.Change.{Change}
 use Rattle.im_history.specs.declared.entry.Entry.{Entry}
 use Rattle.im_history.specs.declared.entry.What.{What}
-use Rattle.im_history.specs.declared.entry.What.TheVariants.{Create, Add, Memory, Begin, Open, Shut, Write, Commit, Rollback, Build, Switch, Cancel, Trickle, Evict, Leave}
+use Rattle.im_history.specs.declared.entry.What.TheVariants.{Create, Add, Memory, Begin, Open, Shut, Write, Commit, Rollback, Build, Switch, Cancel, Trickle, Evict, Leave, Purge}
 use Rattle.im_history.specs.declared.limits.Limits.{Limits}
 use Rattle.im_history.specs.declared.look.TableInfo.{TableInfo}
 use Rattle.im_history.specs.declared.task.Held.{Held}
@@ -60,10 +60,10 @@ pub record MayAdd (history : History) (who table : ℕ) (column : Column) (defau
   pub fits : IsTrue (may_stand column.kind default)
   pub narrow : text_limit column.kind ≤ 65535
 
--- a cursor may be opened: its table exists, and nothing refuses it
-pub record MayOpen (history : History) (who cursor table : ℕ) : Type 0 where
+-- a cursor may be opened: its table exists, and nothing refuses it, or the SCN that it asks for
+pub record MayOpen (history : History) (who cursor table : ℕ) (asked : Option ℕ) : Type 0 where
   pub exists : Exists history table
-  pub allowed : open_refusal history who cursor ≡ None
+  pub allowed : open_refusal history who cursor asked ≡ None
 
 -- rows that an insert may put into a table: it exists, there are some, and each fits it
 pub record MayInsert (history : History) (table : ℕ) (rows : List Row) : Type 0 where
@@ -88,12 +88,13 @@ row_fits schema (Some row) = fits row schema
 abbrev pub still_seen : History → ℕ → Opened → ℕ → Option Row
 still_seen history who opened rid = fold (row_after opened.view.table rid) (seen_by history opened.view rid) (pending history who)
 
--- changes that may be written to rows which an open cursor saw: there are some, all of the cursor's table and of rising row
--- numbers. Each is to a row that the cursor's view saw and that still stands after the session's present changes, and what
+-- changes that may be written to rows which an open cursor saw, one that asked for no SCN: there are some, all of the cursor's table
+-- and of rising row numbers. Each is to a row that the cursor's view saw and that still stands after the session's present changes, and what
 -- it puts fits the columns of the view
 pub record MayWrite (history : History) (who cursor : ℕ) (changes : List Change) : Type 0 where
   pub opened : Opened
   pub is : cursor_at history who cursor ≡ Some opened
+  pub unasked : opened.view.asked ≡ None
   pub some : 1 ≤ length changes
   pub same : All (λ change. change.table ≡ opened.view.table) changes
   pub rising : AllAdjacentBelow (λ before after. before.rid < after.rid) changes (length changes)
@@ -156,7 +157,7 @@ abbrev pub IsAllowed : Limits → History → ℕ → What → Type 0
 IsAllowed limits history who (Create name schema grid) = MayCreate history who name schema grid
 IsAllowed limits history who (Add table column default) = MayAdd history who table column default
 IsAllowed limits history who (Begin mode) = begin_refusal history who ≡ None
-IsAllowed limits history who (Open cursor table) = MayOpen history who cursor table
+IsAllowed limits history who (Open cursor table asked) = MayOpen history who cursor table asked
 IsAllowed limits history who (Shut cursor) = IsTrue (is_cursor_open history who cursor)
 IsAllowed limits history who (Write changes) = IsInsert limits history who changes ⊎ IsRewrite limits history who changes
 IsAllowed limits history who Commit = Unit {0}
@@ -168,6 +169,7 @@ IsAllowed limits history who (Cancel id full) = MayCancel limits history who id 
 IsAllowed limits history who (Evict table extent) = IsTrue (is_some (unit history table extent))
 IsAllowed limits history who (Trickle count) = Unit {0}
 IsAllowed limits history who Leave = MayLeave history who
+IsAllowed limits history who Purge = Unit {0}
 
 -- the entry may come after this history: whoever made it has a number, and what it records is allowed
 pub record MayFollow (limits : Limits) (history : History) (entry : Entry) : Type 0 where

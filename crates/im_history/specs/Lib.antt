@@ -7,6 +7,7 @@ pub mod Extents
 pub mod Fetched
 pub mod Grid
 pub mod History
+pub mod Horizon
 pub mod Kinds
 pub mod Last
 pub mod Leaves

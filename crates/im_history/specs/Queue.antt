@@ -70,7 +70,7 @@ by_priority history extents =
 -- whether a table was opened, after one more entry
 abbrev pub table_opened_after : ℕ → Bool → What → Bool
 table_opened_after table so_far (Memory other priority) = if other == table then false else so_far
-table_opened_after table so_far (Open cursor other) = if other == table then true else so_far
+table_opened_after table so_far (Open cursor other asked) = if other == table then true else so_far
 table_opened_after table so_far what = so_far
 
 -- a cursor was opened on the table after the last entry that let it join the column store, change its priority or leave

@@ -10,10 +10,12 @@ use Rattle.im_history.specs.declared.entry.Mode.{Mode}
 use Rattle.im_history.specs.declared.entry.Mode.TheVariants as mode
 use Rattle.im_history.specs.declared.limits.Limits.{Limits}
 use Rattle.im_history.specs.declared.refused.Why.{Why}
-use Rattle.im_history.specs.declared.refused.Why.TheVariants.{TableExists, TooManyTables, ColumnExists, TooManyColumns, Altered, TransactionOpen, ReadOnly, CursorOpen, TooManyCursors, RowLocked, Serialize, TooManyChanges, StoreFull, NoUnit}
+use Rattle.im_history.specs.declared.refused.Why.TheVariants.{TableExists, TooManyTables, ColumnExists, TooManyColumns, Altered, TransactionOpen, ReadOnly, CursorOpen, TooManyCursors, NoSuchScn, SnapshotTooOld, RowLocked, Serialize, TooManyChanges, StoreFull, NoUnit}
 use Rattle.im_history.specs.Columns.{columns_of}
+use Rattle.im_history.specs.Commits.{scn}
 use Rattle.im_history.specs.Cursors.{is_cursor_open, is_own, cursors_open}
 use Rattle.im_history.specs.History.{History}
+use Rattle.im_history.specs.Horizon.{horizon}
 use Rattle.im_history.specs.Tables.{last_added, tables, table_at, table_named}
 use Rattle.im_history.specs.Touched.{holder, last_touch}
 use Rattle.im_history.specs.Transactions.{mode as mode_of, begun, pending}
@@ -109,11 +111,18 @@ altered history table columns = when (not (columns_of (table_at history table) =
 abbrev pub begin_refusal : History → ℕ → Option Why
 begin_refusal history who = option_map (λ place. TransactionOpen place) (begun history who)
 
+-- what refuses an SCN that is asked for: it was not reached, or lies below the horizon
+abbrev pub asked_refusal : History → Option ℕ → Option Why
+asked_refusal history None = None
+asked_refusal history (Some asked) =
+    option_or (when (nat_lt (scn history) asked) (NoSuchScn asked (scn history)))
+    (when (nat_lt asked (horizon history)) (SnapshotTooOld asked (horizon history)))
+
 -- what refuses the opening of a cursor
-abbrev pub open_refusal : History → ℕ → ℕ → Option Why
-open_refusal history who cursor =
+abbrev pub open_refusal : History → ℕ → ℕ → Option ℕ → Option Why
+open_refusal history who cursor asked =
     option_or (when (is_cursor_open history who cursor) CursorOpen)
-    (when (not (is_own cursor) && not (nat_lt (cursors_open history who) MOST_CURSORS)) TooManyCursors)
+    (option_or (when (not (is_own cursor) && not (nat_lt (cursors_open history who) MOST_CURSORS)) TooManyCursors) (asked_refusal history asked))
 
 -- the unit of an extent may not be taken out of the column store where there is none
 abbrev pub evict_refusal : History → ℕ → ℕ → Option Why

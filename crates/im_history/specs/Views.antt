@@ -4,6 +4,7 @@ use Rattle.std.specs.Option.{option_map}
 use Rattle.im_values.specs.declared.content.Content.{Content as Value}
 use Rattle.im_values.specs.declared.schema.Column.{Column}
 use Rattle.im_values.specs.Widened.{widened}
+use Rattle.im_history.specs.declared.change.Change.{Change}
 use Rattle.im_history.specs.declared.look.Look.{Look}
 use Rattle.im_history.specs.declared.look.TableInfo.{TableInfo}
 use Rattle.im_history.specs.declared.view.View.{View}
@@ -33,20 +34,31 @@ abbrev pub defaults_of : Option TableInfo → List Value
 defaults_of None = []
 defaults_of (Some table) = table.defaults
 
+-- the SCN that an opening by this session reads at: the one that it asks for, else the session's snapshot
+abbrev pub reads_at : History → ℕ → Option ℕ → ℕ
+reads_at history who None = snapshot history who
+reads_at history who (Some asked) = asked
+
+-- the session's pending changes to a table that an opening shows: none of them where it asks for an SCN
+abbrev pub shows_own : History → ℕ → ℕ → Option ℕ → List Change
+shows_own history who table None = own_changes history who table
+shows_own history who table (Some asked) = []
+
 -- the view of a table that an opening by this session has after this history: it reads at the session's snapshot, changed by
--- the changes that the session has pending, and knows the row numbers given so far, and the columns that the table has with
--- their defaults
-abbrev pub view_at : History → ℕ → ℕ → View
-view_at history who table = record {
+-- the changes that the session has pending, or at the SCN that it asks for, and then without them. It knows the row numbers given
+-- so far, and the columns that the table has with their defaults
+abbrev pub view_at : History → ℕ → ℕ → Option ℕ → View
+view_at history who table asked = record {
   place = length history;
   table = table;
-  scn = snapshot history who;
+  asked = asked;
+  scn = reads_at history who asked;
   rows = given history table;
   per = per_at history table;
   extents = extents_for (given history table) (per_at history table);
   columns = schema_of (table_at history table);
   defaults = defaults_of (table_at history table);
-  own = own_changes history who table;
+  own = shows_own history who table asked;
 }
 
 -- what this session finds when it looks after this history

@@ -40,10 +40,11 @@ pub enum What {
     Begin {
         mode: Mode,
     },
-    /// A cursor was opened on a table: its view is fixed here.
+    /// A cursor was opened on a table: its view is fixed here. It reads at the SCN that was asked for, if one was.
     Open {
         cursor: u32,
         table: u32,
+        asked: Option<u64>,
     },
     /// A cursor was shut.
     Shut {
@@ -84,6 +85,8 @@ pub enum What {
     },
     /// The session ended.
     Leave,
+    /// The versions of rows that nobody may ask for any more were let go.
+    Purge,
 }
 
 impl What {

@@ -5,8 +5,8 @@
 //! `specs/Columns.antt`, the pending changes and transactions of sessions in `specs/Transactions.antt`, the commits and
 //! the SCN in `specs/Commits.antt`, the rows committed at an SCN and the rows that a statement sees in
 //! `specs/Rows.antt`, what the last change to each row left in `specs/Last.antt`, the open cursors in
-//! `specs/Cursors.antt`, and which histories a store may have in `specs/Legal.antt`. `proofs/Laws.antt` has the law of
-//! each for one more entry.
+//! `specs/Cursors.antt`, the horizon below which no SCN may be asked for in `specs/Horizon.antt`, and which histories a
+//! store may have in `specs/Legal.antt`. `proofs/Laws.antt` has the law of each for one more entry.
 //!
 //! Contracts see a [`History`] as its entries and its spare room. [`History::append`] adds one entry at the end.
 //! Start with `entry.rt`.
@@ -17,6 +17,7 @@ mod changes;
 mod cursors;
 mod entry;
 mod fetched;
+mod horizon;
 mod last;
 mod limits;
 mod look;
@@ -35,6 +36,7 @@ pub use changes::{Changes, LentChange, LentPut};
 pub use cursors::{OWN_CURSOR, is_own};
 pub use entry::{Entry, Mode, What};
 pub use fetched::{Fetched, Piece, lent_values};
+pub use horizon::nobody_reads_below_the_horizon;
 pub use im_values::Priority;
 pub use last::LastRows;
 pub use limits::Limits;

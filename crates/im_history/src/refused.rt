@@ -19,6 +19,10 @@ pub enum Why {
     CursorOpen,
     /// The session has [`MOST_CURSORS`](im_values::limits::MOST_CURSORS) cursors open beside its statements' own.
     TooManyCursors,
+    /// The SCN that was asked for lies above the present one.
+    NoSuchScn { asked: u64, scn: u64 },
+    /// The SCN that was asked for lies below the horizon: versions of that time were let go.
+    SnapshotTooOld { asked: u64, horizon: u64 },
     /// Another session has a change to the row pending.
     RowLocked { row: u64, holder: u32 },
     /// A commit after the snapshot touched the row; the last such commit had this SCN.

@@ -17,7 +17,9 @@ pub struct View {
     pub place: u64,
     /// The table's number.
     pub table: u32,
-    /// The SCN that is read at.
+    /// The SCN that the opening asked for, if it asked for one.
+    pub asked: Option<u64>,
+    /// The SCN that is read at: the one that was asked for, else the session's snapshot.
     pub scn: u64,
     /// How many row numbers of the table were given.
     pub rows: u64,
@@ -29,6 +31,6 @@ pub struct View {
     pub columns: Schema,
     /// Their defaults: what a row that was written before a column was there has in it. Shared.
     pub defaults: Row,
-    /// The changes to the table that the session had pending.
+    /// The changes to the table that the session had pending: none where an SCN was asked for.
     pub own: OwnChanges,
 }

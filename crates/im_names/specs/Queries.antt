@@ -139,6 +139,7 @@ list_of columns (list.Items items) = map (item_of columns) items
 abbrev pub bound_of : ℕ → List Column → Query → Bound
 bound_of table columns q = record {
   table = table;
+  asked = q.asked;
   filter = filter_of columns q.cond;
   items = list_of columns q.list;
   groups = map (number_of columns) q.groups;

@@ -75,4 +75,5 @@ resolution tables stmt.Begin = Ok resolved.Begin
 resolution tables stmt.Switch = Ok resolved.Switch
 resolution tables stmt.Cancel = Ok resolved.Cancel
 resolution tables (stmt.Trickle n) = Ok (resolved.Trickle n)
+resolution tables stmt.Purge = Ok resolved.Purge
 resolution tables (stmt.Evict name extent) = in_table tables name (λ number table. Ok (resolved.Evict number extent))

@@ -372,6 +372,7 @@ fn bind_parts(alloc: Global, table: u32, schema: &Schema, query: &Query) -> Resu
     let keys = bind_keys(alloc, schema, query.keys.items())?;
     Ok(Bound {
         table,
+        asked: query.asked,
         filter,
         items,
         groups: bind_groups(alloc, schema, query.groups.items())?,

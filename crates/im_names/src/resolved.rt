@@ -58,4 +58,5 @@ pub enum Resolved {
         table: u32,
         extent: u64,
     },
+    Purge,
 }

@@ -313,6 +313,7 @@ fn resolve_among(alloc: Global, stmt: &Stmt, tables: &[SharedTable]) -> Result<R
         Stmt::Switch => Ok(Resolved::Switch),
         Stmt::Cancel => Ok(Resolved::Cancel),
         Stmt::Trickle(n) => Ok(Resolved::Trickle(*n)),
+        Stmt::Purge => Ok(Resolved::Purge),
     }
 }
 

@@ -1,5 +1,5 @@
 -- Queries are read as they are spelled.
-use Rattle.std.proofs.Common.{◌≡◌, ℕ, Bool, true, false, List, [], ◌∷◌, ◌++◌, Option, Some, None, refl, sym, ap, append_assoc, ◌∙◌, subst}
+use Rattle.std.proofs.Common.{◌≡◌, ℕ, Bool, true, false, List, [], ◌∷◌, ◌++◌, Option, Some, None, refl, sym, ap, append_assoc, ◌∙◌, subst, arith}
 use Rattle.std.specs.List.{AllByRecursion}
 use Rattle.im_readers.specs.Reading.{Read, made, joined, optional}
 use Rattle.im_readers.specs.Grammar.{Ends, at_end, at_other, BeginsWith, begins_with, Reads, never, Any, GoodJoined, GoodBoth, GoodOptional, spell_both, goes_both, goes_joined, spell_optional, goes_optional, goes_behind}
@@ -25,11 +25,12 @@ use Rattle.im_syntax.specs.declared.query.ListPart.TheVariants as list
 use Rattle.im_syntax.specs.declared.query.Query.{Query}
 use Rattle.im_syntax.specs.Condition.{CondOf}
 use Rattle.im_syntax.specs.Words.{IsName}
-use Rattle.im_syntax.specs.Rules.{IsItem, IsKey, IsList, IsQuery, IsWhere}
-use Rattle.im_syntax.specs.Spelling.{word, comma, in_parens, spell_names, spell_item, spell_way, spell_key, spell_list, spell_where, spell_groups, spell_keys, spell_query}
+use Rattle.im_syntax.specs.Rules.{IsAsked, IsItem, IsKey, IsList, IsQuery, IsWhere}
+use Rattle.im_syntax.specs.declared.limits.TheConstants.{LAST_SCN}
+use Rattle.im_syntax.specs.Spelling.{word, comma, in_parens, spell_names, spell_item, spell_way, spell_key, spell_list, spell_asked, spell_where, spell_groups, spell_keys, spell_query}
 use Rattle.im_parse.specs.inner.Marks.{is_key, is_comma, is_star, Lead, keyword, name, lead, name_at}
-use Rattle.im_parse.specs.inner.Queries.{listed, operand_by, operand_at, call_at, called_by, item_by, item_at, direction_of, is_direction, way_of, way_at, key_of, key_at, list_by, list_at, groups_at, keys_at, query_of, query_at}
-use Rattle.im_parse.proofs.MarkLaws.{Ends-never, left_mark, right_mark, comma_mark, star_mark, after_word_law, before_word_law, name_law, some_name, chosen_word}
+use Rattle.im_parse.specs.inner.Queries.{listed, operand_by, operand_at, call_at, called_by, item_by, item_at, direction_of, is_direction, way_of, way_at, key_of, key_at, list_by, list_at, asked_at, groups_at, keys_at, query_of, query_at}
+use Rattle.im_parse.proofs.MarkLaws.{Ends-never, left_mark, right_mark, comma_mark, star_mark, after_word_law, before_word_law, name_law, number_law, some_name, chosen_word}
 use Rattle.im_parse.proofs.ConditionLaws.{goes_where, where_law, goes_where-false}
 
 -- ---- a list that may be left out
@@ -330,22 +331,53 @@ where_apart c (n ∷ ns) ks g = at_other (word key.Group) _ (goes_where-false (w
 where_apart c [] [] g = at_end
 where_apart c [] (k ∷ ks) g = at_other (word key.Order) _ (goes_where-false (word key.Order) refl refl refl c g)
 
+abbrev goes_asked : Option ℕ → Token → Bool
+goes_asked = goes_optional (is_key key.As) never
+
+asked_law : Reads spell_asked IsAsked goes_asked asked_at
+unfolding asked_at
+asked_law =
+    optional_law (is_key key.As) (after_word_law key.As (after_word_law key.Of (after_word_law key.Scn (number_law 0 LAST_SCN (omega arith)))))
+    (λ n g. begins_with (word key.As) _ refl)
+
+-- a token that is not AS ends it, whether it is written or not
+asked_ends : (a : Option ℕ) (t : Token) (ts : List Token) → is_key key.As t ≡ false → Ends (goes_asked a) (t ∷ ts)
+asked_ends None t ts e = at_other t ts e
+asked_ends (Some n) t ts e = at_other t ts refl
+
+-- what stands behind the SCN of a query
+abbrev Clauses : Type 0
+Clauses = Option (CondOf (List ℕ) Lit) × (List (List ℕ) × List KeyPart)
+
+abbrev spell_clauses : Clauses → List Token
+spell_clauses = spell_both spell_where (spell_both spell_groups spell_keys)
+
+abbrev goes_clauses : Clauses → Token → Bool
+goes_clauses = goes_both (spell_both spell_groups spell_keys) goes_where (goes_both spell_keys goes_groups goes_keys)
+
+asked_apart : (a : Option ℕ) (c : Option (CondOf (List ℕ) Lit)) (gs : List (List ℕ)) (ks : List KeyPart) → Ends (goes_asked a) (spell_clauses (c, (gs, ks)))
+asked_apart a (Some c) gs ks = asked_ends a (word key.Where) _ refl
+asked_apart a None (n ∷ ns) ks = asked_ends a (word key.Group) _ refl
+asked_apart a None [] (k ∷ ks) = asked_ends a (word key.Order) _ refl
+asked_apart a None [] [] = at_end
+
+-- what stands behind the table of a query
 abbrev Behind : Type 0
-Behind = Option (CondOf (List ℕ) Lit) × (List (List ℕ) × List KeyPart)
+Behind = Option ℕ × Clauses
 
 abbrev spell_behind : Behind → List Token
-spell_behind = spell_both spell_where (spell_both spell_groups spell_keys)
+spell_behind = spell_both spell_asked spell_clauses
 
 abbrev goes_behind_table : Behind → Token → Bool
-goes_behind_table = goes_both (spell_both spell_groups spell_keys) goes_where (goes_both spell_keys goes_groups goes_keys)
+goes_behind_table = goes_both spell_clauses goes_asked goes_clauses
 
 abbrev pub goes_query : Query → Token → Bool
 goes_query q =
-    goes_both (spell_both name_tokens spell_behind) never (goes_both spell_behind never goes_behind_table) (q.list, (q.table, (q.cond, (q.groups, q.keys))))
+    goes_both (spell_both name_tokens spell_behind) never (goes_both spell_behind never goes_behind_table) (q.list, (q.table, (q.asked, (q.cond, (q.groups, q.keys)))))
 
 query_forth : (x : ListPart × (List ℕ × Behind))
-    → GoodBoth IsList (GoodBoth IsName (GoodBoth IsWhere (GoodBoth (AllByRecursion IsName) (AllByRecursion IsKey)))) x → IsQuery (query_of x)
-query_forth x g = record { list = g.0; table = g.1.0; cond = g.1.1.0; groups = g.1.1.1.0; keys = g.1.1.1.1 }
+    → GoodBoth IsList (GoodBoth IsName (GoodBoth IsAsked (GoodBoth IsWhere (GoodBoth (AllByRecursion IsName) (AllByRecursion IsKey))))) x → IsQuery (query_of x)
+query_forth x g = record { list = g.0; table = g.1.0; asked = g.1.1.0; cond = g.1.1.1.0; groups = g.1.1.1.1.0; keys = g.1.1.1.1.1 }
 
 pub query_law : Reads spell_query IsQuery goes_query query_at
 unfolding query_at
@@ -354,10 +386,16 @@ query_law =
     (after_word_law key.Select
     (both_law (before_word_law key.From list_law list_before_from)
     (both_law name_law
+    (both_law asked_law
     (both_law where_law (both_law groups_law keys_law groups_apart) (λ c x g h. where_apart c x.0 x.1 g))
+    (λ a x g h. asked_apart a x.0 x.1.0 x.1.1))
     (λ n x g h. Ends-never n (spell_behind x)))
     (λ l x g h. Ends-never l (spell_both name_tokens spell_behind x))))
     query_forth
-    (λ q g. record { of = (q.list, (q.table, (q.cond, (q.groups, q.keys)))); is = refl; is_good = (g.list, (g.table, (g.cond, (g.groups, g.keys)))) })
+    (λ q g. record {
+      of = (q.list, (q.table, (q.asked, (q.cond, (q.groups, q.keys)))));
+      is = refl;
+      is_good = (g.list, (g.table, (g.asked, (g.cond, (g.groups, g.keys)))));
+    })
     (λ x. ap (λ (ts : List Token). word key.Select ∷ ts) (sym (append_assoc (spell_list x.0) (word key.From ∷ []) (spell_both name_tokens spell_behind x.1))))
     (λ x t. refl)

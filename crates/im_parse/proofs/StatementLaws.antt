@@ -133,6 +133,7 @@ first_word stmt.Switch = key.Switch
 first_word stmt.Cancel = key.Cancel
 first_word (stmt.Trickle n) = key.Trickle
 first_word (stmt.Evict name extent) = key.Evict
+first_word stmt.Purge = key.Purge
 
 abbrev pub first_stmt : Stmt → Lead
 first_stmt s = keyword (first_word s)
@@ -162,6 +163,7 @@ stmt_firsts stmt.Switch g = first_kind (word key.Switch) _ refl
 stmt_firsts stmt.Cancel g = first_kind (word key.Cancel) _ refl
 stmt_firsts (stmt.Trickle n) g = first_kind (word key.Trickle) _ refl
 stmt_firsts (stmt.Evict name extent) g = first_kind (word key.Evict) _ refl
+stmt_firsts stmt.Purge g = first_kind (word key.Purge) _ refl
 
 abbrev GoodOf : Keyword → Stmt → Type 0
 GoodOf k = GoodFirst IsStmt first_stmt (keyword k)
@@ -548,6 +550,10 @@ cancel_only : (s : Stmt) → first_stmt s ≡ keyword key.Cancel → stmt.Cancel
 cancel_only stmt.Cancel e = refl
 cancel_only s e = absurd cc
 
+purge_only : (s : Stmt) → first_stmt s ≡ keyword key.Purge → stmt.Purge ≡ s
+purge_only stmt.Purge e = refl
+purge_only s e = absurd cc
+
 single_law : (k : Keyword) (s : Stmt) → IsStmt s → first_stmt s ≡ keyword k → ((x : Stmt) → first_stmt x ≡ keyword k → s ≡ x)
     → spelling s ≡ word k ∷ [] → ((t : Token) → goes_stmt s t ≡ false) → Reads spelling (GoodOf k) goes_stmt (single_at k s)
 single_law k s good first only spells goes =
@@ -606,6 +612,7 @@ stmt_choices (keyword key.Switch) = chosen (single_law key.Switch stmt.Switch tt
 stmt_choices (keyword key.Cancel) = chosen (single_law key.Cancel stmt.Cancel tt refl cancel_only refl (λ t. refl))
 stmt_choices (keyword key.Trickle) = chosen trickle_law
 stmt_choices (keyword key.Evict) = chosen evict_law
+stmt_choices (keyword key.Purge) = chosen (single_law key.Purge stmt.Purge tt refl purge_only refl (λ t. refl))
 stmt_choices l = none_chosen (λ ts. refl) (unknown is_first IsStmt first_stmt all_first l refl)
 
 pub statement_law : Reads spelling IsStmt goes_stmt statement_at

@@ -28,7 +28,8 @@ fn side_of(keyword: Keyword) -> Option<Side>
         | Keyword::Switch
         | Keyword::Cancel
         | Keyword::Trickle
-        | Keyword::Evict => Some(Side::Background),
+        | Keyword::Evict
+        | Keyword::Purge => Some(Side::Background),
         _ => None,
     }
 }

@@ -5,9 +5,12 @@ ghost use Rattle.im_parse.specs.inner.Marks as marks;
 ghost use Rattle.im_parse.specs.inner.Queries as queries;
 
 use crate::conditions::cond;
-use crate::marks::{begins, is_comma, is_key, left_paren, name, peek, right_paren, star, word};
+use crate::marks::{
+    begins, is_comma, is_key, left_paren, name, peek, right_paren, star, wide_number, word,
+};
 use crate::values::Names;
 use im_readers::{Halt, Part, list};
+use im_syntax::limits::LAST_SCN;
 use im_syntax::{Cond, Function, ItemPart, KeyPart, Keyword, ListPart, Query, Sign, Token, Way};
 use im_values::limits::MOST_LEVELS;
 use im_values::{List, Name};
@@ -167,6 +170,21 @@ fn select_list(alloc: Global, tokens: &[Token]) -> Result<(ListPart, &[Token]), 
     }
 }
 
+/// AS OF SCN and its number, where it is written.
+#[tactic(auto, unfolding(crate::specs::inner::Queries::asked_at))]
+fn as_of(tokens: &[Token]) -> Result<(Option<u64>, &[Token]), Halt>
+    ensures { Gives (λ x. Found x.0 x.1.now) result (queries.asked_at tokens.now) }
+{
+    if !begins(tokens, Keyword::As) {
+        return Ok((None, tokens));
+    }
+    let rest = word(tokens, Keyword::As)?;
+    let rest = word(rest, Keyword::Of)?;
+    let rest = word(rest, Keyword::Scn)?;
+    let (scn, rest) = wide_number(rest, 0, LAST_SCN)?;
+    Ok((Some(scn), rest))
+}
+
 /// WHERE and its condition, where it is written.
 #[tactic(auto, unfolding(crate::specs::inner::Queries::where_at))]
 pub fn where_part(alloc: Global, tokens: &[Token]) -> Result<(Option<Cond>, &[Token]), Halt>
@@ -217,6 +235,7 @@ pub fn query(alloc: Global, tokens: &[Token]) -> Result<(Query, &[Token]), Halt>
     let (list, rest) = select_list(alloc, rest)?;
     let rest = word(rest, Keyword::From)?;
     let (table, rest) = name(alloc, rest)?;
+    let (asked, rest) = as_of(rest)?;
     let (cond, rest) = where_part(alloc, rest)?;
     let (groups, rest) = group_by(alloc, rest)?;
     let (keys, rest) = order_by(alloc, rest)?;
@@ -224,6 +243,7 @@ pub fn query(alloc: Global, tokens: &[Token]) -> Result<(Query, &[Token]), Halt>
         Query {
             list,
             table,
+            asked,
             cond,
             groups,
             keys,

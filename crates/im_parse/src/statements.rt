@@ -134,6 +134,7 @@ fn statement_by(alloc: Global, keyword: Keyword, tokens: &[Token]) -> Result<(St
         Keyword::Cancel => single(tokens, Keyword::Cancel, Stmt::Cancel),
         Keyword::Trickle => trickle(tokens),
         Keyword::Evict => evict(alloc, tokens),
+        Keyword::Purge => single(tokens, Keyword::Purge, Stmt::Purge),
         _ => Err(Halt::Left(tokens.len())),
     }
 }

@@ -100,6 +100,7 @@ keeps-command limits who rounds builds stmt.Switch = keeps-switch limits who bui
 keeps-command limits who rounds builds stmt.Cancel = keeps-cancel builds
 keeps-command limits who rounds builds (stmt.Trickle count) = λ at. (refl, tt)
 keeps-command limits who rounds builds (stmt.Evict name extent) = λ at. (tt, keeps-evict who builds (resolution (tables at) (stmt.Evict name extent)))
+keeps-command limits who rounds builds stmt.Purge = λ at. (refl, tt)
 keeps-command limits who rounds builds _ = tt
 
 keeps-stray : (who : ℕ) (o : Option Held) → IsNoLeave (option_map (λ (held : Held). what.Cancel held.task.id false) o)

@@ -62,7 +62,7 @@ left_after _ demand = refl
 
 sized_after : (what : What) (demand : Demand) → length (demand_after what demand).opened ≡ length demand.opened
 sized_after (Memory table priority) demand = length-set demand.opened table false
-sized_after (Open cursor table) demand = length-set demand.opened table true
+sized_after (Open cursor table asked) demand = length-set demand.opened table true
 sized_after (Build id table extent true) demand = refl
 sized_after (Build id table extent false) demand = refl
 sized_after _ demand = refl
@@ -77,7 +77,7 @@ marked marks other table mark within =
 opened_after-is : (what : What) (demand : Demand) (table : ℕ) → table < length demand.opened
     → get_or (demand_after what demand).opened table false ≡ table_opened_after table (get_or demand.opened table false) what
 opened_after-is (Memory other priority) demand table within = marked demand.opened other table false within
-opened_after-is (Open cursor other) demand table within = marked demand.opened other table true within
+opened_after-is (Open cursor other asked) demand table within = marked demand.opened other table true within
 opened_after-is (Build id other extent true) demand table within = refl
 opened_after-is (Build id other extent false) demand table within = refl
 opened_after-is _ demand table within = refl

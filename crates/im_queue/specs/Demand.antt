@@ -11,7 +11,7 @@ use Rattle.im_queue.specs.declared.demand.Demand.{Demand}
 -- what is kept after one more entry
 abbrev pub demand_after : What → Demand → Demand
 demand_after (Memory table priority) demand = record demand { opened = set demand.opened table false }
-demand_after (Open cursor table) demand = record demand { opened = set demand.opened table true }
+demand_after (Open cursor table asked) demand = record demand { opened = set demand.opened table true }
 demand_after (Build id table extent trickle) demand = if trickle then record demand { credits = demand.credits - 1 } else demand
 demand_after (Trickle count) demand = record demand { credits = demand.credits + count }
 demand_after Leave demand = record demand { left = demand.left + 1 }

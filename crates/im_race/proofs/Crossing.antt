@@ -86,7 +86,7 @@ seen_send =
       (
         u32_send,
         (
-          u64_send,
+          search (sendable, crosses) depth 60 fits 10000,
           (
             u64_send,
             (
@@ -94,10 +94,13 @@ seen_send =
               (
                 u64_send,
                 (
-                  as_row_send schema.the_field schema_send,
+                  u64_send,
                   (
-                    as_row_send row.the_field row_send,
-                    (as_row_send own.the_field own_send, tt),
+                    as_row_send schema.the_field schema_send,
+                    (
+                      as_row_send row.the_field row_send,
+                      (as_row_send own.the_field own_send, tt),
+                    ),
                   ),
                 ),
               ),

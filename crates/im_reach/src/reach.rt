@@ -6,6 +6,7 @@ ghost use Rattle.im_history.specs.Area.{used};
 ghost use Rattle.im_history.specs.Commits.{scn};
 ghost use Rattle.im_history.specs.Cursors.{is_cursor_open};
 ghost use Rattle.im_history.specs.History.{behind};
+ghost use Rattle.im_history.specs.Horizon.{horizon, kept};
 ghost use Rattle.im_history.specs.Legal.{Exists, IsLawful, MayLeave, MaySetMemory, MayWrite, put_from};
 ghost use Rattle.im_history.specs.Queue.{credits};
 ghost use Rattle.im_history.specs.Refusals.{add_refusal, altered, begin_refusal, create_refusal, insert_refusal, open_refusal, write_refusal};
@@ -18,7 +19,7 @@ ghost use Rattle.im_history.specs.Serving.{fetched_in, read_in, serving_content}
 ghost use Rattle.im_history.specs.Units.{IsOwn, task_content, unit_content};
 ghost use Rattle.im_reach.specs.Sides.{Added, Found, IsSwitched, Known, Missed, Offered, sole, speaks};
 
-use im_core::{AddedColumn, Begun, Committed, Evicted, Made, Offer, Pin, Switched, Wrote};
+use im_core::{AddedColumn, Begun, Committed, Evicted, Made, Offer, Pin, Purged, Switched, Wrote};
 use im_history::{Change, Look, Mode, Opening, Priority, Refused, Shape, Task, UnitLike, View};
 use im_values::limits::{MOST_ROWS, NUMBERS};
 use im_values::{Column, Name, Rows, Schema, Steps, Value};
@@ -116,26 +117,29 @@ pub trait Reach<U: UnitLike> {
         ensures added { Added (known self.old) (known self.new) who (λ at. what.Rollback) (λ at. result ≡ length at) }
         ensures lawful { IsLawful (known self.new).limits (known self.new).log };
 
-    /// Opens a cursor on a table: what it sees is fixed here. It is refused where the table has got columns since the caller saw it, then
-    /// where this cursor is open, and then where [`MOST_CURSORS`](im_values::limits::MOST_CURSORS) are open beside its statements' own.
+    /// Opens a cursor on a table: what it sees is fixed here. It reads at the SCN that is asked for, and then without what the session
+    /// has pending, or else at the session's snapshot. It is refused where the table has got columns since the caller saw it; then where
+    /// this cursor is open; then where [`MOST_CURSORS`](im_values::limits::MOST_CURSORS) are open beside its statements' own; then where
+    /// the SCN that is asked for was not reached; and then where it lies below the horizon.
     fn open_cursor<R: Wait>(
         &mut self,
         rt: &R,
         who: u32,
         cursor: u32,
         opening: Opening,
+        asked: Option<u64>,
     ) -> Result<View, Refused>
         requires session { who < NUMBERS }
         requires speaks { speaks (known self.old).side who ≡ true }
         requires exists { Exists (known self.old).log opening.table }
-        ensures ok { IfOk result (λ view. Added (known self.old) (known self.new) who (λ at. what.Open cursor opening.table) (λ at.
+        ensures ok { IfOk result (λ view. Added (known self.old) (known self.new) who (λ at. what.Open cursor opening.table asked) (λ at.
             (altered at opening.table opening.columns ≡ None)
-            × (open_refusal at who cursor ≡ None)
-            × (view ≡ view_at at who opening.table))) }
+            × (open_refusal at who cursor asked ≡ None)
+            × (view ≡ view_at at who opening.table asked))) }
         ensures few { IfOk result (λ view. view.rows ≤ MOST_ROWS) }
         ensures some { IfOk result (λ view. 1 ≤ view.per) }
         ensures err { IfErr result (λ why. Found (known self.old) (known self.new) (λ at.
-            IsRefusal at (option_or (altered at opening.table opening.columns) (open_refusal at who cursor)) why)) }
+            IsRefusal at (option_or (altered at opening.table opening.columns) (open_refusal at who cursor asked)) why)) }
         ensures lawful { IsLawful (known self.new).limits (known self.new).log };
 
     /// Reads what a scan needs of an extent: its current column unit, unless that is newer than the cursor's SCN, and the
@@ -308,6 +312,20 @@ pub trait Reach<U: UnitLike> {
         requires speaks { speaks (known self.old).side who ≡ true }
         ensures ok { IfOk result (λ left. Added (known self.old) (known self.new) who (λ at. what.Trickle n) (λ at.
             left ≡ credits (behind at who (what.Trickle n)))) }
+        ensures err { IfErr result (λ why. Found (known self.old) (known self.new) (λ at. IsRefusal at None why)) }
+        ensures lawful { IsLawful (known self.new).limits (known self.new).log };
+
+    /// Lets go of the versions of rows that only SCNs below the least one that somebody may still read at show, and moves the horizon
+    /// there. It answers the horizon, and how many versions are kept.
+    fn purge<R: Wait>(&mut self, rt: &R, who: u32) -> Result<Purged, Refused>
+        requires session { who < NUMBERS }
+        requires speaks { speaks (known self.old).side who ≡ true }
+        ensures ok { IfOk result (λ purged. Added (known self.old) (known self.new) who (λ at. what.Purge) (λ at.
+            purged ≡ record {
+              place = length at;
+              horizon = horizon (behind at who what.Purge);
+              kept = kept (behind at who what.Purge);
+            })) }
         ensures err { IfErr result (λ why. Found (known self.old) (known self.new) (λ at. IsRefusal at None why)) }
         ensures lawful { IsLawful (known self.new).limits (known self.new).log };
 

@@ -4,7 +4,9 @@ ghost use Rattle.im_history.specs.Units.{IsOwn, task_content};
 ghost use Rattle.im_reach.specs.Sides.{IsSwitched, missed, sole};
 
 use crate::reach::Reach;
-use im_core::{AddedColumn, Begun, Committed, Core, Evicted, Made, Offer, Pin, Switched, Wrote};
+use im_core::{
+    AddedColumn, Begun, Committed, Core, Evicted, Made, Offer, Pin, Purged, Switched, Wrote,
+};
 use im_history::{Change, Look, Mode, Opening, Priority, Refused, Shape, Task, UnitLike, View};
 use im_values::limits::NUMBERS;
 use im_values::{Column, Name, Rows, Schema, Steps, Value};
@@ -81,8 +83,9 @@ impl<U: UnitLike> Reach<U> for Sole<U> {
         who: u32,
         cursor: u32,
         opening: Opening,
+        asked: Option<u64>,
     ) -> Result<View, Refused> {
-        let answer = self.core.open_cursor(who, cursor, opening);
+        let answer = self.core.open_cursor(who, cursor, opening, asked);
         self.core.known();
         answer
     }
@@ -199,6 +202,12 @@ impl<U: UnitLike> Reach<U> for Sole<U> {
 
     fn trickle<R: Wait>(&mut self, _rt: &R, who: u32, n: u32) -> Result<u128, Refused> {
         let answer = self.core.trickle(who, n);
+        self.core.known();
+        answer
+    }
+
+    fn purge<R: Wait>(&mut self, _rt: &R, who: u32) -> Result<Purged, Refused> {
+        let answer = self.core.purge(who);
         self.core.known();
         answer
     }

@@ -112,6 +112,13 @@ pub enum Body {
         /// The counted bytes of the units that are left.
         used: u64,
     },
+    /// PURGE let old versions of rows go.
+    Purged {
+        /// The horizon that it set: the least SCN that may be asked for behind it.
+        horizon: u64,
+        /// How many versions of rows are kept.
+        kept: u64,
+    },
     /// The line was refused.
     Error(Fault),
 }

@@ -17,6 +17,8 @@ fn plain(cause: Why) -> Fault
         Why::TransactionOpen { place } => Fault::TransactionOpen { place },
         Why::ReadOnly => Fault::ReadOnly,
         Why::TooManyCursors => Fault::TooManyCursors,
+        Why::NoSuchScn { asked, scn } => Fault::NoSuchScn { asked, scn },
+        Why::SnapshotTooOld { asked, horizon } => Fault::SnapshotTooOld { asked, horizon },
         Why::RowLocked { row, holder } => Fault::RowLocked { row, holder },
         Why::Serialize { row, scn } => Fault::CannotSerialize { row, scn },
         Why::TooManyChanges { need, left } => Fault::TooManyChanges { need, left },
@@ -35,20 +37,29 @@ impl Fault {
     pub fn of(aim: Aim, cause: Why) -> Fault
         ensures { result ≡ spec.fault_of aim cause }
     {
-        match (aim, cause) {
-            (Aim::Creating { name }, Why::TableExists { .. }) => Fault::TableExists { name },
-            (Aim::Adding { name }, Why::ColumnExists) => Fault::RepeatedColumn { name },
-            (Aim::Opening { table, .. }, Why::Altered { place }) => Fault::TableAltered {
-                table,
-                place,
+        match aim {
+            Aim::Creating { name } => match cause {
+                Why::TableExists { .. } => Fault::TableExists { name },
+                cause => plain(cause),
             },
-            (Aim::Opening { cursor, .. }, Why::CursorOpen) => Fault::CursorOpen { cursor },
-            (Aim::Inserting { table }, Why::Altered { place }) => Fault::TableAltered {
-                table,
-                place,
+            Aim::Adding { name } => match cause {
+                Why::ColumnExists => Fault::RepeatedColumn { name },
+                cause => plain(cause),
             },
-            (Aim::Evicting { table, extent }, Why::NoUnit) => Fault::NoUnit { table, extent },
-            (_, cause) => plain(cause),
+            Aim::Opening { table, cursor } => match cause {
+                Why::Altered { place } => Fault::TableAltered { table, place },
+                Why::CursorOpen => Fault::CursorOpen { cursor },
+                cause => plain(cause),
+            },
+            Aim::Inserting { table } => match cause {
+                Why::Altered { place } => Fault::TableAltered { table, place },
+                cause => plain(cause),
+            },
+            Aim::Evicting { table, extent } => match cause {
+                Why::NoUnit => Fault::NoUnit { table, extent },
+                cause => plain(cause),
+            },
+            Aim::Plain => plain(cause),
         }
     }
 }

@@ -73,6 +73,20 @@ pub enum Fault {
     },
     /// OPEN while the session has the most cursors open that it may have.
     TooManyCursors,
+    /// A query asks for an SCN that was not reached.
+    NoSuchScn {
+        /// The SCN that it asks for.
+        asked: u64,
+        /// The present SCN.
+        scn: u64,
+    },
+    /// A query asks for an SCN below the horizon: versions of that time were let go.
+    SnapshotTooOld {
+        /// The SCN that it asks for.
+        asked: u64,
+        /// The least SCN that may be asked for.
+        horizon: u64,
+    },
     /// SET TRANSACTION while a transaction is open.
     TransactionOpen {
         /// The place in the history of the entry that began it.

@@ -35,14 +35,15 @@ use Rattle.im_values.specs.declared.limits.TheConstants.{MOST_ROWS}
 
 -- a cursor that was opened just now is kept with no extent served
 pub agrees-opened : (who : ℕ) (kept : Cursor) (old middle : Known)
-    → Added old middle who (λ at. Open kept.number kept.bound.table) (HasOpened who kept.number kept.bound.table (seen_columns old.log kept.bound.table) kept.view)
+    → Added old middle who (λ at. Open kept.number kept.bound.table kept.bound.asked)
+    (HasOpened who kept.number kept.bound.table (seen_columns old.log kept.bound.table) kept.bound.asked kept.view)
     → IsLawful middle.limits middle.log → OfTable (tables old.log) kept.bound.table (QueryServes kept.bound) → kept.view.rows ≤ MOST_ROWS
     → 1 ≤ kept.view.per → kept.next ≡ 0 → kept.part ≡ partial kept.bound [] → IsKept who kept middle
 agrees-opened who kept old middle added lawful of few some first none = record {
   scan = scan;
   sound = record {
     sees = scan.sees;
-    asks = added-asks who kept.number kept.bound.table old middle kept.view added kept.bound lawful of;
+    asks = added-asks who kept.number kept.bound.table kept.bound.asked old middle kept.view added kept.bound lawful of;
     query = of.is.query;
     next = omega (arith, first);
     part =
@@ -53,7 +54,7 @@ agrees-opened who kept old middle added lawful of few some first none = record {
 }
   where
     scan : IsScan who kept.number kept.view middle
-    scan = added-scan who kept.number kept.bound.table (seen_columns old.log kept.bound.table) old middle kept.view added
+    scan = added-scan who kept.number kept.bound.table (seen_columns old.log kept.bound.table) kept.bound.asked old middle kept.view added
         (exists-of old.log kept.bound.table (QueryServes kept.bound) of) few some
 
 -- a view sees the same rows in its first extents later

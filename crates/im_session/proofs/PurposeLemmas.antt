@@ -40,7 +40,7 @@ module _ (who : ℕ) (bound : Bound) (cursor : Cursor) (old middle : Known)
   opened-serves Explain may lawful = tt
   opened-serves (Rewrite rewriting) may lawful = (
     ap (λ (b : Bound). b.grouped) same-bound ∙ may.0,
-    added-rewrites who bound.table old middle cursor.view bound.filter rewriting opened.added lawful may.1,
+    added-rewrites who bound.table bound.asked may.1 old middle cursor.view bound.filter rewriting opened.added lawful may.2,
   )
 
   pub opened-may : (purpose : Purpose) → MayScanFor purpose bound (tables old.log) → IsLawful middle.limits middle.log → IsKept who cursor middle
@@ -56,7 +56,7 @@ module _ (who : ℕ) (bound : Bound) (cursor : Cursor) (old middle : Known)
   pub scan-used : (purpose : Purpose) (used new : Known) (reply : Reply) → IsUsed who purpose cursor middle reply used → IsShut who used new
       → IsRest who 0 old (plan_of old.limits who (seen_columns old.log bound.table) bound purpose) (said reply) new
   scan-used purpose used new reply is shut =
-      scan-opened who 0 bound.table (seen_columns old.log bound.table) old middle new cursor.view bound.filter (behind_scan old.limits who bound purpose)
+      scan-opened who 0 bound.table (seen_columns old.log bound.table) bound.asked old middle new cursor.view bound.filter (behind_scan old.limits who bound purpose)
       (said reply) opened.added
       (subst (λ (l : Limits). IsRest who 1 middle
       (serve_from cursor.view bound.filter 0 (behind_scan l who bound purpose cursor.view.place cursor.view (seen_all middle.log cursor.view)))

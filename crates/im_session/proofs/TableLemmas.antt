@@ -27,7 +27,7 @@ use Rattle.im_history.specs.Refusals.{altered}
 use Rattle.im_history.specs.Rows.{Row, own_changes}
 use Rattle.im_history.specs.Tables.{last_added, table_among, table_at, tables}
 use Rattle.im_history.specs.Units.{columns_of}
-use Rattle.im_history.specs.Views.{defaults_of, look_at, per_at, schema_of, view_at}
+use Rattle.im_history.specs.Views.{defaults_of, look_at, per_at, schema_of, shows_own, view_at}
 use Rattle.im_history.proofs.FitLaws.{pending-fits, row_starts, shown-fits}
 use Rattle.im_history.proofs.Laws.{scn-push}
 use Rattle.im_history.proofs.RowLaws.{each_longer}
@@ -63,9 +63,9 @@ pub exists-of : (h : History) (table : ℕ) (P : List Column → Type 0) → OfT
 exists-of h table P of = let m = made_of h table of.columns of.are_of in record { made = m.made; is = m.is }
 
 -- a view of it that is opened has these columns
-pub opened-columns : (h : History) (who table : ℕ) (columns : List Column) → columns_at (tables h) table ≡ Some columns
-    → columns ≡ (view_at h who table).columns
-opened-columns h who table columns e = let m = made_of h table columns e in sym (ap schema_of m.is ∙ m.schema)
+pub opened-columns : (h : History) (who table : ℕ) (asked : Option ℕ) (columns : List Column) → columns_at (tables h) table ≡ Some columns
+    → columns ≡ (view_at h who table asked).columns
+opened-columns h who table asked columns e = let m = made_of h table columns e in sym (ap schema_of m.is ∙ m.schema)
 
 -- what a look shows of its columns is so
 pub seen-columns : (h : History) (who table n : ℕ) (look : Look) → look ≡ look_at h who → n ≡ columns_of (table_among look.tables table)
@@ -159,9 +159,11 @@ asks-of limits h view bound legal has serves = record {
 }
 
 -- and of what a session has pending, as a view that is opened shows it
-pub asks-own : (limits : Limits) (h : History) (who table : ℕ) (bound : Bound) → IsLegal limits h → OfTable (tables h) table (QueryServes bound)
-    → AllByRecursion (λ change. MayAskShown bound (view_at h who table) change.row) (own_changes h who table)
-asks-own limits h who table bound legal of = each (own_changes h who table) (pending-fits limits h who table m.made legal m.is)
+pub asks-own : (limits : Limits) (h : History) (who table : ℕ) (asked : Option ℕ) (bound : Bound) → IsLegal limits h
+    → OfTable (tables h) table (QueryServes bound)
+    → AllByRecursion (λ change. MayAskShown bound (view_at h who table asked) change.row) (shows_own h who table asked)
+asks-own limits h who table (Some asked) bound legal of = tt
+asks-own limits h who table None bound legal of = each (own_changes h who table) (pending-fits limits h who table m.made legal m.is)
   where
     m : MadeOf h table of.columns
     m = made_of h table of.columns of.are_of
@@ -172,7 +174,7 @@ asks-own limits h who table bound legal of = each (own_changes h who table) (pen
         ∙ (ap (fits m.made.defaults) (sym m.schema) ∙ defaults-fit limits h table m.made legal m.is)
 
     each : (changes : List Change) → All (λ change. IsTrue (row_starts m.made.schema change.row)) changes
-        → AllByRecursion (λ change. MayAskShown bound (view_at h who table) change.row) changes
+        → AllByRecursion (λ change. MayAskShown bound (view_at h who table None) change.row) changes
     each [] all = tt
     each (change ∷ changes) all = (
       starts-asks bound of.columns (defaults_of (table_at h table)) of.is defaults change.row

@@ -18,16 +18,17 @@ use Rattle.im_history.specs.Legal.{IsLawful, IsLegal, MayWrite, still_seen, row_
 use Rattle.im_history.specs.Rows.{Row, rows, row_after, seen, present, own_changes}
 use Rattle.im_history.specs.Tables.{tables}
 use Rattle.im_history.specs.Transactions.{pending}
-use Rattle.im_history.specs.Views.{seen_by, shown, view_at}
+use Rattle.im_history.specs.Views.{reads_at, seen_by, shown, shows_own, view_at}
 use Rattle.im_history.proofs.FitLaws.{seen-fits}
 use Rattle.im_history.proofs.Laws.{IsLegal-pop, pending-push}
+use Rattle.im_history.proofs.ViewLaws.{snapshot-reached}
 use Rattle.im_names.specs.Fitting.{OfTable, QueryServes}
 use Rattle.im_reach.specs.Sides.{Added, Known, speaks}
 use Rattle.im_scan.specs.Pinned.{seen_all}
 use Rattle.im_scan.proofs.ForCallers.{seen_by-later}
 use Rattle.im_session.specs.inner.Scans.{IsScan, Went}
 use Rattle.im_session.specs.inner.Writes.{AreRows, AreSeen, MayRewriteIn, RewriteServes, SetsServe, condition_query}
-use Rattle.im_session.proofs.OpeningLemmas.{HasOpened, added-fits, snapshot-known}
+use Rattle.im_session.proofs.OpeningLemmas.{HasOpened, added-fits}
 use Rattle.im_session.proofs.AssignLemmas.{fits-assigned}
 use Rattle.im_session.proofs.OtherLemmas.{pending-after}
 use Rattle.im_session.proofs.TableLemmas.{made_of, opened-columns}
@@ -185,6 +186,7 @@ seen-kept h view low test (row ∷ rows) are = by (test row) (seen-kept h view (
 pub rewrites-went : (who : ℕ) (rewriting : Rewriting) (view : View) (old new : Known) → speaks old.side who ≡ true → view.scn ≤ scn old.log
     → Went old new → MayRewriteIn who rewriting view old → MayRewriteIn who rewriting view new
 rewrites-went who rewriting view old new mine known went may = record {
+  unasked = may.unasked;
   own = may.own ∙ ap (filter (λ change. change.table == view.table)) (sym (pending-after old.side who old.log new.log mine went.after));
   fit = λ rid row saw.
       may.fit rid row (sym (ap (λ (h : History). seen_by h view rid) went.after.log ∙ seen_by-later old.log went.after.between view rid known) ∙ saw);
@@ -229,6 +231,7 @@ pub may-rewrite : (who : ℕ) (rewriting : Rewriting) (view : View) (rows : List
 may-rewrite who rewriting view rows now scan may are some = record {
   opened = record { cursor = OWN_CURSOR; view = view };
   is = scan.opened;
+  unasked = may.unasked;
   some = some;
   same = all-seen now.log view 0 view.table put (λ (c : Change). c.table ≡ view.table) rows are.seen (λ row inside saw. refl);
   rising = rising-seen now.log view 0 view.table put rows are.seen;
@@ -266,57 +269,64 @@ kept-rows bound rows plain =
     (let parts : Parts = if b then record { rows = []; groups = groups_of bound (map (λ r. r.1) (kept bound rows)) }
     else record { rows = kept bound rows; groups = map_of.empty } in parts).rows) plain
 
-module _ (who table : ℕ) (old middle : Known) (view : View) (filter_is : Option (CondOf ℕ Value)) (rewriting : Rewriting)
-    (added : Added old middle who (λ at. Open OWN_CURSOR table) (HasOpened who OWN_CURSOR table (seen_columns old.log table) view)) (lawful : IsLawful middle.limits middle.log)
+module _ (who table : ℕ) (asked : Option ℕ) (unasked : asked ≡ None) (old middle : Known) (view : View) (filter_is : Option (CondOf ℕ Value))
+    (rewriting : Rewriting)
+    (added : Added old middle who (λ at. Open OWN_CURSOR table asked) (HasOpened who OWN_CURSOR table (seen_columns old.log table) asked view)) (lawful : IsLawful middle.limits middle.log)
     (of : OfTable (tables old.log) table (RewriteServes filter_is rewriting)) where
   abbrev at : History
   at = added.at
 
   abbrev entry : History
-  entry = record { who = who; what = Open OWN_CURSOR table } ∷ []
+  entry = record { who = who; what = Open OWN_CURSOR table asked } ∷ []
 
   log-is : middle.log ≡ at ++ entry
   log-is = ap (λ (s : Known). s.log) added.now
 
   there : OfTable (tables at) table (RewriteServes filter_is rewriting)
-  there = added-fits who OWN_CURSOR table old middle view added (RewriteServes filter_is rewriting) of
+  there = added-fits who OWN_CURSOR table asked old middle view added (RewriteServes filter_is rewriting) of
 
   legal : IsLegal middle.limits at
-  legal = (IsLegal-pop middle.limits at (record { who = who; what = Open OWN_CURSOR table }) (subst (IsLegal middle.limits) log-is lawful.legal)).0
+  legal = (IsLegal-pop middle.limits at (record { who = who; what = Open OWN_CURSOR table asked }) (subst (IsLegal middle.limits) log-is lawful.legal)).0
 
   pending-is : pending middle.log who ≡ pending at who
   pending-is =
       ap (λ (h : History). pending h who) log-is
-      ∙ (pending-push at (record { who = who; what = Open OWN_CURSOR table }) who ∙ if-same (who == who) (pending at who))
+      ∙ (pending-push at (record { who = who; what = Open OWN_CURSOR table asked }) who ∙ if-same (who == who) (pending at who))
     where
       if-same : {A : Type 0} (b : Bool) (x : A) → (if b then x else x) ≡ x
       if-same true x = refl
       if-same false x = refl
 
+  -- it reads at an SCN that was reached
+  reached : reads_at at who asked ≤ scn at
+  reached = subst (λ (o : Option ℕ). reads_at at who o ≤ scn at) (sym unasked) (snapshot-reached at who)
+
   table-is : view.table ≡ table
   table-is = ap (λ (v : View). v.table) added.fact.1
 
   columns-are : there.columns ≡ view.columns
-  columns-are = opened-columns at who table there.columns there.are_of ∙ ap (λ (v : View). v.columns) (sym added.fact.1)
+  columns-are = opened-columns at who table asked there.columns there.are_of ∙ ap (λ (v : View). v.columns) (sym added.fact.1)
 
   -- what was seen when the cursor was opened fits the table
-  fit-at : (rid : ℕ) (row : Row) → seen_by at (view_at at who table) rid ≡ Some row → fits row there.columns ≡ true
+  fit-at : (rid : ℕ) (row : Row) → seen_by at (view_at at who table asked) rid ≡ Some row → fits row there.columns ≡ true
   fit-at rid row saw =
       let m = made_of at table there.columns there.are_of in
-      ap (fits row) (sym m.schema) ∙ seen-fits middle.limits at who table rid m.made row legal m.is saw
+      ap (fits row) (sym m.schema) ∙ seen-fits middle.limits at who table asked rid m.made row legal m.is saw
 
   -- rows that the cursor sees may be rewritten
   pub added-rewrites : MayRewriteIn who rewriting view middle
   added-rewrites = record {
+    unasked = ap (λ (v : View). v.asked) added.fact.1 ∙ unasked;
     own =
         ap (λ (v : View). v.own) added.fact.1
+        ∙ (ap (shows_own at who table) unasked
         ∙ (ap (filter (λ change. change.table == table)) (sym pending-is)
-        ∙ ap (λ (n : ℕ). own_changes middle.log who n) (sym table-is));
+        ∙ ap (λ (n : ℕ). own_changes middle.log who n) (sym table-is)));
     fit = λ rid row saw.
         ap (fits row) (sym columns-are)
         ∙ fit-at rid row
         (sym (ap (λ (h : History). seen_by h view rid) log-is
         ∙ (ap (λ (v : View). seen_by (at ++ entry) v rid) added.fact.1
-        ∙ seen_by-later at entry (view_at at who table) rid (snapshot-known at who))) ∙ saw);
+        ∙ seen_by-later at entry (view_at at who table asked) rid reached)) ∙ saw);
     values = subst (SetsServe rewriting) columns-are there.is.values;
   }

@@ -74,7 +74,7 @@ pub fn open_cursor<R: Wait, H: Reach<ColumnUnit>, G: Gate>(
         (H.known reach.old) (H.known reach.new)) }
     ensures kept { IfOk result (λ cursor. inner.IsKept context.now.who cursor (H.known reach.new)) }
     ensures lawful { IfOk result (λ cursor. IsLawful (H.known reach.new).limits (H.known reach.new).log) }
-    ensures err { IfErr result (λ refused. inner.IsUnopened context.now.who number bound.table (seen_columns (H.known reach.old).log bound.table) refused
+    ensures err { IfErr result (λ refused. inner.IsUnopened context.now.who number bound.table (seen_columns (H.known reach.old).log bound.table) bound.asked refused
         (H.known reach.old) (H.known reach.new)) }
 {
     let Ok(part) = Partial::of_lent(context.outside.alloc, &bound, &[]) else {
@@ -88,7 +88,8 @@ pub fn open_cursor<R: Wait, H: Reach<ColumnUnit>, G: Gate>(
         table: bound.table,
         columns,
     };
-    match reach.open_cursor(context.outside.rt, context.who, number, opening) {
+    let asked = bound.asked;
+    match reach.open_cursor(context.outside.rt, context.who, number, opening, asked) {
         Ok(view) => Ok(Cursor {
             number,
             bound,

@@ -139,11 +139,8 @@ fn play<R: Threads + Wait + Sync, H: Reach<ColumnUnit>, G: Gate, L: Ledger>(
         | Resolved::Switch
         | Resolved::Cancel
         | Resolved::Trickle(_)
-        | Resolved::Evict { .. } => Reply::settled(
-            context.outside.alloc,
-            look.place,
-            Body::Nothing,
-        ),
+        | Resolved::Evict { .. }
+        | Resolved::Purge => Reply::settled(context.outside.alloc, look.place, Body::Nothing),
         Resolved::Create { .. } | Resolved::Memory { .. } | Resolved::AddColumn { .. } => {
             unreachable!()
         }

@@ -111,6 +111,7 @@ fn condition_query(alloc: Global, table: u32, filter: Option<Filter>) -> Bound
 {
     Bound {
         table,
+        asked: None,
         filter,
         items: List::of(Vec::new(alloc)),
         groups: List::of(Vec::new(alloc)),

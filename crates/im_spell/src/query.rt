@@ -1,8 +1,9 @@
 ghost use Rattle.std.specs.Prelude.{◌≡◌, ◌++◌, ◌∷◌, [], OnOk};
 ghost use Rattle.im_syntax.specs.Spelling as spelled;
+ghost use Rattle.im_syntax.specs.Rules.{IsAsked, IsQuery};
 
 use crate::condition::put_cond;
-use crate::spelled::{Spelled, put_list, put_name, put_sign, put_word};
+use crate::spelled::{Spelled, put_list, put_name, put_sign, put_wide_number, put_word};
 use im_syntax::{Cond, ItemPart, KeyPart, Keyword, ListPart, Query, Sign, Token, Way};
 use im_values::{Name, NoMemory};
 use std::alloc::Global;
@@ -57,6 +58,22 @@ fn put_select_list(alloc: Global, out: &mut Vec<Token>, list: &ListPart) -> Resu
     }
 }
 
+/// AS OF SCN and its number, where it is written.
+fn put_asked(out: &mut Vec<Token>, asked: Option<u64>) -> Result<(), NoMemory>
+    requires { IsAsked asked }
+    ensures { OnOk result (out.new.items ≡ out.old.items ++ spelled.spell_asked asked) }
+{
+    match asked {
+        None => Ok(()),
+        Some(scn) => {
+            put_word(out, Keyword::As)?;
+            put_word(out, Keyword::Of)?;
+            put_word(out, Keyword::Scn)?;
+            put_wide_number(out, scn)
+        }
+    }
+}
+
 /// WHERE and its condition, where it is written.
 pub fn put_where(alloc: Global, out: &mut Vec<Token>, cond: &Option<Cond>) -> Result<(), NoMemory>
     ensures { OnOk result (out.new.items ≡ out.old.items ++ spelled.spell_where cond.now) }
@@ -98,12 +115,14 @@ fn put_keys(alloc: Global, out: &mut Vec<Token>, keys: &[KeyPart]) -> Result<(),
 
 /// The tokens of a query.
 pub fn put_query(alloc: Global, out: &mut Vec<Token>, query: &Query) -> Result<(), NoMemory>
+    requires { IsQuery query.now }
     ensures { OnOk result (out.new.items ≡ out.old.items ++ spelled.spell_query query.now) }
 {
     put_word(out, Keyword::Select)?;
     put_select_list(alloc, out, &query.list)?;
     put_word(out, Keyword::From)?;
     put_name(alloc, out, &query.table)?;
+    put_asked(out, query.asked)?;
     put_where(alloc, out, &query.cond)?;
     put_groups(alloc, out, query.groups.items())?;
     put_keys(alloc, out, query.keys.items())

@@ -1,4 +1,4 @@
-ghost use Rattle.std.specs.Prelude.{◌≡◌, ◌++◌, ◌∷◌, [], List, OnOk, map};
+ghost use Rattle.std.specs.Prelude.{◌≡◌, ◌^◌, ◌<◌, ◌++◌, ◌∷◌, [], List, OnOk, map};
 ghost use Rattle.im_readers.specs.Grammar.{spell_joined, spell_others};
 ghost use Rattle.im_syntax.specs.Spelling as spell;
 ghost use Rattle.im_syntax.specs.declared.token.Token.{Token};
@@ -46,6 +46,15 @@ pub fn put_number(out: &mut Vec<Token>, number: u32) -> Result<(), NoMemory>
     ensures { OnOk result (out.new.items ≡ out.old.items ++ spell.number number ∷ []) }
 {
     out.push(Token::Int(i64::from(number)))?;
+    Ok(())
+}
+
+/// A number without a sign, of 63 bits.
+pub fn put_wide_number(out: &mut Vec<Token>, number: u64) -> Result<(), NoMemory>
+    requires { number < 2 ^ 63 }
+    ensures { OnOk result (out.new.items ≡ out.old.items ++ spell.number number ∷ []) }
+{
+    out.push(Token::Int(number as i64))?;
     Ok(())
 }
 

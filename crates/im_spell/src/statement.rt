@@ -1,12 +1,12 @@
 ghost use Rattle.std.specs.Prelude.{◌≡◌, ◌+◌, ◌^◌, ◌<◌, ◌++◌, ◌∷◌, [], pos, IfOk, OnOk};
 ghost use Rattle.im_syntax.specs.Spelling as spelled;
-ghost use Rattle.im_syntax.specs.Rules.{IsStmt};
+ghost use Rattle.im_syntax.specs.Rules.{IsQuery, IsStmt};
 ghost use Rattle.im_syntax.specs.declared.token.Token.TheVariants as token;
 ghost use Rattle.im_syntax.specs.declared.statement.Stmt.TheVariants as stmt;
 
 use crate::query::put_query;
 use crate::rows::{put_delete, put_insert, put_update};
-use crate::spelled::{put_name, put_number, put_word};
+use crate::spelled::{put_name, put_number, put_wide_number, put_word};
 use crate::table::{put_add_column, put_alter_memory, put_alter_no_memory, put_create};
 use im_syntax::{Keyword, Query, Stmt, Token};
 use im_values::{Name, NoMemory};
@@ -29,6 +29,7 @@ fn put_numbered(out: &mut Vec<Token>, keyword: Keyword, number: u32) -> Result<(
 }
 
 fn put_explain(alloc: Global, out: &mut Vec<Token>, query: &Query) -> Result<(), NoMemory>
+    requires { IsQuery query.now }
     ensures { OnOk result (out.new.items ≡ out.old.items ++ spelled.spelling (stmt.Explain query.now)) }
 {
     put_word(out, Keyword::Explain)?;
@@ -36,6 +37,7 @@ fn put_explain(alloc: Global, out: &mut Vec<Token>, query: &Query) -> Result<(),
 }
 
 fn put_open(alloc: Global, out: &mut Vec<Token>, cursor: u32, query: &Query) -> Result<(), NoMemory>
+    requires { IsQuery query.now }
     ensures { OnOk result (out.new.items ≡ out.old.items ++ spelled.spelling (stmt.OpenFor cursor query.now)) }
 {
     put_numbered(out, Keyword::Open, cursor)?;
@@ -72,8 +74,7 @@ fn put_evict(alloc: Global, out: &mut Vec<Token>, name: &Name, extent: u64) -> R
 {
     put_word(out, Keyword::Evict)?;
     put_name(alloc, out, name)?;
-    out.push(Token::Int(extent as i64))?;
-    Ok(())
+    put_wide_number(out, extent)
 }
 
 fn put_stmt(alloc: Global, out: &mut Vec<Token>, stmt: &Stmt) -> Result<(), NoMemory>
@@ -119,6 +120,7 @@ fn put_stmt(alloc: Global, out: &mut Vec<Token>, stmt: &Stmt) -> Result<(), NoMe
         Stmt::Cancel => put_word(out, Keyword::Cancel),
         Stmt::Trickle(number) => put_numbered(out, Keyword::Trickle, *number),
         Stmt::Evict { name, extent } => put_evict(alloc, out, name, *extent),
+        Stmt::Purge => put_word(out, Keyword::Purge),
     }
 }
 

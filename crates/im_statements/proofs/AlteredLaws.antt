@@ -18,10 +18,12 @@ use Rattle.im_history.specs.declared.refused.Why.{Why}
 use Rattle.im_history.specs.declared.refused.Why.TheVariants as why
 use Rattle.im_history.specs.declared.view.View.{View}
 use Rattle.im_history.specs.Cursors.{is_cursor_open, own_cursors}
+use Rattle.im_history.specs.Commits.{scn}
 use Rattle.im_history.specs.Grid.{Grid}
 use Rattle.im_history.specs.History.{History}
+use Rattle.im_history.specs.Horizon.{horizon}
 use Rattle.im_history.specs.Legal.{Exists}
-use Rattle.im_history.specs.Refusals.{add_refusal, altered, begin_refusal, create_refusal, forbids_writing, insert_refusal, open_refusal, when, write_refusal}
+use Rattle.im_history.specs.Refusals.{add_refusal, altered, begin_refusal, asked_refusal, create_refusal, forbids_writing, insert_refusal, open_refusal, when, write_refusal}
 use Rattle.im_history.specs.Rows.{Row}
 use Rattle.im_history.specs.Tables.{is_named, tables}
 use Rattle.im_history.specs.Transactions.{is_open, mode}
@@ -114,10 +116,17 @@ when-other false other p apart is = absurd cc
 either-other : (first second : Option Why) (cause : Why) → (first ≡ Some cause → ⊥) → (second ≡ Some cause → ⊥) → option_or first second ≡ Some cause → ⊥
 either-other first second cause one other is = one (first-only first second cause other is)
 
-open-other : (h : History) (who cursor p : ℕ) → open_refusal h who cursor ≡ Some (why.Altered p) → ⊥
-open-other h who cursor p =
+asked-other : (h : History) (asked : Option ℕ) (p : ℕ) → asked_refusal h asked ≡ Some (why.Altered p) → ⊥
+asked-other h None p is = absurd cc
+asked-other h (Some asked) p is =
+    either-other (when (nat_lt (scn h) asked) (why.NoSuchScn asked (scn h))) _ (why.Altered p)
+    (when-other _ (why.NoSuchScn asked (scn h)) p (λ e. absurd cc))
+    (when-other _ (why.SnapshotTooOld asked (horizon h)) p (λ e. absurd cc)) is
+
+open-other : (h : History) (who cursor : ℕ) (asked : Option ℕ) (p : ℕ) → open_refusal h who cursor asked ≡ Some (why.Altered p) → ⊥
+open-other h who cursor asked p =
     either-other (when (is_cursor_open h who cursor) why.CursorOpen) _ (why.Altered p) (when-other _ why.CursorOpen p (λ is. absurd cc))
-    (when-other _ why.TooManyCursors p (λ is. absurd cc))
+    (either-other _ _ (why.Altered p) (when-other _ why.TooManyCursors p (λ is. absurd cc)) (asked-other h asked p))
 
 insert-other : (limits : Limits) (h : History) (who : ℕ) (changes : List Change) (p : ℕ) → insert_refusal limits h who changes ≡ Some (why.Altered p) → ⊥
 insert-other limits h who changes p =
@@ -279,27 +288,30 @@ module _ (mine : ℕ → Bool) (known : ℕ) where
             subst (λ (h : History). (Some (length at) ≡ Some (length h)) × GotColumn mine known t p h) (sym (append-nil at))
             (refl, so at after cause e t p (the_fault says))
 
-    told-scan : (filter : Option (CondOf ℕ Value)) (on : History → View → List Served → Plan Outcome)
+    told-scan : (asked : Option ℕ) (filter : Option (CondOf ℕ Value)) (on : History → View → List Served → Plan Outcome)
         → ((at : History) (view : View) (marks : List Served) → Never (on at view marks))
-        → Tells who (seen ++ []) (scan who table (seen_columns seen table) filter on)
-    told-scan filter on rest =
-        told-refused false (fault_of (aim.Opening table OWN_CURSOR)) (λ at. open_refusal at who OWN_CURSOR) (λ at. what.Open OWN_CURSOR table)
-        (λ at. serve_from (view_at at who table) filter 0 (on at (view_at at who table))) (opening-fault table OWN_CURSOR)
-        (λ at. open-other at who OWN_CURSOR)
-        (λ at. never-serve (view_at at who table) filter _ 0 [] (on at (view_at at who table)) (rest at (view_at at who table)))
+        → Tells who (seen ++ []) (scan who table (seen_columns seen table) asked filter on)
+    told-scan asked filter on rest =
+        told-refused false (fault_of (aim.Opening table OWN_CURSOR)) (λ at. open_refusal at who OWN_CURSOR asked)
+        (λ at. what.Open OWN_CURSOR table asked) (λ at. serve_from (view at) filter 0 (on at (view at))) (opening-fault table OWN_CURSOR)
+        (λ at. open-other at who OWN_CURSOR asked) (λ at. never-serve (view at) filter _ 0 [] (on at (view at)) (rest at (view at)))
+      where
+        view : History → View
+        view at = view_at at who table asked
 
-  told-read : (who : ℕ) (seen : History) → known ≤ length seen → (table : ℕ) (filter : Option (CondOf ℕ Value)) → Exists seen table
+  told-read : (who : ℕ) (seen : History) → known ≤ length seen → (table : ℕ) (asked : Option ℕ) (filter : Option (CondOf ℕ Value)) → Exists seen table
       → (reply : History → View → List Served → Reply)
       → ((at : History) (view : View) (marks : List Served) (t p : ℕ) → Says (reply at view marks).body t p → ⊥)
-      → Tells who (seen ++ []) (scan who table (seen_columns seen table) filter (λ at view marks. end_scan (reply at view marks)))
-  told-read who seen long table filter exists reply quiet =
-      told-scan who seen long table exists filter (λ at view marks. end_scan (reply at view marks)) (λ at view marks here. quiet at view marks)
+      → Tells who (seen ++ []) (scan who table (seen_columns seen table) asked filter (λ at view marks. end_scan (reply at view marks)))
+  told-read who seen long table asked filter exists reply quiet =
+      told-scan who seen long table exists asked filter (λ at view marks. end_scan (reply at view marks)) (λ at view marks here. quiet at view marks)
 
   told-open : (who : ℕ) (seen : History) → known ≤ length seen → (cursor : ℕ) (bound : Bound) → Exists seen bound.table
       → Tells who (seen ++ []) (open_query who cursor (seen_columns seen bound.table) bound)
   told-open who seen long cursor bound exists =
-      told-refused who seen long bound.table exists true (fault_of (aim.Opening bound.table cursor)) (λ at. open_refusal at who cursor)
-      (λ at. what.Open cursor bound.table) _ (opening-fault bound.table cursor) (λ at. open-other at who cursor) (λ at t p says. absurd cc)
+      told-refused who seen long bound.table exists true (fault_of (aim.Opening bound.table cursor)) (λ at. open_refusal at who cursor bound.asked)
+      (λ at. what.Open cursor bound.table bound.asked) _ (opening-fault bound.table cursor) (λ at. open-other at who cursor bound.asked)
+      (λ at t p says. absurd cc)
 
   told-insert : (limits : Limits) (who : ℕ) (seen : History) → known ≤ length seen → (table : ℕ) (rows : List Row) → Exists seen table
       → Tells who (seen ++ []) (insert limits who table (seen_columns seen table) rows)
@@ -318,7 +330,7 @@ module _ (mine : ℕ → Bool) (known : ℕ) where
       by : (b : Bool) → Tells who (seen ++ []) (if b then answer_at seen (body.Error fault.ReadOnly) else rewrite limits who table (seen_columns seen table) filter rewriting)
       by true = λ t p says. absurd cc
       by false =
-          told-scan who seen long table exists filter
+          told-scan who seen long table exists None filter
           (λ at view marks. write_or_end limits who (length at) view.scn marks (changes at view) (written rewriting))
           (λ at view marks. never-write limits who (length at) view.scn marks (changes at view) rewriting)
 
@@ -422,10 +434,10 @@ module _ (mine : ℕ → Bool) (known : ℕ) (limits : Limits) (who : ℕ) (stat
   told-resolved : (seen : History) → known ≤ length seen → (r : Resolved) → IsThere seen r
       → Tells mine known who (seen ++ []) (resolved_plan limits who state seen r)
   told-resolved seen long (resolved.Select bound) of =
-      told-read mine known who seen long bound.table bound.filter of
+      told-read mine known who seen long bound.table bound.asked bound.filter of
       (λ at view marks. served_reply (length at) marks (body.Answer view.scn (answer bound (rows_seen at view)))) (λ at view marks t p says. absurd cc)
   told-resolved seen long (resolved.Explain bound) of =
-      told-read mine known who seen long bound.table bound.filter of
+      told-read mine known who seen long bound.table bound.asked bound.filter of
       (λ at view marks. served_reply (length at) marks (body.Plan view.scn (map explained marks))) (λ at view marks t p says. absurd cc)
   told-resolved seen long (resolved.Create name schema grid memory) of =
       never-tells mine known who (seen ++ []) (create_table name schema grid memory) (never-create mine known name schema grid memory)

@@ -33,7 +33,7 @@ pub record IsApart (what : What) : Type 0 where
 
 -- the query that a cursor is opened for at this history
 abbrev pub query_opened : History → ℕ → ℕ → Bound → OpenQuery
-query_opened at who cursor bound = record { cursor = cursor; bound = bound; view = view_at at who bound.table; next = 0 }
+query_opened at who cursor bound = record { cursor = cursor; bound = bound; view = view_at at who bound.table bound.asked; next = 0 }
 
 -- what a turn adds, by the cursors of the statement's own that are open before and behind it, and by what the line did to those that are
 -- kept. A cursor that is kept is none of a statement's own, where the statement is fine
@@ -41,12 +41,12 @@ pub data Moves (fine : Type 0) (at : History) (who : ℕ) : Bool → List ℕ �
   none : (decides : Bool) (own : List ℕ) (effect : Effect) → Moves fine at who decides own effect None own effect
   stays : (decides : Bool) (own : List ℕ) (effect : Effect) (what : What) → IsApart what
       → Moves fine at who decides own effect (Some what) own effect
-  opens : (decides : Bool) (own : List ℕ) (cursor table : ℕ) → is_own cursor ≡ true
-      → Moves fine at who decides own Stays (Some (what.Open cursor table)) (own ++ cursor ∷ []) Stays
+  opens : (decides : Bool) (own : List ℕ) (cursor table : ℕ) (asked : Option ℕ) → is_own cursor ≡ true
+      → Moves fine at who decides own Stays (Some (what.Open cursor table asked)) (own ++ cursor ∷ []) Stays
   shuts : (decides : Bool) (own : List ℕ) (cursor : ℕ) → is_own cursor ≡ true
       → Moves fine at who decides own Stays (Some (what.Shut cursor)) (without cursor own) Stays
   keeps : (cursor : ℕ) (bound : Bound) → (fine → is_own cursor ≡ false)
-      → Moves fine at who true [] Stays (Some (what.Open cursor bound.table)) [] (Opens (query_opened at who cursor bound))
+      → Moves fine at who true [] Stays (Some (what.Open cursor bound.table bound.asked)) [] (Opens (query_opened at who cursor bound))
   closes : (cursor : ℕ) → Moves fine at who true [] Stays (Some (what.Shut cursor)) [] (Closes cursor)
 
 -- what the line did is what comes of it, or it served an extent beside that
@@ -144,7 +144,7 @@ moves-stay : (fine : Type 0) (at : History) (who : ℕ) (decides : Bool) (own la
     → Moves fine at who decides own effect added later does → IsNoLeave added
 moves-stay fine at who _ _ _ _ _ _ (none _ _ _) = tt
 moves-stay fine at who _ _ _ _ _ _ (stays _ _ _ what apart) = apart.stays
-moves-stay fine at who _ _ _ _ _ _ (opens _ _ cursor table is) = refl
+moves-stay fine at who _ _ _ _ _ _ (opens _ _ cursor table asked is) = refl
 moves-stay fine at who _ _ _ _ _ _ (shuts _ _ cursor is) = refl
 moves-stay fine at who _ _ _ _ _ _ (keeps cursor bound is) = refl
 moves-stay fine at who _ _ _ _ _ _ (closes cursor) = refl
@@ -188,9 +188,9 @@ moves-over : (fine : Type 0) → fine → (at : History) (who : ℕ) (base : Lis
 moves-over fine is at who base shut _ _ _ _ _ _ cursors (none _ _ _) over = over
 moves-over fine is at who base shut _ _ _ _ _ _ cursors (stays _ own effect what apart) over =
     subst (IsOver base own effect) (sym (apart.cursors at who cursors)) over
-moves-over fine is at who base shut _ _ _ _ _ _ cursors (opens _ own cursor table is_one) over = record {
-  others = beside-own is_own cursors (record { cursor = cursor; view = view_at at who table }) is_one ∙ over.others;
-  numbers = numbers-own is_own cursors (record { cursor = cursor; view = view_at at who table }) is_one ∙ ap (λ (ns : List ℕ). ns ++ cursor ∷ []) over.numbers;
+moves-over fine is at who base shut _ _ _ _ _ _ cursors (opens _ own cursor table asked is_one) over = record {
+  others = beside-own is_own cursors (record { cursor = cursor; view = view_at at who table asked }) is_one ∙ over.others;
+  numbers = numbers-own is_own cursors (record { cursor = cursor; view = view_at at who table asked }) is_one ∙ ap (λ (ns : List ℕ). ns ++ cursor ∷ []) over.numbers;
 }
 moves-over fine is at who base shut _ _ _ _ _ _ cursors (shuts _ own cursor is_one) over = record {
   others = beside-closed is_own cursor cursors ∙ (ap (closed cursor) over.others ∙ closed-absent is_own cursor base is_one shut);
@@ -198,9 +198,9 @@ moves-over fine is at who base shut _ _ _ _ _ _ cursors (shuts _ own cursor is_o
 }
 moves-over fine is at who base shut _ _ _ _ _ _ cursors (keeps cursor bound other) over = record {
   others =
-      beside-other is_own cursors (record { cursor = cursor; view = view_at at who bound.table }) (other is)
-      ∙ ap (λ (os : List Opened). os ++ record { cursor = cursor; view = view_at at who bound.table } ∷ []) over.others;
-  numbers = numbers-other is_own cursors (record { cursor = cursor; view = view_at at who bound.table }) (other is) ∙ over.numbers;
+      beside-other is_own cursors (record { cursor = cursor; view = view_at at who bound.table bound.asked }) (other is)
+      ∙ ap (λ (os : List Opened). os ++ record { cursor = cursor; view = view_at at who bound.table bound.asked } ∷ []) over.others;
+  numbers = numbers-other is_own cursors (record { cursor = cursor; view = view_at at who bound.table bound.asked }) (other is) ∙ over.numbers;
 }
 moves-over fine is at who base shut _ _ _ _ _ _ cursors (closes cursor) over = record {
   others = beside-closed is_own cursor cursors ∙ ap (closed cursor) over.others;
@@ -212,7 +212,7 @@ moves-still : (fine : Type 0) (at : History) (who : ℕ) (decides : Bool) (own l
     → Moves fine at who decides own effect added later does → (decides && is_some added) ≡ false → effect ≡ Stays → does ≡ Stays
 moves-still fine at who _ _ _ _ _ _ (none _ _ _) free still = still
 moves-still fine at who _ _ _ _ _ _ (stays _ _ _ what apart) free still = still
-moves-still fine at who _ _ _ _ _ _ (opens _ _ cursor table is) free still = refl
+moves-still fine at who _ _ _ _ _ _ (opens _ _ cursor table asked is) free still = refl
 moves-still fine at who _ _ _ _ _ _ (shuts _ _ cursor is) free still = refl
 moves-still fine at who _ _ _ _ _ _ (keeps cursor bound is) free still = absurd cc
 moves-still fine at who _ _ _ _ _ _ (closes cursor) free still = absurd cc

@@ -66,6 +66,7 @@ command-extends limits who builds fewer more stmt.Switch few = extends-self (com
 command-extends limits who builds fewer more stmt.Cancel few = extends-self (command_plan limits who fewer builds stmt.Cancel)
 command-extends limits who builds fewer more (stmt.Trickle count) few = extends-self (command_plan limits who fewer builds (stmt.Trickle count))
 command-extends limits who builds fewer more (stmt.Evict name extent) few = extends-self (command_plan limits who fewer builds (stmt.Evict name extent))
+command-extends limits who builds fewer more stmt.Purge few = extends-self (command_plan limits who fewer builds stmt.Purge)
 command-extends limits who builds fewer more _ few = refl
 
 -- ---- nobody else there

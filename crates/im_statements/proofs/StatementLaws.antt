@@ -213,22 +213,23 @@ module _ (fine : Type 0) (who : ℕ) (before : Bool) where
       lack (λ at. shuts false (OWN_CURSOR ∷ []) OWN_CURSOR refl)
       (λ at. kept-said fine open_by who before _ free (suc k) now reply lack told)
 
-  plain-scan : (sure : Type 0) (free : Bool) (k table columns : ℕ) (filter : Option (CondOf ℕ Value)) (on : History → View → List Served → Plan Outcome)
+  plain-scan : (sure : Type 0) (free : Bool) (k table columns : ℕ) (asked : Option ℕ) (filter : Option (CondOf ℕ Value))
+      (on : History → View → List Served → Plan Outcome)
       → ((at : History) (view : View) (marks : List Served) → Scanning fine who before free (suc k) (on at view marks))
-      → Plain fine who before free k sure (scan who table columns filter on)
-  plain-scan sure free k table columns filter on rest =
+      → Plain fine who before free k sure (scan who table columns asked filter on)
+  plain-scan sure free k table columns asked filter on rest =
       kept-attempt fine open_by who before sure free k before (OWN_CURSOR ∷ []) false (fault_of (aim.Opening table OWN_CURSOR))
-      (λ at. opening_refusal at who OWN_CURSOR table columns) (λ at. what.Open OWN_CURSOR table) (λ at. Stays)
-      (λ at. serve_from (view_at at who table) filter 0 (on at (view_at at who table))) refl (λ at cause e. refl)
-      (λ at. opens false [] OWN_CURSOR table refl)
-      (λ at. plain-serve fine who before free (suc k) _ (OWN_CURSOR ∷ []) (view_at at who table) filter _ 0 [] (on at (view_at at who table))
-      (rest at (view_at at who table)))
+      (λ at. opening_refusal at who OWN_CURSOR table columns asked) (λ at. what.Open OWN_CURSOR table asked) (λ at. Stays)
+      (λ at. serve_from (view_at at who table asked) filter 0 (on at (view_at at who table asked))) refl (λ at cause e. refl)
+      (λ at. opens false [] OWN_CURSOR table asked refl)
+      (λ at. plain-serve fine who before free (suc k) _ (OWN_CURSOR ∷ []) (view_at at who table asked) filter _ 0 []
+      (on at (view_at at who table asked)) (rest at (view_at at who table asked)))
 
   -- ---- statements that read
 
   plain-select : (sure : Type 0) (free : Bool) (k columns : ℕ) (bound : Bound) → Plain fine who before free k sure (select who columns bound)
   plain-select sure free k columns bound =
-      plain-scan sure free k bound.table columns bound.filter (λ at view marks. end_scan (reply at view marks))
+      plain-scan sure free k bound.table columns bound.asked bound.filter (λ at view marks. end_scan (reply at view marks))
       (λ at view marks. kept-end ⊤ free (suc k) before (reply at view marks) (λ f. refl) refl)
     where
       reply : History → View → List Served → Reply
@@ -236,7 +237,7 @@ module _ (fine : Type 0) (who : ℕ) (before : Bool) where
 
   plain-explain : (sure : Type 0) (free : Bool) (k columns : ℕ) (bound : Bound) → Plain fine who before free k sure (explain who columns bound)
   plain-explain sure free k columns bound =
-      plain-scan sure free k bound.table columns bound.filter (λ at view marks. end_scan (reply at view marks))
+      plain-scan sure free k bound.table columns bound.asked bound.filter (λ at view marks. end_scan (reply at view marks))
       (λ at view marks. kept-end ⊤ free (suc k) before (reply at view marks) (λ f. refl) refl)
     where
       reply : History → View → List Served → Reply
@@ -302,7 +303,7 @@ module _ (fine : Type 0) (who : ℕ) (before : Bool) where
   plain-rewrite : (sure : Type 0) (free : Bool) (k : ℕ) (limits : Limits) (table columns : ℕ) (filter : Option (CondOf ℕ Value)) (rewriting : Rewriting)
       → Plain fine who before free k sure (rewrite limits who table columns filter rewriting)
   plain-rewrite sure free k limits table columns filter rewriting =
-      plain-scan sure free k table columns filter
+      plain-scan sure free k table columns None filter
       (λ at view marks. write_or_end limits who (length at) view.scn marks (changes at view) (written rewriting))
       (λ at view marks. plain-write free (suc k) limits (length at) view.scn marks (changes at view) rewriting)
     where
@@ -373,8 +374,8 @@ module _ (fine : Type 0) (who : ℕ) (before free : Bool) (k : ℕ) (sure : Type
   keeps-open : (cursor columns : ℕ) (bound : Bound) → (fine → is_own cursor ≡ false) → Holds (open_query who cursor columns bound)
   keeps-open cursor columns bound other =
       kept-attempt fine open_by who before sure free k before [] true (fault_of (aim.Opening bound.table cursor))
-      (λ at. opening_refusal at who cursor bound.table columns)
-      (λ at. what.Open cursor bound.table) (λ at. Opens (query_opened at who cursor bound)) _ refl (λ at cause e. refl)
+      (λ at. opening_refusal at who cursor bound.table columns bound.asked)
+      (λ at. what.Open cursor bound.table bound.asked) (λ at. Opens (query_opened at who cursor bound)) _ refl (λ at cause e. refl)
       (λ at. keeps cursor bound other)
       (λ at. record { tidy = (refl, done (Opens (query_opened at who cursor bound))); told = λ s. (λ f. absurd cc, refl) })
 

@@ -11,6 +11,7 @@ use Rattle.im_history.specs.declared.task.Held.{Held}
 use Rattle.im_history.specs.declared.task.Task.{Task}
 use Rattle.im_history.specs.Area.{task_bytes, used}
 use Rattle.im_history.specs.History.{History, behind}
+use Rattle.im_history.specs.Horizon.{horizon, kept}
 use Rattle.im_history.specs.Queue.{build_of, credits, next, task_of}
 use Rattle.im_history.specs.Refusals.{evict_refusal}
 use Rattle.im_history.specs.Tables.{tables}
@@ -124,6 +125,14 @@ evict who builds table extent =
     Turn true (λ at. unless_refused (evict_refusal at table extent) (what.Evict table extent))
     (λ at. evicted who builds table extent at (evict_refusal at table extent))
 
+-- what PURGE answers, by the history at its entry: the horizon that it set, and how many versions are kept
+abbrev pub purged : ℕ → History → Body
+purged who at = body.Purged (horizon (behind at who what.Purge)) (kept (behind at who what.Purge))
+
+-- PURGE: the versions of rows that nobody may ask for any more are let go
+abbrev pub purge : ℕ → List Task → Plan CommandOutcome
+purge who builds = Turn true (λ at. Some what.Purge) (λ at. answer_with builds (purged who at))
+
 -- a line that does nothing: a statement of a session is not the background's
 abbrev pub nothing : List Task → Plan CommandOutcome
 nothing builds = answer_with builds body.Nothing
@@ -143,6 +152,7 @@ command_plan limits who rounds builds stmt.Cancel = cancel builds
 command_plan limits who rounds builds (stmt.Trickle count) = trickle who builds count
 command_plan limits who rounds builds (stmt.Evict name extent) =
     Turn false (λ at. None) (λ at. evict_found who builds (resolution (tables at) (stmt.Evict name extent)))
+command_plan limits who rounds builds stmt.Purge = purge who builds
 command_plan limits who rounds builds statement = nothing builds
 
 -- ---- out of memory

@@ -19,10 +19,11 @@ use Rattle.im_statements.specs.Turns.{answer_at, decide, decide_by, look, served
 -- OPEN, on a table that had so many columns at the look
 abbrev pub open_query : ℕ → ℕ → ℕ → Bound → Plan Outcome
 open_query who cursor columns bound =
-    decide (fault_of (aim.Opening bound.table cursor)) (λ at. opening_refusal at who cursor bound.table columns) (λ at. Open cursor bound.table) (λ at.
+    decide (fault_of (aim.Opening bound.table cursor)) (λ at. opening_refusal at who cursor bound.table columns bound.asked)
+    (λ at. Open cursor bound.table bound.asked) (λ at.
     End (Replied
-    (settled_reply (length at) (Opened cursor (view_at at who bound.table).scn (view_at at who bound.table).extents))
-    (Opens (record { cursor = cursor; bound = bound; view = view_at at who bound.table; next = 0 }))))
+    (settled_reply (length at) (Opened cursor (view_at at who bound.table bound.asked).scn (view_at at who bound.table bound.asked).extents))
+    (Opens (record { cursor = cursor; bound = bound; view = view_at at who bound.table bound.asked; next = 0 }))))
 
 -- ---- open cursors
 

@@ -46,16 +46,19 @@ serve_from view filter extent on = serve view filter (view.extents - extent) ext
 
 -- ---- a statement's own scan
 
--- what refuses the opening of a cursor on a table that had so many columns at the look: it got others since, or the cursor may not be opened
-abbrev pub opening_refusal : History → ℕ → ℕ → ℕ → ℕ → Option Why
-opening_refusal at who cursor table columns = option_or (altered at table columns) (open_refusal at who cursor)
+-- what refuses the opening of a cursor on a table that had so many columns at the look: it got others since, or the cursor may not be opened,
+-- or not at the SCN that is asked for
+abbrev pub opening_refusal : History → ℕ → ℕ → ℕ → ℕ → Option ℕ → Option Why
+opening_refusal at who cursor table columns asked = option_or (altered at table columns) (open_refusal at who cursor asked)
 
--- a cursor of the statement's own is opened on a table that had so many columns at the look, unless that is refused, and all extents are
--- served. What the line does then knows the history at the opening, the view, and the marks
-abbrev pub scan : ℕ → ℕ → ℕ → Option (CondOf ℕ Value) → (History → View → List Served → Plan Outcome) → Plan Outcome
-scan who table columns filter on =
-    attempt (fault_of (aim.Opening table OWN_CURSOR)) (λ at. opening_refusal at who OWN_CURSOR table columns) (λ at. Open OWN_CURSOR table) (λ at.
-    serve_from (view_at at who table) filter 0 (on at (view_at at who table)))
+-- a cursor of the statement's own is opened on a table that had so many columns at the look, at the SCN that is asked for or else at the
+-- session's snapshot, unless that is refused, and all extents are served. What the line does then knows the history at the opening, the
+-- view, and the marks
+abbrev pub scan : ℕ → ℕ → ℕ → Option ℕ → Option (CondOf ℕ Value) → (History → View → List Served → Plan Outcome) → Plan Outcome
+scan who table columns asked filter on =
+    attempt (fault_of (aim.Opening table OWN_CURSOR)) (λ at. opening_refusal at who OWN_CURSOR table columns asked)
+    (λ at. Open OWN_CURSOR table asked)
+    (λ at. serve_from (view_at at who table asked) filter 0 (on at (view_at at who table asked)))
 
 -- the scan ends, and the line with this reply
 abbrev pub end_scan : Reply → Plan Outcome
@@ -65,7 +68,7 @@ end_scan reply = Turn false (λ here. Some (Shut OWN_CURSOR)) (λ here. End (sai
 
 -- SELECT of a table that had so many columns at the look: the answer is over the rows that the view sees, and is settled at the opening
 abbrev pub select : ℕ → ℕ → Bound → Plan Outcome
-select who columns bound = scan who bound.table columns bound.filter (λ at view marks.
+select who columns bound = scan who bound.table columns bound.asked bound.filter (λ at view marks.
     end_scan (served_reply (length at) marks (Answer view.scn (answer bound (rows_seen at view)))))
 
 -- what EXPLAIN says of a mark
@@ -74,5 +77,5 @@ explained mark = (mark.extent, mark.how)
 
 -- EXPLAIN: how each extent is served
 abbrev pub explain : ℕ → ℕ → Bound → Plan Outcome
-explain who columns bound = scan who bound.table columns bound.filter (λ at view marks.
+explain who columns bound = scan who bound.table columns bound.asked bound.filter (λ at view marks.
     end_scan (served_reply (length at) marks (Explained view.scn (map explained marks))))

@@ -61,6 +61,7 @@ resolved_plan limits who state at resolved.Switch = answer_at at Nothing
 resolved_plan limits who state at resolved.Cancel = answer_at at Nothing
 resolved_plan limits who state at (resolved.Trickle credits) = answer_at at Nothing
 resolved_plan limits who state at (resolved.Evict table extent) = answer_at at Nothing
+resolved_plan limits who state at resolved.Purge = answer_at at Nothing
 
 -- the names of a statement were looked up at this history: what it does, or their fault
 abbrev pub found_plan : Limits → ℕ → State → History → Result Resolved NameFault → Plan Outcome

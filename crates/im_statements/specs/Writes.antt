@@ -85,7 +85,7 @@ write_or_end limits who place scn marks (change ∷ changes) body =
 -- UPDATE and DELETE, of a table that had so many columns at the look: those that a condition keeps of the rows that the view sees are
 -- rewritten
 abbrev pub rewrite : Limits → ℕ → ℕ → ℕ → Option (CondOf ℕ Value) → Rewriting → Plan Outcome
-rewrite limits who table columns filter rewriting = scan who table columns filter (λ at view marks.
+rewrite limits who table columns filter rewriting = scan who table columns None filter (λ at view marks.
     write_or_end limits who (length at) view.scn marks (changes_to table rewriting (kept_rows filter (rows_seen at view))) (written rewriting))
 
 -- a statement that rewrites rows is refused at its look in a READ ONLY transaction, before anything is scanned

@@ -29,6 +29,7 @@ use Rattle.im_history.proofs.Laws.{opened-push}
 use Rattle.im_history.proofs.RowLaws.{each_history, each_longer, rows-append}
 use Rattle.im_history.proofs.TableLaws.{Exists-push}
 use Rattle.im_history.proofs.UnitLaws.{is_plain}
+use Rattle.im_history.proofs.ViewLaws.{cursor-columns}
 use Rattle.im_store.proofs.OtherLaws.{WentOn, legal-old, on-others, opened-on, pending-on, scn-longer}
 
 -- ---- builds
@@ -151,70 +152,6 @@ module _ {limits : Limits} {who : ℕ} {old at : History} (went : WentOn limits 
 
 -- ---- what a cursor sees
 
-earlier : (h : History) (place : ℕ) → scn (take place h) ≤ scn h
-earlier h place =
-    subst (λ (log : History). scn (take place h) ≤ scn log) (take-append-drop place h) (scn-longer (take place h) (drop place h))
-
-snapshot-under : (h : History) (m : Mode) (began : Option ℕ) → snapshot_under h m began ≤ scn h
-snapshot-under h mode.Committed began = omega arith
-snapshot-under h mode.Serializable None = omega arith
-snapshot-under h mode.Serializable (Some place) = earlier h place
-snapshot-under h mode.ReadOnly None = omega arith
-snapshot-under h mode.ReadOnly (Some place) = earlier h place
-
--- each open cursor reads at an SCN that there was
-record AreReached (who : ℕ) (h : History) : Type 0 where
-  all : All (λ o. o.view.scn ≤ scn h) (opened h who)
-
-abbrev Reached : History → Opened → Type 0
-Reached h o = o.view.scn ≤ scn h
-
-module _ (who : ℕ) where
-  later : (h : History) (entry : Entry) (list : List Opened) → All (Reached h) list → All (Reached (h ++ entry ∷ [])) list
-  later h entry list all =
-      All-weaker (Reached h) (Reached (h ++ entry ∷ []))
-      (λ o below. let more = scn-longer h (entry ∷ []) in omega (arith, below, more)) list all
-
-  after-own : (h : History) (entry : Entry) (w : What) → All (Reached (h ++ entry ∷ [])) (opened h who)
-      → All (Reached (h ++ entry ∷ [])) (opened_after h who (opened h who) w)
-  after-own h entry (what.Open cursor table) all =
-      All-append (Reached (h ++ entry ∷ [])) (opened h who) _ all
-      (All-cons (Reached (h ++ entry ∷ [])) (record { cursor = cursor; view = view_at h who table }) []
-      (let below = snapshot-under h (transactions.mode h who) (begun h who) in let more = scn-longer h (entry ∷ []) in omega (arith, below, more))
-      (All-nil (Reached (h ++ entry ∷ []))))
-  after-own h entry (what.Shut cursor) all = All-filter _ (Reached (h ++ entry ∷ [])) (opened h who) all
-  after-own h entry w all = all
-
-  reached-push : (h : History) (entry : Entry) → AreReached who h → AreReached who (h ++ entry ∷ [])
-  reached-push h entry before = record { all = by (entry.who == who) refl }
-    where
-      now : All (Reached (h ++ entry ∷ [])) (opened h who)
-      now = later h entry (opened h who) before.all
-
-      by : (b : Bool) → (entry.who == who) ≡ b → All (Reached (h ++ entry ∷ [])) (opened (h ++ entry ∷ []) who)
-      by true is =
-          subst (All (Reached (h ++ entry ∷ []))) (sym (opened-push h entry who ∙ rw is refl)) (after-own h entry entry.what now)
-      by false is = subst (All (Reached (h ++ entry ∷ []))) (sym (opened-push h entry who ∙ rw is refl)) now
-
-  reached-nil : AreReached who []
-  unfolding opened replay
-  reached-nil = record { all = All-nil (λ (o : Opened). o.view.scn ≤ scn []) }
-
-  reached : (h : History) → AreReached who h
-  reached = each_history (AreReached who) reached-nil reached-push
-
-the_first : {a b : Opened} → Some a ≡ Some b → a ≡ b
-the_first same = cc
-
-find-holds : (P : Opened → Type 0) (p : Opened → Bool) (list : List Opened) (o : Opened) → All P list → find p list ≡ Some o → P o
-find-holds P p [] o all is = absurd cc
-find-holds P p (first ∷ rest) o all is =
-    by (p first) refl (λ found. find-holds P p rest o (All-tail P first rest all) found)
-  where
-    by : (b : Bool) → p first ≡ b → (find p rest ≡ Some o → P o) → P o
-    by true it_is later_on = subst P (the_first (sym (ap (λ (b : Bool). if b then Some first else find p rest) it_is) ∙ is)) (All-head P first rest all)
-    by false it_is later_on = later_on (sym (ap (λ (b : Bool). if b then Some first else find p rest) it_is) ∙ is)
-
 seen-same : (h more : History) (table n : ℕ) (own : List Change) (rid : ℕ) → n ≤ scn h → seen (h ++ more) table n own rid ≡ seen h table n own rid
 unfolding seen
 seen-same h more table n own rid within = ap (λ (row : Option Row). fold (row_after table rid) row own) (rows-append h more table n rid within)
@@ -231,7 +168,7 @@ module _ {limits : Limits} {who : ℕ} {old at : History} (went : WentOn limits 
     opening = may.opened
 
     known : opening.view.scn ≤ scn old
-    known = find-holds (λ (o : Opened). o.view.scn ≤ scn old) (is_cursor cursor) (opened old who) opening (reached who old).all may.is
+    known = (cursor-columns limits old who cursor opening (legal-old limits who old at went) may.is).reached
 
     seen-on : (rid : ℕ) → seen_by at opening.view rid ≡ seen_by old opening.view rid
     seen-on rid =
@@ -247,6 +184,7 @@ module _ {limits : Limits} {who : ℕ} {old at : History} (went : WentOn limits 
     MayWrite-on = record {
       opened = opening;
       is = cursor_at-on ∙ may.is;
+      unasked = may.unasked;
       some = may.some;
       same = may.same;
       rising = may.rising;

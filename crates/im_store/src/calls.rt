@@ -6,7 +6,7 @@ ghost use Rattle.im_reach.specs.Sides.{IsSwitched, speaks};
 ghost use Rattle.im_store.specs.Sides.{known_by, limits_of};
 
 use crate::shared::{Shared, give, take};
-use im_core::{AddedColumn, Begun, Committed, Evicted, Made, Offer, Pin, Switched, Wrote};
+use im_core::{AddedColumn, Begun, Committed, Evicted, Made, Offer, Pin, Purged, Switched, Wrote};
 use im_history::{Change, Look, Mode, Opening, Priority, Refused, Shape, Task, UnitLike, View};
 use im_reach::Reach;
 use im_values::limits::NUMBERS;
@@ -82,9 +82,10 @@ impl<'a, U: UnitLike> Reach<U> for Shared<'a, U> {
         who: u32,
         cursor: u32,
         opening: Opening,
+        asked: Option<u64>,
     ) -> Result<View, Refused> {
         let mut core = take(rt, self.store, &mut self.pass);
-        let answer = core.open_cursor(who, cursor, opening);
+        let answer = core.open_cursor(who, cursor, opening, asked);
         give(self.store, &mut self.pass, core);
         answer
     }
@@ -213,6 +214,13 @@ impl<'a, U: UnitLike> Reach<U> for Shared<'a, U> {
     fn trickle<R: Wait>(&mut self, rt: &R, who: u32, n: u32) -> Result<u128, Refused> {
         let mut core = take(rt, self.store, &mut self.pass);
         let answer = core.trickle(who, n);
+        give(self.store, &mut self.pass, core);
+        answer
+    }
+
+    fn purge<R: Wait>(&mut self, rt: &R, who: u32) -> Result<Purged, Refused> {
+        let mut core = take(rt, self.store, &mut self.pass);
+        let answer = core.purge(who);
         give(self.store, &mut self.pass, core);
         answer
     }

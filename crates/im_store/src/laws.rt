@@ -1,4 +1,4 @@
-ghost use Rattle.std.specs.Prelude.{◌≡◌, ◌≢◌, ◌≤◌, ℕ, length, true, Some, None};
+ghost use Rattle.std.specs.Prelude.{◌≡◌, ◌≢◌, ◌≤◌, ℕ, length, true, Option, Some, None};
 ghost use Rattle.im_core.specs.declared.answers.Begun.{Begun};
 ghost use Rattle.im_history.specs.declared.entry.Mode.TheVariants as modes;
 ghost use Rattle.im_history.specs.declared.entry.Mode.{Mode};
@@ -21,14 +21,14 @@ ghost use Rattle.im_reach.specs.Sides.{Added, AreOthers, GotColumn, Known, Store
 /// No side of a store falls back behind what it had seen.
 ///
 /// Where a side opens a cursor or begins a transaction, the SCN is at least that of all that the side had seen before. The SCN at
-/// the place of its Open is the snapshot of a cursor under READ COMMITTED, and under another mode it is that at the place where
-/// the transaction began.
+/// the place of its Open is the snapshot of a cursor under READ COMMITTED that asks for no SCN, and under another mode it is that at
+/// the place where the transaction began.
 pub fn no_side_falls_back()
-    ensures opened { (old new : Known) (who cursor : ℕ) (opening : Opening) (view : View)
-        → (added : Added old new who (λ at. what.Open cursor opening.table) (λ at.
+    ensures opened { (old new : Known) (who cursor : ℕ) (opening : Opening) (asked : Option ℕ) (view : View)
+        → (added : Added old new who (λ at. what.Open cursor opening.table asked) (λ at.
         (altered at opening.table opening.columns ≡ None)
-        × (open_refusal at who cursor ≡ None)
-        × (view ≡ view_at at who opening.table))) → scn old.log ≤ scn added.at }
+        × (open_refusal at who cursor asked ≡ None)
+        × (view ≡ view_at at who opening.table asked))) → scn old.log ≤ scn added.at }
     ensures begun { (old new : Known) (who : ℕ) (mode : Mode) (begun : Begun)
         → (added : Added old new who (λ at. what.Begin mode) (λ at.
         (begin_refusal at who ≡ None) × (begun ≡ record { place = length at; scn = scn at }))) → scn old.log ≤ scn added.at }

@@ -3,7 +3,7 @@ use Rattle.std.specs.Prelude.{◌≡◌, ℕ, zero, suc, ◌-◌, ◌≤◌, Lis
 use Rattle.std.specs.List.{AllByRecursion}
 use Rattle.im_readers.specs.Grammar.{Any, GoodOptional, GoodJoined, GoodJoinedUpTo}
 use Rattle.im_values.specs.declared.limits.TheConstants.{MOST_COLUMNS, MOST_IN_SHAPE, MOST_LEVELS}
-use Rattle.im_syntax.specs.declared.limits.TheConstants.{MOST_TEXT_BYTES, LAST_CURSOR, MOST_CREDITS, LAST_EXTENT}
+use Rattle.im_syntax.specs.declared.limits.TheConstants.{MOST_TEXT_BYTES, LAST_CURSOR, MOST_CREDITS, LAST_EXTENT, LAST_SCN}
 use Rattle.im_syntax.specs.declared.literal.Lit.{Lit}
 use Rattle.im_syntax.specs.declared.table.KindWord.{KindWord}
 use Rattle.im_syntax.specs.declared.table.KindWord.TheVariants as kind
@@ -79,9 +79,14 @@ abbrev pub IsList : ListPart → Type 0
 IsList list.Star = Unit {0}
 IsList (list.Items items) = GoodJoined IsItem items
 
+-- the SCN that a query names, where it names one
+abbrev pub IsAsked : Option ℕ → Type 0
+IsAsked = GoodOptional (IsWithin 0 LAST_SCN)
+
 pub record IsQuery (q : Query) : Type 0 where
   pub list : IsList q.list
   pub table : IsName q.table
+  pub asked : IsAsked q.asked
   pub cond : IsWhere q.cond
   pub groups : AllByRecursion IsName q.groups
   pub keys : AllByRecursion IsKey q.keys
@@ -143,6 +148,7 @@ IsStmt stmt.Switch = Unit {0}
 IsStmt stmt.Cancel = Unit {0}
 IsStmt (stmt.Trickle n) = IsWithin 1 MOST_CREDITS n
 IsStmt (stmt.Evict name extent) = IsName name × IsWithin 0 LAST_EXTENT extent
+IsStmt stmt.Purge = Unit {0}
 
 -- whose statement it is
 abbrev pub side_of : Stmt → Side
@@ -170,6 +176,7 @@ side_of stmt.Switch = side.Background
 side_of stmt.Cancel = side.Background
 side_of (stmt.Trickle n) = side.Background
 side_of (stmt.Evict name extent) = side.Background
+side_of stmt.Purge = side.Background
 
 -- a statement of one side
 pub record IsStmtOf (whose : Side) (s : Stmt) : Type 0 where

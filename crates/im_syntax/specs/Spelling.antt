@@ -134,9 +134,15 @@ abbrev pub spell_keys : List KeyPart → List Token
 spell_keys [] = []
 spell_keys (k ∷ ks) = word key.Order ∷ word key.By ∷ spell_joined comma spell_key (k ∷ ks)
 
+-- the SCN that a query names, where it names one
+abbrev pub spell_asked : Option ℕ → List Token
+spell_asked = spell_optional (λ n. word key.As ∷ word key.Of ∷ word key.Scn ∷ number n ∷ [])
+
 abbrev pub spell_query : Query → List Token
 spell_query q =
-    word key.Select ∷ (spell_list q.list ++ word key.From ∷ token.Word q.table ∷ (spell_where q.cond ++ (spell_groups q.groups ++ spell_keys q.keys)))
+    word key.Select
+    ∷ (spell_list q.list ++ word key.From ∷ token.Word q.table
+    ∷ (spell_asked q.asked ++ (spell_where q.cond ++ (spell_groups q.groups ++ spell_keys q.keys))))
 
 -- ---- tables
 
@@ -213,3 +219,4 @@ spelling stmt.Switch = word key.Switch ∷ []
 spelling stmt.Cancel = word key.Cancel ∷ []
 spelling (stmt.Trickle n) = word key.Trickle ∷ number n ∷ []
 spelling (stmt.Evict name extent) = word key.Evict ∷ token.Word name ∷ number extent ∷ []
+spelling stmt.Purge = word key.Purge ∷ []

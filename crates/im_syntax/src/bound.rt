@@ -16,6 +16,8 @@ pub struct Key {
 #[derive(Drop)]
 pub struct Bound {
     pub table: u32,
+    /// The SCN that the query names. It is answered as of its session's snapshot where it names none.
+    pub asked: Option<u64>,
     pub filter: Option<Filter>,
     pub items: List<Item>,
     pub groups: List<u32>,

@@ -29,6 +29,8 @@ pub enum ListPart {
 pub struct Query {
     pub list: ListPart,
     pub table: Name,
+    /// The SCN behind AS OF SCN: at most `LAST_SCN`.
+    pub asked: Option<u64>,
     /// The condition behind WHERE.
     pub cond: Option<Cond>,
     /// The columns of GROUP BY.

@@ -75,6 +75,8 @@ pub enum Stmt {
         name: Name,
         extent: u64,
     },
+    /// Versions of rows that nobody may ask for any more go.
+    Purge,
 }
 
 /// Whose statement it is: a session's, or one of the background that keeps the column store.

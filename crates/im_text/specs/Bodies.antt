@@ -9,7 +9,7 @@ use Rattle.im_replies.specs.declared.served.How.{How}
 use Rattle.im_replies.specs.declared.task.Built.{Built}
 use Rattle.im_replies.specs.declared.task.Ending.{Ending}
 use Rattle.im_replies.specs.declared.body.Body.{Body}
-use Rattle.im_replies.specs.declared.body.Body.TheVariants.{Created, Altered, Begun, Inserted, Updated, Deleted, Committed, RolledBack, Answer, Opened, Step, End, Closed, Plan, Ran, Build, Idle, Ended, Nothing, Trickle, Evicted, Error}
+use Rattle.im_replies.specs.declared.body.Body.TheVariants.{Created, Altered, Begun, Inserted, Updated, Deleted, Committed, RolledBack, Answer, Opened, Step, End, Closed, Plan, Ran, Build, Idle, Ended, Nothing, Trickle, Evicted, Purged, Error}
 
 -- an answer, and then its records
 abbrev pub answer_records : ℕ → List (List Cell) → List (List (List ℕ))
@@ -48,4 +48,5 @@ records_of (Ended ending) = ending_record ending ∷ []
 records_of Nothing = (codes "none" ∷ []) ∷ []
 records_of (Trickle credits) = (codes "trickle" ∷ decimal credits ∷ []) ∷ []
 records_of (Evicted table extent used) = (codes "evicted" ∷ decimal table ∷ decimal extent ∷ decimal used ∷ []) ∷ []
+records_of (Purged horizon kept) = (codes "purged" ∷ decimal horizon ∷ decimal kept ∷ []) ∷ []
 records_of (Error fault) = fault_record fault ∷ []

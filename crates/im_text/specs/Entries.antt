@@ -14,7 +14,7 @@ use Rattle.im_history.specs.declared.entry.Entry.{Entry}
 use Rattle.im_history.specs.declared.entry.Mode.{Mode}
 use Rattle.im_history.specs.declared.entry.Mode.TheVariants as modes
 use Rattle.im_history.specs.declared.entry.What.{What}
-use Rattle.im_history.specs.declared.entry.What.TheVariants.{Create, Add, Memory, Begin, Open, Shut, Write, Commit, Rollback, Build, Switch, Cancel, Trickle, Evict, Leave}
+use Rattle.im_history.specs.declared.entry.What.TheVariants.{Create, Add, Memory, Begin, Open, Shut, Write, Commit, Rollback, Build, Switch, Cancel, Trickle, Evict, Leave, Purge}
 
 -- how soon a table's units are built, or that the table left the column store
 abbrev pub priority_word : Option Priority → List ℕ
@@ -60,13 +60,18 @@ abbrev pub add_fields : ℕ → Column → Value → List (List ℕ)
 add_fields table column default =
     codes "add" ∷ decimal table ∷ column.name ∷ decimal (text_limit column.kind) ∷ value_field default ∷ []
 
+-- a cursor that was opened on a table, and the SCN that it asked for, where it asked for one
+abbrev pub open_fields : ℕ → ℕ → Option ℕ → List (List ℕ)
+open_fields cursor table None = codes "open" ∷ decimal cursor ∷ decimal table ∷ []
+open_fields cursor table (Some asked) = codes "open" ∷ decimal cursor ∷ decimal table ∷ decimal asked ∷ []
+
 -- what happened
 abbrev pub what_fields : What → List (List ℕ)
 what_fields (Create name schema shape) = create_fields name schema shape
 what_fields (Add table column default) = add_fields table column default
 what_fields (Memory table priority) = codes "memory" ∷ decimal table ∷ priority_word priority ∷ []
 what_fields (Begin mode) = codes "begin" ∷ mode_word mode ∷ []
-what_fields (Open cursor table) = codes "open" ∷ decimal cursor ∷ decimal table ∷ []
+what_fields (Open cursor table asked) = open_fields cursor table asked
 what_fields (Shut cursor) = codes "shut" ∷ decimal cursor ∷ []
 what_fields (Write changes) = codes "write" ∷ decimal (length changes) ∷ []
 what_fields Commit = codes "commit" ∷ []
@@ -78,6 +83,7 @@ what_fields (Cancel id full) = codes "cancel" ∷ decimal id ∷ decimal (flag f
 what_fields (Trickle n) = codes "trickle" ∷ decimal n ∷ []
 what_fields (Evict table extent) = codes "evict" ∷ decimal table ∷ decimal extent ∷ []
 what_fields Leave = codes "leave" ∷ []
+what_fields Purge = codes "purge" ∷ []
 
 -- the changes that were written
 abbrev pub changes_of : What → List Change

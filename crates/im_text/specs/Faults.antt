@@ -2,7 +2,7 @@
 use Rattle.std.specs.Prelude.{ℕ, List, [], ◌∷◌, Option, Some, None, codes, decimal}
 use Rattle.im_values.specs.declared.limits.TheConstants.{MOST_COLUMNS, MOST_TABLES, MOST_CURSORS}
 use Rattle.im_replies.specs.declared.fault.Fault.{Fault}
-use Rattle.im_replies.specs.declared.fault.Fault.TheVariants.{LineTooLong, Syntax, UnknownTable, UnknownColumn, RepeatedColumn, WrongCount, WrongKind, TooLong, NotGrouped, TableExists, TooManyTables, CursorUnknown, CursorOpen, TooManyCursors, TransactionOpen, ReadOnly, RowLocked, CannotSerialize, TooManyChanges, StoreFull, NoUnit, TooManyColumns, TableAltered, Memory}
+use Rattle.im_replies.specs.declared.fault.Fault.TheVariants.{LineTooLong, Syntax, UnknownTable, UnknownColumn, RepeatedColumn, WrongCount, WrongKind, TooLong, NotGrouped, TableExists, TooManyTables, CursorUnknown, CursorOpen, TooManyCursors, NoSuchScn, SnapshotTooOld, TransactionOpen, ReadOnly, RowLocked, CannotSerialize, TooManyChanges, StoreFull, NoUnit, TooManyColumns, TableAltered, Memory}
 
 -- the column of a grouped query, or its `*`
 abbrev pub column_or_star : Option (List ℕ) → List ℕ
@@ -32,8 +32,10 @@ fault_fields (CannotSerialize row scn) = codes "16" ∷ codes "cannot-serialize"
 fault_fields (TooManyChanges need left) = codes "17" ∷ codes "too-many-changes" ∷ decimal need ∷ decimal left ∷ []
 fault_fields (StoreFull need left) = codes "18" ∷ codes "store-full" ∷ decimal need ∷ decimal left ∷ []
 fault_fields (NoUnit table extent) = codes "19" ∷ codes "no-unit" ∷ decimal table ∷ decimal extent ∷ []
+fault_fields (SnapshotTooOld asked horizon) = codes "20" ∷ codes "snapshot-too-old" ∷ decimal asked ∷ decimal horizon ∷ []
 fault_fields TooManyColumns = codes "21" ∷ codes "too-many-columns" ∷ decimal MOST_COLUMNS ∷ []
 fault_fields (TableAltered table place) = codes "22" ∷ codes "table-altered" ∷ decimal table ∷ decimal place ∷ []
+fault_fields (NoSuchScn asked scn) = codes "23" ∷ codes "no-such-scn" ∷ decimal asked ∷ decimal scn ∷ []
 fault_fields (Memory k) = codes "99" ∷ codes "memory" ∷ decimal k ∷ []
 
 -- the record of a line that was refused

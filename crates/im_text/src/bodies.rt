@@ -78,6 +78,7 @@ pub fn put_body(page: &mut Page, body: &Body) -> Result<(), NoMemory>
             extent,
             used,
         } => page.put_numbers("evicted", &[u64::from(*table), *extent, *used]),
+        Body::Purged { horizon, kept } => page.put_numbers("purged", &[*horizon, *kept]),
         Body::Error(fault) => put_fault(page, fault),
     }
 }

@@ -107,6 +107,19 @@ fn put_add(page: &mut Page, table: u32, column: &Column, default: &Value) -> Res
     put_value(page, default)
 }
 
+/// Puts the opening of a cursor, and the SCN that it asked for, as further fields.
+fn put_open(page: &mut Page, cursor: u32, table: u32, asked: Option<u64>) -> Result<(), NoMemory>
+    requires { IsInside page.old }
+    ensures { OnOk result (Adds page.old page.new (further (spec.open_fields cursor table asked))) }
+{
+    let cursor = u64::from(cursor);
+    let table = u64::from(table);
+    match asked {
+        Some(scn) => page.put_phrase("open", &[cursor, table, scn]),
+        None => page.put_phrase("open", &[cursor, table]),
+    }
+}
+
 /// Puts what happened, as further fields.
 fn put_what(page: &mut Page, what: &What) -> Result<(), NoMemory>
     requires { IsInside page.old }
@@ -132,10 +145,11 @@ fn put_what(page: &mut Page, what: &What) -> Result<(), NoMemory>
             Field::Word("begin"),
             Field::Word(mode_word(*mode)),
         ]),
-        What::Open { cursor, table } => page.put_phrase(
-            "open",
-            &[u64::from(*cursor), u64::from(*table)],
-        ),
+        What::Open {
+            cursor,
+            table,
+            asked,
+        } => put_open(page, *cursor, *table, *asked),
         What::Shut { cursor } => page.put_phrase("shut", &[u64::from(*cursor)]),
         What::Write { changes } => page.put_phrase("write", &[changes.len() as u64]),
         What::Commit => page.put_phrase("commit", &[]),
@@ -151,6 +165,7 @@ fn put_what(page: &mut Page, what: &What) -> Result<(), NoMemory>
         What::Trickle { n } => page.put_phrase("trickle", &[u64::from(*n)]),
         What::Evict { table, extent } => page.put_phrase("evict", &[u64::from(*table), *extent]),
         What::Leave => page.put_phrase("leave", &[]),
+        What::Purge => page.put_phrase("purge", &[]),
     }
 }
 

@@ -79,12 +79,18 @@ pub fn put_fault(page: &mut Page, fault: &Fault) -> Result<(), NoMemory>
             "no-unit",
             &[u64::from(*table), *extent],
         ),
+        Fault::SnapshotTooOld { asked, horizon } => page.refuse(
+            "20",
+            "snapshot-too-old",
+            &[*asked, *horizon],
+        ),
         Fault::TooManyColumns => page.refuse("21", "too-many-columns", &[MOST_COLUMNS as u64]),
         Fault::TableAltered { table, place } => page.refuse(
             "22",
             "table-altered",
             &[u64::from(*table), *place],
         ),
+        Fault::NoSuchScn { asked, scn } => page.refuse("23", "no-such-scn", &[*asked, *scn]),
         Fault::Memory { k } => page.refuse("99", "memory", &[*k]),
     }
 }

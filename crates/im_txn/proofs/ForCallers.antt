@@ -23,7 +23,7 @@ use Rattle.im_history.specs.Touched.{touches, holder}
 use Rattle.im_history.specs.Transactions.{pending, begun, begun_after, mode, is_open, or_here}
 use Rattle.im_history.specs.Views.{view_at}
 use Rattle.im_txn.specs.declared.cursor.Cursor.{Cursor}
-use Rattle.im_txn.specs.Activity.{Activity, is_number, transactions, cursor_in, cursors_in, own_in, with_mode, with_cursor, without_cursor, with_changes, ended}
+use Rattle.im_txn.specs.Activity.{Activity, is_number, transactions, cursor_in, cursors_in, own_in, scns_in, with_mode, with_cursor, without_cursor, with_changes, ended}
 use Rattle.im_txn.specs.Agrees.{Agrees, cursor_of, kept, owed, owes, is_apart}
 use Rattle.im_txn.specs.Effects.{IsIdle, IsBegun, IsOpened, IsShut, IsWritten, IsEnded, IsGrown}
 use Rattle.im_txn.specs.LockCells.{other_in}
@@ -116,20 +116,21 @@ once-push cursors cursor number none once =
     (cases_eq cursor.cursor number)
 
 -- an Open of a cursor that is not open
-pub Agrees-open : (h : History) (who cursor table : ℕ) (old new : Standing) → Agrees h old → who < NUMBERS → is_cursor_open h who cursor ≡ false →
-    IsOpened old new who (cursor_of h who cursor table) → Agrees (h ++ record { who = who; what = Open cursor table } ∷ []) new
-Agrees-open h who cursor table old new agrees number shut opens =
-    Agrees-follows h who (Open cursor table) old new (with_cursor (cursor_of h who cursor table) (activity_at old who)) agrees number opens.activity (record {
+pub Agrees-open : (h : History) (who cursor table : ℕ) (asked : Option ℕ) (old new : Standing) → Agrees h old → who < NUMBERS →
+    is_cursor_open h who cursor ≡ false → IsOpened old new who (cursor_of h who cursor table asked) →
+    Agrees (h ++ record { who = who; what = Open cursor table asked } ∷ []) new
+Agrees-open h who cursor table asked old new agrees number shut opens =
+    Agrees-follows h who (Open cursor table asked) old new (with_cursor (cursor_of h who cursor table asked) (activity_at old who)) agrees number opens.activity (record {
       changes = agrees.changes who;
       began = agrees.began who;
       modes = agrees.modes who;
       cursors =
-          ap (λ (l : List Cursor). l ++ cursor_of h who cursor table ∷ []) (agrees.cursors who)
-          ∙ sym (map-push (opened h who) (record { cursor = cursor; view = view_at h who table }));
+          ap (λ (l : List Cursor). l ++ cursor_of h who cursor table asked ∷ []) (agrees.cursors who)
+          ∙ sym (map-push (opened h who) (record { cursor = cursor; view = view_at h who table asked }));
       once =
-          λ other. once-push (activity_at old who).cursors (cursor_of h who cursor table) other (none-open h who cursor old agrees shut)
+          λ other. once-push (activity_at old who).cursors (cursor_of h who cursor table asked) other (none-open h who cursor old agrees shut)
           (agrees.once who other);
-    }) (Locked-same h who (Open cursor table) old new agrees opens.locks (λ so_far. refl))
+    }) (Locked-same h who (Open cursor table asked) old new agrees opens.locks (λ so_far. refl))
 
 -- a Shut
 pub Agrees-shut : (h : History) (who cursor : ℕ) (old new : Standing) → Agrees h old → who < NUMBERS → IsShut old new who cursor →
@@ -254,6 +255,15 @@ pub cursors_open-by : (h : History) (standing : Standing) (who : ℕ) → Agrees
 cursors_open-by h standing who agrees =
     ap (λ (l : List Cursor). count_by (λ c. not (is_own c.cursor)) l) (agrees.cursors who)
     ∙ count_by-map kept (λ c. not (is_own c.cursor)) (λ o. not (is_own o.cursor)) (opened h who) (λ x. refl)
+
+scns-map : (os : List Opened) → map (λ (c : Cursor). c.scn) (map kept os) ≡ map (λ (o : Opened). o.view.scn) os
+scns-map [] = refl
+scns-map (o ∷ os) = ap (λ (l : List ℕ). o.view.scn ∷ l) (scns-map os)
+
+-- what the open cursors read at is what their views read at
+pub scns-by : (h : History) (standing : Standing) (who : ℕ) → Agrees h standing
+    → scns_in (activity_at standing who) ≡ map (λ opened. opened.view.scn) (opened h who)
+scns-by h standing who agrees = ap (λ (l : List Cursor). map (λ (c : Cursor). c.scn) l) (agrees.cursors who) ∙ scns-map (opened h who)
 
 -- another number that holds a row is the first that has a change to it pending
 pub holder-by : (h : History) (standing : Standing) (who table rid : ℕ) → Agrees h standing → holder_in standing who table rid ≡ holder h who table rid

@@ -4,4 +4,5 @@ mod AgreesLemmas
 mod LastsLemmas
 mod LockLemmas
 mod GivenLemmas
+pub mod LeastLaws
 pub mod ForCallers

@@ -1,5 +1,5 @@
 -- What one session has going on.
-use Rattle.std.specs.Prelude.{ℕ, ◌+◌, ◌-◌, ◌==◌, Bool, not, List, [], ◌∷◌, ◌++◌, length, filter, count_by, Option, None, is_some, if◌then◌else◌}
+use Rattle.std.specs.Prelude.{ℕ, ◌+◌, ◌-◌, ◌==◌, Bool, not, List, [], ◌∷◌, ◌++◌, length, map, filter, count_by, Option, None, is_some, if◌then◌else◌}
 use Rattle.std.specs.List.{find}
 use Rattle.im_history.specs.declared.change.Change.{Change}
 use Rattle.im_history.specs.declared.entry.Mode.{Mode}
@@ -41,6 +41,10 @@ cursor_in activity number = find (is_number number) activity.cursors
 -- how many cursors are open that no statement opened by itself
 abbrev pub cursors_in : Activity → ℕ
 cursors_in activity = count_by (λ cursor. not (is_own cursor.cursor)) activity.cursors
+
+-- the SCNs that the open cursors read at
+abbrev pub scns_in : Activity → List ℕ
+scns_in activity = map (λ cursor. cursor.scn) activity.cursors
 
 -- the pending changes to a table
 abbrev pub own_in : Activity → ℕ → List Change

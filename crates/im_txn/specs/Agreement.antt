@@ -1,12 +1,12 @@
 -- That what is going on stays in agreement with the history, and what it then says.
-use Rattle.std.specs.Prelude.{◌≡◌, ℕ, ◌+◌, ◌≤◌, ◌<◌, None, true, false, List, [], ◌∷◌, ◌++◌, length, All}
+use Rattle.std.specs.Prelude.{◌≡◌, ℕ, ◌+◌, ◌≤◌, ◌<◌, None, true, false, List, [], ◌∷◌, ◌++◌, length, map, All, Option}
 use Rattle.std.specs.Option.{option_map}
 use Rattle.im_values.specs.declared.limits.TheConstants.{NUMBERS}
 use Rattle.im_history.specs.declared.change.Change.{Change}
 use Rattle.im_history.specs.declared.entry.Mode.{Mode}
 use Rattle.im_history.specs.declared.entry.What.{What}
 use Rattle.im_history.specs.declared.entry.What.TheVariants.{Begin, Open, Shut, Write, Commit, Rollback}
-use Rattle.im_history.specs.Cursors.{cursor_at, is_cursor_open, cursors_open}
+use Rattle.im_history.specs.Cursors.{cursor_at, is_cursor_open, cursors_open, opened}
 use Rattle.im_history.specs.History.{History}
 use Rattle.im_history.specs.Refusals.{row_locked}
 use Rattle.im_history.specs.Rows.{own_changes}
@@ -14,7 +14,7 @@ use Rattle.im_history.specs.Tables.{given}
 use Rattle.im_history.specs.Touched.{holder}
 use Rattle.im_history.specs.Transactions.{is_open}
 use Rattle.im_txn.specs.declared.cursor.Cursor.{Cursor}
-use Rattle.im_txn.specs.Activity.{cursor_in, cursors_in, own_in}
+use Rattle.im_txn.specs.Activity.{cursor_in, cursors_in, own_in, scns_in}
 use Rattle.im_txn.specs.Agrees.{Agrees, cursor_of, kept, is_apart}
 use Rattle.im_txn.specs.Effects.{IsIdle, IsBegun, IsOpened, IsShut, IsWritten, IsEnded, IsGrown}
 use Rattle.im_txn.specs.Standing.{Standing, activity_at, holder_in, IsFree}
@@ -24,8 +24,9 @@ pub record KeepsAgreement : Type 0 where
   pub at_first : (standing : Standing) → IsIdle standing → Agrees [] standing
   pub begins : (h : History) (who : ℕ) (mode : Mode) (old new : Standing) → Agrees h old → who < NUMBERS → IsBegun old new who (length h) mode →
       Agrees (h ++ record { who = who; what = Begin mode } ∷ []) new
-  pub opens : (h : History) (who cursor table : ℕ) (old new : Standing) → Agrees h old → who < NUMBERS → is_cursor_open h who cursor ≡ false →
-      IsOpened old new who (cursor_of h who cursor table) → Agrees (h ++ record { who = who; what = Open cursor table } ∷ []) new
+  pub opens : (h : History) (who cursor table : ℕ) (asked : Option ℕ) (old new : Standing) → Agrees h old → who < NUMBERS →
+      is_cursor_open h who cursor ≡ false → IsOpened old new who (cursor_of h who cursor table asked) →
+      Agrees (h ++ record { who = who; what = Open cursor table asked } ∷ []) new
   pub shuts : (h : History) (who cursor : ℕ) (old new : Standing) → Agrees h old → who < NUMBERS → IsShut old new who cursor →
       Agrees (h ++ record { who = who; what = Shut cursor } ∷ []) new
   pub writes : (h : History) (who : ℕ) (changes : List Change) (old new : Standing) → Agrees h old → who < NUMBERS → IsFree old who changes →
@@ -44,6 +45,7 @@ pub record ReadsHistory (h : History) (standing : Standing) : Type 0 where
   pub own : (who table : ℕ) → own_in (activity_at standing who) table ≡ own_changes h who table
   pub cursor : (who number : ℕ) → cursor_in (activity_at standing who) number ≡ option_map kept (cursor_at h who number)
   pub cursors : (who : ℕ) → cursors_in (activity_at standing who) ≡ cursors_open h who
+  pub scns : (who : ℕ) → scns_in (activity_at standing who) ≡ map (λ opened. opened.view.scn) (opened h who)
   pub free : (who : ℕ) (changes : List Change) → row_locked h who changes ≡ None → IsFree standing who changes
   pub fresh : (who : ℕ) (changes : List Change) → All (λ change. given h change.table ≤ change.rid) changes → IsFree standing who changes
 

@@ -1,16 +1,15 @@
 -- What is going on by a history.
-use Rattle.std.specs.Prelude.{◌≡◌, ℕ, suc, ◌+◌, ◌==◌, ◌≤◌, ◌<◌, ◌||◌, not, Bool, length, map, count_by, if◌then◌else◌}
+use Rattle.std.specs.Prelude.{◌≡◌, ℕ, suc, ◌+◌, ◌==◌, ◌≤◌, ◌<◌, ◌||◌, not, Bool, length, map, count_by, Option, if◌then◌else◌}
 use Rattle.std.specs.List.{range_with_len, sum_by}
 use Rattle.im_values.specs.declared.limits.TheConstants.{NUMBERS}
 use Rattle.im_history.specs.declared.entry.What.{What}
 use Rattle.im_history.specs.Cursors.{Opened, opened}
 use Rattle.im_history.specs.History.{History}
 use Rattle.im_history.specs.Kinds.{scope_of}
-use Rattle.im_history.specs.Rows.{snapshot}
 use Rattle.im_history.specs.Tables.{given, table_at}
 use Rattle.im_history.specs.Touched.{touches}
 use Rattle.im_history.specs.Units.{columns_of}
-use Rattle.im_history.specs.Views.{per_at}
+use Rattle.im_history.specs.Views.{per_at, reads_at}
 use Rattle.im_history.specs.Transactions.{pending, begun, mode, is_open}
 use Rattle.im_txn.specs.declared.cursor.Cursor.{Cursor}
 use Rattle.im_txn.specs.Activity.{is_number}
@@ -27,12 +26,12 @@ kept opened = record {
   columns = length opened.view.columns;
 }
 
--- the cursor that a session's opening of this number on this table keeps
-abbrev pub cursor_of : History → ℕ → ℕ → ℕ → Cursor
-cursor_of history who cursor table = record {
+-- the cursor that a session's opening of this number on this table keeps, one that asks for this SCN, or for none
+abbrev pub cursor_of : History → ℕ → ℕ → ℕ → Option ℕ → Cursor
+cursor_of history who cursor table asked = record {
   cursor = cursor;
   table = table;
-  scn = snapshot history who;
+  scn = reads_at history who asked;
   rows = given history table;
   per = per_at history table;
   columns = columns_of (table_at history table);

@@ -1,6 +1,7 @@
-ghost use Rattle.std.specs.Prelude.{◌≡◌, not, count_by, ◌≤◌, filter, vec_capacity, vec_len};
+ghost use Rattle.std.specs.Prelude.{◌≡◌, not, count_by, map, ◌≤◌, filter, vec_capacity, vec_len};
 ghost use Rattle.std.specs.List.{find};
 ghost use Rattle.im_history.specs.Cursors as own;
+ghost use Rattle.im_history.specs.Horizon.{least};
 ghost use Rattle.im_txn.specs.Activity.{is_number};
 
 use im_history::is_own;
@@ -40,6 +41,17 @@ pub fn count_beside_own(cursors: &[Cursor]) -> u64
         .iter()
         .filter(|cursor| !is_own(cursor.cursor))
         .count() as u64
+}
+
+/// The least of an SCN and those that the cursors read at.
+pub fn least_scn(cursors: &[Cursor], most: u64) -> u64
+    ensures { result ≡ least most (map (λ cursor. cursor.scn) cursors.now) }
+{
+    let mut least = most;
+    for cursor in cursors {
+        least = cursor.scn.min(least);
+    }
+    least
 }
 
 /// Removes the cursors of this number; the others stay in order.

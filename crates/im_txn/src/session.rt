@@ -1,11 +1,12 @@
 ghost use Rattle.std.specs.Prelude.{◌≡◌, ◌+◌, ◌^◌, ◌<◌, ◌≤◌, length, OnOk, IfOk};
+ghost use Rattle.im_history.specs.Horizon.{least};
 ghost use Rattle.im_history.specs.Puts.{all_changes};
 ghost use Rattle.im_history.specs.Transactions.{or_here};
-ghost use Rattle.im_txn.specs.Activity.{idle, cursor_in, cursors_in, ended, own_in, transactions, with_changes, with_cursor, with_mode, without_cursor};
+ghost use Rattle.im_txn.specs.Activity.{idle, cursor_in, cursors_in, ended, own_in, scns_in, transactions, with_changes, with_cursor, with_mode, without_cursor};
 ghost use Rattle.im_txn.specs.Effects.{IsRoomier};
 ghost use Rattle.im_txn.specs.Standing.{IsFew};
 
-use crate::cursor::{Cursor, count_beside_own, remove_number, with_number};
+use crate::cursor::{Cursor, count_beside_own, least_scn, remove_number, with_number};
 use crate::lasts::Lasts;
 use im_history::{Changes, Mode, OwnChanges};
 use im_values::NoMemory;
@@ -116,6 +117,13 @@ impl Session {
         ensures { result ≡ cursors_in self.now }
     {
         count_beside_own(self.cursors.as_slice())
+    }
+
+    /// The least of an SCN and those that the open cursors read at.
+    pub fn least_scn(&self, most: u64) -> u64
+        ensures { result ≡ least most (scns_in self.now) }
+    {
+        least_scn(self.cursors.as_slice(), most)
     }
 
     /// The pending changes to a table. Each pending change is looked at once, however often this is asked.

@@ -1,6 +1,7 @@
 ghost use Rattle.std.specs.Prelude.{◌≡◌, ◌^◌, ◌<◌, length, OnOk, IfOk};
+ghost use Rattle.im_history.specs.Horizon.{least};
 ghost use Rattle.im_history.specs.Puts.{all_changes};
-ghost use Rattle.im_txn.specs.Activity.{cursor_in, cursors_in, own_in};
+ghost use Rattle.im_txn.specs.Activity.{cursor_in, cursors_in, own_in, scns_in};
 ghost use Rattle.im_txn.specs.Effects.{IsBegun, IsEnded, IsGrown, IsIdle, IsOpened, IsShut, IsWritten};
 ghost use Rattle.im_txn.specs.LockCells.{other_in};
 ghost use Rattle.im_txn.specs.Standing.{HasRoom, IsFree, activity_at, holder_in};
@@ -88,6 +89,13 @@ impl Sessions {
         ensures { result ≡ cursors_in (activity_at self.now who) }
     {
         self.sessions[who.index()].cursors_open()
+    }
+
+    /// The least of an SCN and those that a session's open cursors read at: no older row is read through them.
+    pub fn least_scn(&self, who: Who, most: u64) -> u64
+        ensures { result ≡ least most (scns_in (activity_at self.now who)) }
+    {
+        self.sessions[who.index()].least_scn(most)
     }
 
     /// How many entries all sessions together will need without fail: a Rollback for each open transaction, and a Shut

@@ -1,2 +1,3 @@
+mod CutLemmas
 mod VersionLemmas
 pub mod ForCallers

@@ -1,7 +1,7 @@
-ghost use Rattle.std.specs.Prelude.{◌≡◌, ℕ, ◌+◌, ◌-◌, ◌<◌, [], ◌∷◌, ◌++◌, max, OnOk, OnErr};
+ghost use Rattle.std.specs.Prelude.{◌≡◌, ℕ, ◌+◌, ◌-◌, ◌<◌, ◌≤◌, [], ◌∷◌, ◌++◌, drop, length, max, OnOk, OnErr};
 ghost use Rattle.std.specs.Option.{ForSome, option_copied};
 ghost use Rattle.im_versions.specs.Form as kept;
-ghost use Rattle.im_versions.specs.Versions.{no_chain, row_at, latest, newest_row, versions_to, IsRising};
+ghost use Rattle.im_versions.specs.Versions.{no_chain, row_at, latest, newest_row, versions_to, cut, IsRising};
 
 use crate::version::Version;
 use im_values::{NoMemory, Row, Steps};
@@ -80,6 +80,28 @@ impl Chain {
     {
         self.spare -= 1;
         put(&mut self.form, Version { scn, row });
+    }
+
+    /// Lets go of the versions that no reading at this floor or above it asks for. It takes no memory.
+    ///
+    /// It is a search, and where something goes it costs the versions that there are. Where one version is left, it stands in the
+    /// chain itself again: the memory of the others goes too.
+    pub fn purge(&mut self, floor: u64)
+        ensures versions { self.new.versions ≡ cut floor self.old.versions }
+        ensures rising { IsRising self.old.versions }
+    {
+        let many = outdated(versions_in(&self.form), floor);
+        if many > 0 {
+            drop_oldest(&mut self.form, many);
+            self.spare = 0;
+        }
+    }
+
+    /// How many versions there are.
+    pub fn count(&self) -> u64
+        ensures { result ≡ length self.now.versions }
+    {
+        versions_in(&self.form).len() as u64
     }
 
     /// The row at an SCN, or none where there was none. It is one step.
@@ -171,4 +193,55 @@ fn newest_row(versions: &[Version]) -> Option<&Row>
     ensures { option_copied result ≡ newest_row versions.now }
 {
     versions.last()?.row.as_ref()
+}
+
+/// How many of the oldest versions no reading at a floor or above it asks for.
+fn outdated(versions: &[Version], floor: u64) -> usize
+    requires { IsRising versions.now }
+    ensures few { result ≤ length versions.now }
+    ensures rest { drop result versions.now ≡ cut floor versions.now }
+{
+    let below = versions_to(versions, floor);
+    match below.last() {
+        Some(newest) if newest.row.is_some() => below.len() - 1,
+        _ => below.len(),
+    }
+}
+
+/// Lets go of so many of the oldest versions.
+fn drop_oldest(form: &mut Form, many: usize)
+    requires some { 0 < many }
+    requires few { many ≤ length (kept.versions_in form.old) }
+    ensures rest { kept.versions_in form.new ≡ drop many (kept.versions_in form.old) }
+    ensures room { kept.HasRoom form.new 0 }
+{
+    match form {
+        Form::Empty => (),
+        Form::One(_) => *form = Form::Empty,
+        Form::Many(versions) => {
+            let left = versions.len() - many;
+            if left > 1 {
+                versions.rotate_left(many);
+                versions.truncate(left);
+            } else {
+                *form = newest_alone(versions, left);
+            }
+        }
+    }
+}
+
+/// The newest version alone, where one is left.
+fn newest_alone(versions: &mut Vec<Version>, left: usize) -> Form
+    requires one { left ≤ 1 }
+    requires there { left ≤ length versions.old.items }
+    ensures rest { kept.versions_in result ≡ drop (length versions.old.items - left) versions.old.items }
+    ensures room { kept.HasRoom result 0 }
+{
+    if left == 0 {
+        return Form::Empty;
+    }
+    match versions.pop() {
+        Some(newest) => Form::One(newest),
+        None => Form::Empty,
+    }
 }

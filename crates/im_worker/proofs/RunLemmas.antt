@@ -1,6 +1,7 @@
 -- What the statements of the background come to.
 use Rattle.std.proofs.Common.{◌≡◌, ℕ, suc, ◌+◌, ◌*◌, Bool, true, false, List, [], ◌∷◌, ◌++◌, length, Option, Some, None, is_none, refl, sym, ap, ◌∙◌, subst, inl, inr, arith}
 use Rattle.std.specs.Option.{option_map}
+use Rattle.im_core.specs.declared.answers.Purged.{Purged}
 use Rattle.im_core.specs.Answers.{IsRefusal}
 use Rattle.im_history.specs.declared.entry.What.{What}
 use Rattle.im_history.specs.declared.entry.What.TheVariants as what
@@ -11,6 +12,7 @@ use Rattle.im_history.specs.declared.refused.Why.TheVariants as why
 use Rattle.im_history.specs.declared.task.Task.{Task}
 use Rattle.im_history.specs.Area.{used}
 use Rattle.im_history.specs.History.{History, behind}
+use Rattle.im_history.specs.Horizon.{horizon, kept}
 use Rattle.im_history.specs.Legal.{IsLawful, IsLegal}
 use Rattle.im_history.specs.Queue.{credits}
 use Rattle.im_history.specs.Refusals.{evict_refusal, when}
@@ -30,7 +32,7 @@ use Rattle.im_replies.specs.declared.task.Ending.{Ending}
 use Rattle.im_replies.specs.declared.task.Ending.TheVariants as ending
 use Rattle.im_replies.specs.declared.aim.Aim.TheVariants as aim
 use Rattle.im_replies.specs.Causes.{fault_of}
-use Rattle.im_statements.specs.Background.{Answered, CommandOutcome, answer_with, begin, built_of, cancel, command_plan, drop_all, end_by, ending_by, evict, evicted, finish, fits_area, run, said, switch, trickle}
+use Rattle.im_statements.specs.Background.{Answered, CommandOutcome, answer_with, begin, built_of, cancel, command_plan, drop_all, end_by, ending_by, evict, evicted, finish, fits_area, purge, run, said, switch, trickle}
 use Rattle.im_statements.specs.Turns.{memory_reply, unless_refused}
 use Rattle.im_worker.specs.Background.{Agrees, IsCommandPlayed, Kept, Ready, tasks_of}
 use Rattle.im_worker.specs.Reads.{IsCounted}
@@ -100,6 +102,27 @@ trickled who count left builds old new mine lawful stands added = record {
 }
   where
     onward : Onward who old new (what.Trickle count) added.at
+    onward = record { after = added.after; now = added.now }
+
+-- ---- PURGE
+
+pub purged : (who : ℕ) (done : Purged) (builds : List Ready) (old new : Known) → speaks old.side who ≡ true → IsLawful new.limits new.log
+    → Stands who builds [] old.log
+    → Added old new who (λ at. what.Purge) (λ at. done ≡ record {
+      place = length at;
+      horizon = horizon (behind at who what.Purge);
+      kept = kept (behind at who what.Purge);
+    })
+    → IsRun who (purge who (tasks_of builds)) builds old (said (body.Purged done.horizon done.kept)) builds new
+purged who done builds old new mine lawful stands added = record {
+  rest = rest-last who 0 (tasks_of builds) old new true (λ at. Some what.Purge) what.Purge added.at
+      (λ at. answer_with (tasks_of builds) (body.Purged (horizon (behind at who what.Purge)) (kept (behind at who what.Purge))))
+      (told (body.Purged done.horizon done.kept) builds) onward refl
+      (ap (λ (d : Purged). answer_with (tasks_of builds) (body.Purged d.horizon d.kept)) (sym added.fact));
+  stands = stands-added who builds old new what.Purge added.at mine lawful refl stands onward;
+}
+  where
+    onward : Onward who old new what.Purge added.at
     onward = record { after = added.after; now = added.now }
 
 -- ---- EVICT

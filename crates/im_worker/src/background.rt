@@ -10,7 +10,7 @@ ghost use Rattle.im_worker.specs.inner.Standing.{Stands};
 use crate::ending::cancel_build;
 use crate::held::Build;
 use crate::running::run;
-use crate::statements::{begin, cancel, evict, switch, trickle};
+use crate::statements::{begin, cancel, evict, purge, switch, trickle};
 use crate::work::{Ended, job};
 use im_edge::{Gate, Outside};
 use im_reach::Reach;
@@ -145,6 +145,7 @@ fn play<R: Wait, H: Reach<ColumnUnit>, G: Gate, L: Ledger>(
         Stmt::Cancel => cancel(outside, reach, who, held),
         Stmt::Trickle(count) => trickle(outside, reach, who, held, *count),
         Stmt::Evict { .. } => evict(outside, reach, who, held, statement),
+        Stmt::Purge => purge(outside, reach, who, held),
         _ => Reply::plain(outside.alloc, Body::Nothing),
     }
 }

@@ -154,6 +154,31 @@ fn evict_extent<R: Wait, H: Reach<ColumnUnit>, G>(
     }
 }
 
+/// PURGE: lets go of the versions of rows that nobody may ask for any more.
+pub fn purge<R: Wait, H: Reach<ColumnUnit>, G>(
+    outside: &Outside<R, G>,
+    reach: &mut H,
+    who: u32,
+    held: &VecDeque<Build>,
+) -> Reply
+    requires session { who < NUMBERS }
+    requires speaks { speaks (H.known reach.old).side who ≡ true }
+    requires stands { Stands who held.now.items [] (H.known reach.old).log }
+    ensures run { IsRun who (plan.purge who (tasks_of held.now.items)) held.now.items (H.known reach.old) result
+        held.now.items (H.known reach.new) }
+{
+    match reach.purge(outside.rt, who) {
+        Ok(purged) => Reply::plain(
+            outside.alloc,
+            Body::Purged {
+                horizon: purged.horizon,
+                kept: purged.kept,
+            },
+        ),
+        Err(_) => out_of_memory(outside.alloc, 0),
+    }
+}
+
 /// The table and the extent of an EVICT.
 fn extent_of(resolved: &Resolved) -> Option<(u32, u64)>
     ensures { result ≡ inner.extent_of resolved.now }

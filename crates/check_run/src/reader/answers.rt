@@ -53,7 +53,8 @@ fn check_reply(
     }
     let entry = entries.get(place).ok_or(Wrong::Place(line.number))?;
     check(entry.who == who, Wrong::Place(line.number))?;
-    check(is_told(entries, place, entry, reply), wrong)?;
+    check(entry.asked() == line.scn(), wrong)?;
+    check(is_told(alloc, entries, place, entry, reply)?, wrong)?;
     let is_good = is_written(alloc, entries, line, place, entry)?;
     check(is_good, Wrong::Write(line.number))
 }

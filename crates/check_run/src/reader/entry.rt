@@ -28,6 +28,8 @@ pub enum What {
     Open {
         cursor: usize,
         table: usize,
+        /// The SCN that was asked for, if one was.
+        asked: Option<usize>,
     },
     Shut {
         cursor: usize,
@@ -49,6 +51,7 @@ pub enum What {
         id: usize,
     },
     Leave,
+    Purge,
 }
 
 /// What was done to a row.
@@ -69,6 +72,15 @@ pub struct Entry<'a> {
     pub changes: Vec<Change>,
     /// As it stands in the report.
     pub record: Record<'a>,
+}
+
+/// The SCN that was asked for where a cursor was opened.
+fn asked_of(record: &Record<'_>) -> Result<Option<usize>, Wrong> {
+    if record.len() == 6 {
+        return Ok(None);
+    }
+    check(record.len() == 7, record.wrong())?;
+    Ok(Some(record.count(6)?))
 }
 
 /// What an entry records.
@@ -97,6 +109,7 @@ fn what_of(record: &Record<'_>) -> Result<What, Wrong> {
         "open" => What::Open {
             cursor: record.count(4)?,
             table: record.count(5)?,
+            asked: asked_of(record)?,
         },
         "shut" => What::Shut {
             cursor: record.count(4)?,
@@ -118,6 +131,7 @@ fn what_of(record: &Record<'_>) -> Result<What, Wrong> {
             id: record.count(4)?,
         },
         "leave" => What::Leave,
+        "purge" => What::Purge,
         _ => return Err(record.wrong()),
     })
 }
@@ -138,6 +152,14 @@ impl<'a> Entry<'a> {
         match self.what {
             What::Write { changes } => self.changes.len() == changes,
             _ => self.changes.is_empty(),
+        }
+    }
+
+    /// The SCN that it asks for, if it opens a cursor and asks for one.
+    pub fn asked(&self) -> Option<usize> {
+        match self.what {
+            What::Open { asked, .. } => asked,
+            _ => None,
         }
     }
 

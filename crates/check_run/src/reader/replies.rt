@@ -1,6 +1,7 @@
 // The texts of replies, and the lines before a race.
 use super::Race;
 use super::entry::{Entry, What};
+use super::horizon::{horizon, kept};
 use super::record::Record;
 use super::report::Report;
 use super::rows::{extents, scn, tables, view_of};
@@ -47,9 +48,15 @@ fn is_write_told(entry: &Entry<'_>, reply: &Record<'_>) -> bool {
 }
 
 /// Whether a reply is that of a line which has the place of this entry. The records of an answer are compared elsewhere.
-pub fn is_told(entries: &[Entry<'_>], place: usize, entry: &Entry<'_>, reply: &Record<'_>) -> bool {
+pub fn is_told(
+    alloc: Global,
+    entries: &[Entry<'_>],
+    place: usize,
+    entry: &Entry<'_>,
+    reply: &Record<'_>,
+) -> Result<bool, Wrong> {
     let behind = place.saturating_add(1);
-    match entry.what {
+    Ok(match entry.what {
         What::Create { .. } => reply.says(
             "created",
             &[tables(entries, behind), scn(entries, behind)],
@@ -59,8 +66,12 @@ pub fn is_told(entries: &[Entry<'_>], place: usize, entry: &Entry<'_>, reply: &R
         What::Shut { cursor } => reply.says("closed", &[cursor]),
         What::Write { .. } => is_write_told(entry, reply),
         What::Commit => reply.says("committed", &[scn(entries, behind)]),
+        What::Purge => {
+            let count = kept(alloc, entries, behind)?;
+            reply.says("purged", &[horizon(entries, behind), count])
+        }
         _ => false,
-    }
+    })
 }
 
 /// The place behind the entries of a line before the race that begin at a place: a CREATE TABLE has one for the column store too.
@@ -83,7 +94,7 @@ fn is_early(
     let Some(entry) = entries.get(place) else {
         return Ok(false);
     };
-    let is_reply = reply.field(1) == line.reply() && is_told(entries, place, entry, reply);
+    let is_reply = reply.field(1) == line.reply() && is_told(alloc, entries, place, entry, reply)?;
     Ok(is_reply && line.who == Some(entry.who) && is_written(alloc, entries, line, place, entry)?)
 }
 

@@ -14,20 +14,36 @@ pub struct View {
     pub place: usize,
     /// How many entries its snapshot has.
     pub snapshot: usize,
+    /// Whether it shows what its session had pending: not where it asked for an SCN.
+    pub shows_own: bool,
 }
 
-/// The SCN at a place: how many commits, creations and added columns stand before it.
+/// Whether an entry has an SCN of its own: a commit, a creation or a column that is added.
+fn has_scn(entry: &Entry<'_>) -> bool {
+    matches!(
+        entry.what,
+        What::Commit | What::Create { .. } | What::Add { .. }
+    )
+}
+
+/// The SCN at a place: how many entries before it have one.
 pub fn scn(entries: &[Entry<'_>], place: usize) -> usize {
     entries
         .iter()
         .take(place)
-        .filter(|entry| {
-            matches!(
-                entry.what,
-                What::Commit | What::Create { .. } | What::Add { .. }
-            )
-        })
+        .filter(|entry| has_scn(entry))
         .count()
+}
+
+/// The first place at which an SCN was reached, if it was.
+pub fn reached(entries: &[Entry<'_>], asked: usize) -> usize {
+    let mut place = 0;
+    for (at, entry) in entries.iter().enumerate() {
+        if has_scn(entry) && scn(entries, at) < asked {
+            place = at.saturating_add(1);
+        }
+    }
+    place
 }
 
 /// The place behind the last transaction of a number that ended before a place.
@@ -50,7 +66,7 @@ pub fn is_open(entries: &[Entry<'_>], place: usize, who: usize) -> bool {
 }
 
 /// How many entries the snapshot of a statement has that a number began at a place.
-fn snapshot(entries: &[Entry<'_>], place: usize, who: usize) -> usize {
+pub fn snapshot(entries: &[Entry<'_>], place: usize, who: usize) -> usize {
     let start = transaction_start(entries, place, who);
     let mut snapshot = place;
     for (at, entry) in entries.iter().enumerate().take(place).skip(start) {
@@ -69,18 +85,34 @@ pub fn view_of(entries: &[Entry<'_>], place: usize, who: usize, cursor: usize) -
             What::Open {
                 cursor: opened,
                 table,
+                asked,
             } if entry.who == who && opened == cursor => {
                 found = Some(View {
                     who,
                     table,
                     place: at,
-                    snapshot: snapshot(entries, at, who),
+                    snapshot: match asked {
+                        Some(asked) => reached(entries, asked),
+                        None => snapshot(entries, at, who),
+                    },
+                    shows_own: asked.is_none(),
                 })
             }
             _ => {}
         }
     }
     found
+}
+
+/// What is committed of a table at a place.
+pub fn committed(table: usize, place: usize) -> View {
+    View {
+        who: 0,
+        table,
+        place: 0,
+        snapshot: place,
+        shows_own: false,
+    }
 }
 
 /// A column of a table.
@@ -175,7 +207,7 @@ fn make_pending(
     Ok(())
 }
 
-/// The rows that a view sees: those of its snapshot, with what its own session had pending put on top.
+/// The rows that a view sees: those of its snapshot, with what its own session had pending put on top, if it shows that.
 pub fn rows_seen(
     alloc: Global,
     entries: &[Entry<'_>],
@@ -188,7 +220,9 @@ pub fn rows_seen(
             make_pending(&mut rows, entries, at, entry.who, view.table, column)?;
         }
     }
-    make_pending(&mut rows, entries, view.place, view.who, view.table, column)?;
+    if view.shows_own {
+        make_pending(&mut rows, entries, view.place, view.who, view.table, column)?;
+    }
     Ok(rows)
 }
 
@@ -273,6 +307,20 @@ fn add_touched(
         }
     }
     Ok(())
+}
+
+/// How many row numbers of an extent a commit at a place touched.
+pub fn touched(
+    alloc: Global,
+    entries: &[Entry<'_>],
+    place: usize,
+    who: usize,
+    table: usize,
+    extent: usize,
+) -> Result<usize, Wrong> {
+    let mut rows = BTreeSet::new(alloc);
+    add_touched(&mut rows, entries, place, who, table, extent)?;
+    Ok(rows.len())
 }
 
 /// How many row numbers of an extent the commits behind an SCN touched, up to the snapshot of a view.

@@ -1,39 +1,13 @@
 // The rules that the history of a race keeps.
 use super::Race;
 use super::entry::{Entry, FIRST_WORKER, What};
+use super::horizon::{holder, is_cursor_open, may_ask};
 use super::report::{End, Report};
 use super::rows::is_open;
 use super::script::Script;
 use super::units::{has_build, may_build};
 use super::wrong::{Wrong, check};
 use std::alloc::Global;
-
-/// Whether a number has a cursor open at a place.
-fn is_cursor_open(entries: &[Entry<'_>], place: usize, who: usize, cursor: usize) -> bool {
-    let mut is_open = false;
-    for entry in entries.iter().take(place) {
-        match entry.what {
-            What::Open { cursor: other, .. } if entry.who == who && other == cursor => is_open =
-                true,
-            What::Shut { cursor: other } if entry.who == who && other == cursor => is_open = false,
-            _ => {}
-        }
-    }
-    is_open
-}
-
-/// Who holds a build at a place, if anybody does.
-fn holder(entries: &[Entry<'_>], place: usize, id: usize) -> Option<usize> {
-    let mut holder = None;
-    for entry in entries.iter().take(place) {
-        match entry.what {
-            What::Build { id: other, .. } if other == id => holder = Some(entry.who),
-            What::Switch { id: other } | What::Cancel { id: other } if other == id => holder = None,
-            _ => {}
-        }
-    }
-    holder
-}
 
 /// Whether a build was begun before a place.
 fn is_begun(entries: &[Entry<'_>], place: usize, id: usize) -> bool {
@@ -69,10 +43,11 @@ fn check_entry(
 ) -> Result<(), Wrong> {
     let who = entry.who;
     match entry.what {
-        What::Open { cursor, .. } => check(
-            !is_cursor_open(entries, place, who, cursor),
-            Wrong::Cursor(place),
-        ),
+        What::Open { cursor, asked, .. } => {
+            let is_shut = !is_cursor_open(entries, place, who, cursor);
+            check(is_shut, Wrong::Cursor(place))?;
+            check(may_ask(entries, place, asked), Wrong::Asked(place))
+        }
         What::Shut { cursor } => check(
             is_cursor_open(entries, place, who, cursor),
             Wrong::Cursor(place),

@@ -15,7 +15,7 @@ pub enum Query<'a> {
 #[derive(Drop)]
 pub struct Line<'a> {
     pub number: usize,
-    /// The session that speaks in it.
+    /// Who speaks in it: the number of a session, or 0 for the background.
     pub who: Option<usize>,
     words: Vec<&'a str>,
 }
@@ -27,16 +27,30 @@ pub struct Script<'a> {
     pub race: Vec<Line<'a>>,
 }
 
-/// The query that words spell, where it is a sum or a count of a whole table.
+/// The sum or the count of a whole table that an item asks for.
+fn query_for<'a>(item: &'a str, table: &'a str) -> Option<Query<'a>> {
+    if item == "COUNT(*)" {
+        return Some(Query::Count { table });
+    }
+    let column = item.strip_prefix("SUM(")?.strip_suffix(")")?;
+    Some(Query::Sum { column, table })
+}
+
+/// The query that words spell, where it is a sum or a count of a whole table, perhaps as of an SCN.
 fn query_of<'a>(words: &[&'a str]) -> Option<Query<'a>> {
     match words {
-        ["SELECT", "COUNT(*)", "FROM", table] => Some(Query::Count { table }),
-        ["SELECT", item, "FROM", table] => {
-            let column = item.strip_prefix("SUM(")?.strip_suffix(")")?;
-            Some(Query::Sum { column, table })
-        }
+        ["SELECT", item, "FROM", table] => query_for(item, table),
+        ["SELECT", item, "FROM", table, "AS", "OF", "SCN", _] => query_for(item, table),
         _ => None,
     }
+}
+
+/// The number of who speaks by a line prefix.
+fn who_of(prefix: &str) -> Option<usize> {
+    if prefix == "bg" {
+        return Some(0);
+    }
+    prefix.parse::<usize>().ok()
 }
 
 impl<'a> Line<'a> {
@@ -49,7 +63,7 @@ impl<'a> Line<'a> {
         }
         Ok(Line {
             number,
-            who: prefix.trim().parse::<usize>().ok(),
+            who: who_of(prefix.trim()),
             words,
         })
     }
@@ -70,6 +84,12 @@ impl<'a> Line<'a> {
             "STEP" | "FETCH" => self.word(1).parse::<usize>().unwrap_or(0),
             _ => 0,
         }
+    }
+
+    /// The SCN that its query names, if it names one.
+    pub fn scn(&self) -> Option<usize> {
+        let at = self.words.iter().position(|word| *word == "AS")?;
+        self.word(at.saturating_add(3)).parse::<usize>().ok()
     }
 
     /// The value that a word is, in brackets or not.
@@ -126,6 +146,7 @@ impl<'a> Line<'a> {
             "OPEN" => "opened",
             "STEP" => "served",
             "CLOSE" => "closed",
+            "PURGE" => "purged",
             _ => "error",
         }
     }
@@ -175,9 +196,9 @@ impl<'a> Script<'a> {
         Ok(())
     }
 
-    /// Whether a session speaks in the race.
+    /// Whether a session speaks in the race. The background does not.
     pub fn plays(&self, who: usize) -> bool {
-        self.race.iter().any(|line| line.who == Some(who))
+        who > 0 && self.race.iter().any(|line| line.who == Some(who))
     }
 
     /// How many sessions speak in the race.

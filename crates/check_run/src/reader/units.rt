@@ -2,7 +2,9 @@
 use super::entry::{Entry, What};
 use super::record::Value;
 use super::report::Unit;
-use super::rows::{FIRST_COLUMN, View, extent_rows, extents, rows_seen, scn, stale, tables};
+use super::rows::{
+    FIRST_COLUMN, View, committed, extent_rows, extents, rows_seen, scn, stale, tables,
+};
 use super::wrong::Wrong;
 use std::alloc::Global;
 
@@ -19,16 +21,6 @@ fn unit_begun(entries: &[Entry<'_>], place: usize, table: usize, extent: usize) 
         }
     }
     found
-}
-
-/// What is committed of a table at a place.
-fn committed(table: usize, place: usize) -> View {
-    View {
-        who: 0,
-        table,
-        place: 0,
-        snapshot: place,
-    }
 }
 
 /// The values of an extent that are committed at a place.

@@ -74,7 +74,10 @@ pub fn is_written(
         return Ok(is_insert(entries, line, place, table, changes));
     }
     match view_of(entries, place.saturating_add(1), entry.who, 0) {
-        Some(view) => Ok(view.table == table && is_update(alloc, entries, line, &view, changes)?),
+        Some(view) => {
+            let may_write = view.table == table && view.shows_own;
+            Ok(may_write && is_update(alloc, entries, line, &view, changes)?)
+        }
         None => Ok(false),
     }
 }

@@ -20,6 +20,8 @@ pub enum Wrong {
     Stranger(usize),
     /// The entry opens a cursor that is open, or shuts one that is not.
     Cursor(usize),
+    /// The entry asks for an SCN that was not reached, or that lies below the horizon.
+    Asked(usize),
     /// The entry begins a build that its number may not begin there.
     Begins(usize),
     /// The entry ends a build that its number does not hold.

@@ -27,10 +27,14 @@ pub record Shows (page : Page) (place scn : ℕ) (row : Option (List Value)) : T
 abbrev pub page_at : List (List Page) → ℕ → ℕ → Page
 page_at pages table number = cell_at no_page pages table number
 
--- what pages show is what the versions have
-pub record AreShown (blocks : AllVersions) (pages : List (List Page)) : Type 0 where
-  pub each : (table number place scn : ℕ) (row : Option (List Value)) → place < 2048 → Shows (page_at pages table number) place scn row
+-- what pages show at a floor and above it is what the versions have
+pub record AreShown (blocks : AllVersions) (floor : ℕ) (pages : List (List Page)) : Type 0 where
+  pub each : (table number place scn : ℕ) (row : Option (List Value)) → place < 2048 → floor ≤ scn → Shows (page_at pages table number) place scn row
       → row_at (versions_at blocks table (number * 2048 + place)) scn ≡ row
+
+-- pages show what the versions have from each floor on from which others did
+pub record StayShown (blocks : AllVersions) (old new : List (List Page)) : Type 0 where
+  pub each : (floor : ℕ) → AreShown blocks floor old → AreShown blocks floor new
 
 -- a page shows no more than before
 pub record ShowsWithin (old new : Page) : Type 0 where

@@ -37,7 +37,7 @@ impl Asked {
 }
 
 /// The first row number behind these that is not in the run of this number, or their end.
-fn run_end(cells: &[PackedSlot], number: u32, from: u64, end: u64) -> u64
+pub fn run_end(cells: &[PackedSlot], number: u32, from: u64, end: u64) -> u64
     requires from { from ≤ end }
     requires within { end ≤ length cells.now }
     ensures from { from ≤ result }

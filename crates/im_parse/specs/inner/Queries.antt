@@ -16,8 +16,9 @@ use Rattle.im_syntax.specs.declared.query.ListPart.{ListPart}
 use Rattle.im_syntax.specs.declared.query.ListPart.TheVariants as list
 use Rattle.im_syntax.specs.declared.query.Query.{Query}
 use Rattle.im_syntax.specs.Condition.{CondOf}
+use Rattle.im_syntax.specs.declared.limits.TheConstants.{LAST_SCN}
 use Rattle.im_values.specs.declared.limits.TheConstants.{MOST_LEVELS}
-use Rattle.im_parse.specs.inner.Marks.{is_key, Lead, keyword, name, lead, is_left, is_right, is_comma, is_star, after_word, before_word, name_at}
+use Rattle.im_parse.specs.inner.Marks.{is_key, Lead, keyword, name, lead, is_left, is_right, is_comma, is_star, after_word, before_word, name_at, number_at}
 use Rattle.im_parse.specs.inner.Conditions.{cond_at}
 
 -- a list that may be left out
@@ -84,6 +85,10 @@ list_by false = made list.Items (joined is_comma item_at)
 unfoldable pub list_at : List Token → Read Token ListPart
 list_at = picked is_star list_by
 
+-- AS OF SCN and its number, where it is written
+unfoldable pub asked_at : List Token → Read Token (Option ℕ)
+asked_at = optional (is_key key.As) (after_word key.As (after_word key.Of (after_word key.Scn (number_at 0 LAST_SCN))))
+
 unfoldable pub where_at : List Token → Read Token (Option (CondOf (List ℕ) Lit))
 where_at = optional (is_key key.Where) (after_word key.Where (cond_at MOST_LEVELS))
 
@@ -93,8 +98,10 @@ groups_at = made listed (optional (is_key key.Group) (after_word key.Group (afte
 unfoldable pub keys_at : List Token → Read Token (List KeyPart)
 keys_at = made listed (optional (is_key key.Order) (after_word key.Order (after_word key.By (joined is_comma key_at))))
 
-abbrev pub query_of : ListPart × (List ℕ × (Option (CondOf (List ℕ) Lit) × (List (List ℕ) × List KeyPart))) → Query
-query_of x = record { list = x.0; table = x.1.0; cond = x.1.1.0; groups = x.1.1.1.0; keys = x.1.1.1.1 }
+abbrev pub query_of : ListPart × (List ℕ × (Option ℕ × (Option (CondOf (List ℕ) Lit) × (List (List ℕ) × List KeyPart)))) → Query
+query_of x = record { list = x.0; table = x.1.0; asked = x.1.1.0; cond = x.1.1.1.0; groups = x.1.1.1.1.0; keys = x.1.1.1.1.1 }
 
 unfoldable pub query_at : List Token → Read Token Query
-query_at = made query_of (after_word key.Select (both (before_word list_at key.From) (both name_at (both where_at (both groups_at keys_at)))))
+query_at =
+    made query_of
+    (after_word key.Select (both (before_word list_at key.From) (both name_at (both asked_at (both where_at (both groups_at keys_at))))))

@@ -101,6 +101,7 @@ statement_by (keyword key.Switch) = single_at key.Switch stmt.Switch
 statement_by (keyword key.Cancel) = single_at key.Cancel stmt.Cancel
 statement_by (keyword key.Trickle) = trickle_at
 statement_by (keyword key.Evict) = evict_at
+statement_by (keyword key.Purge) = single_at key.Purge stmt.Purge
 statement_by l = nothing
 
 unfoldable pub statement_at : List Token → Read Token Stmt
@@ -139,6 +140,7 @@ side_by (keyword key.Switch) = Some side.Background
 side_by (keyword key.Cancel) = Some side.Background
 side_by (keyword key.Trickle) = Some side.Background
 side_by (keyword key.Evict) = Some side.Background
+side_by (keyword key.Purge) = Some side.Background
 side_by l = None
 
 abbrev pub is_side : Side → Option Side → Bool

@@ -27,14 +27,14 @@ pub record IsKept (who : ℕ) (kept : Cursor) (now : Known) : Type 0 where
 pub record IsJustOpened (who number columns : ℕ) (bound : Bound) (cursor : Cursor) (old new : Known) : Type 0 where
   pub is : cursor ≡ record { number = number; bound = bound; view = cursor.view; next = 0; part = partial bound [] }
   pub added :
-      Added old new who (λ at. Open number bound.table)
-      (λ at. (opening_refusal at who number bound.table columns ≡ None) × (cursor.view ≡ view_at at who bound.table))
+      Added old new who (λ at. Open number bound.table bound.asked)
+      (λ at. (opening_refusal at who number bound.table columns bound.asked ≡ None) × (cursor.view ≡ view_at at who bound.table bound.asked))
 
 -- a cursor of this number was not opened on a table that had so many columns at the look: that is refused, or memory was out
-pub record IsUnopened (who number table columns : ℕ) (refused : Refused) (old new : Known) : Type 0 where
+pub record IsUnopened (who number table columns : ℕ) (asked : Option ℕ) (refused : Refused) (old new : Known) : Type 0 where
   pub cause :
       ((refused.why ≡ NoMemory) × (new ≡ old))
-      ⊎ Found old new (λ at. IsRefusal at (opening_refusal at who number table columns) refused)
+      ⊎ Found old new (λ at. IsRefusal at (opening_refusal at who number table columns asked) refused)
 
 -- what comes of an OPEN
 abbrev pub opening_outcome : Reply → Option Cursor → Outcome

@@ -1,5 +1,5 @@
 -- What a statement scans a table for, and what is left of its line while its scan is open.
-use Rattle.std.specs.Prelude.{◌≡◌, ℕ, true, false, List, length, map, ⊤}
+use Rattle.std.specs.Prelude.{◌≡◌, ℕ, true, false, List, length, map, None, ⊤}
 use Rattle.im_group.specs.Answers.{answer}
 use Rattle.im_history.specs.declared.cursors.TheConstants.{OWN_CURSOR}
 use Rattle.im_history.specs.declared.limits.Limits.{Limits}
@@ -37,14 +37,14 @@ behind_scan limits who bound (Rewrite rewriting) place view rows marks =
 -- the plan of a statement that scans a table by itself, which had so many columns at the look
 abbrev pub plan_of : Limits → ℕ → ℕ → Bound → Purpose → Plan Outcome
 plan_of limits who columns bound purpose =
-    scan who bound.table columns bound.filter (λ at view marks. behind_scan limits who bound purpose (length at) view (rows_seen at view) marks)
+    scan who bound.table columns bound.asked bound.filter (λ at view marks. behind_scan limits who bound purpose (length at) view (rows_seen at view) marks)
 
--- a table may be scanned for this: rows that a condition alone keeps may be rewritten
+-- a table may be scanned for this: rows that a condition alone keeps, and that were asked for at no SCN, may be rewritten
 abbrev pub MayScanFor : Purpose → Bound → List TableInfo → Type 0
 MayScanFor Answer bound tables = ⊤
 MayScanFor Explain bound tables = ⊤
 MayScanFor (Rewrite rewriting) bound tables =
-    (bound.grouped ≡ false) × OfTable tables bound.table (RewriteServes bound.filter rewriting)
+    (bound.grouped ≡ false) × (bound.asked ≡ None) × OfTable tables bound.table (RewriteServes bound.filter rewriting)
 
 -- the same of an open scan
 abbrev pub MayServe : ℕ → Purpose → Cursor → Known → Type 0

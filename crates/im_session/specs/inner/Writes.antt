@@ -1,5 +1,5 @@
 -- Rows that a scan saw and that are rewritten.
-use Rattle.std.specs.Prelude.{◌≡◌, ℕ, ◌<◌, ◌≤◌, ◌+◌, true, false, List, [], ◌∷◌, Option, Some}
+use Rattle.std.specs.Prelude.{◌≡◌, ℕ, ◌<◌, ◌≤◌, ◌+◌, true, false, List, [], ◌∷◌, Option, None, Some}
 use Rattle.std.specs.List.{AllByRecursion}
 use Rattle.im_values.specs.declared.schema.Column.{Column}
 use Rattle.im_values.specs.declared.content.Content.{Content as Value}
@@ -25,7 +25,7 @@ use Rattle.im_syntax.specs.Condition.{CondOf}
 
 -- the query of a condition alone
 abbrev pub condition_query : ℕ → Option (CondOf ℕ Value) → Bound
-condition_query table filter = record { table = table; filter = filter; items = []; groups = []; keys = []; grouped = false }
+condition_query table filter = record { table = table; asked = None; filter = filter; items = []; groups = []; keys = []; grouped = false }
 
 -- the values that are assigned may stand in their columns
 abbrev pub SetsServe : Rewriting → List Column → Type 0
@@ -37,9 +37,10 @@ pub record RewriteServes (filter : Option (CondOf ℕ Value)) (rewriting : Rewri
   pub condition : FilterServes filter columns
   pub values : SetsServe rewriting columns
 
--- rows that the open scan of a session sees may be rewritten: the session has changed nothing since, and each fits the columns
--- of its view
+-- rows that the open scan of a session sees may be rewritten: it asked for no SCN, the session has changed nothing since, and each
+-- fits the columns of its view
 pub record MayRewriteIn (who : ℕ) (rewriting : Rewriting) (view : View) (now : Known) : Type 0 where
+  pub unasked : view.asked ≡ None
   pub own : view.own ≡ own_changes now.log who view.table
   pub fit : (rid : ℕ) (row : Row) → seen_by now.log view rid ≡ Some row → fits row view.columns ≡ true
   pub values : SetsServe rewriting view.columns

@@ -1,6 +1,6 @@
 use Rattle.std.proofs.Common.{◌+◌, arith}
 use Rattle.im_history.specs.Commits.{scn}
-use Rattle.im_directory.proofs.ForCallers.{Agrees-apart, Agrees-begin, Agrees-cancel, Agrees-commit, Agrees-drop, Agrees-new, Agrees-switch, Agrees-told, IsAlive-by, IsBefore-by, due-by, empty-by, is_stale-by, lives-by, living-by, numbered-by, stale-by, used-by}
+use Rattle.im_directory.proofs.ForCallers.{Agrees-apart, Agrees-begin, Agrees-cancel, Agrees-commit, Agrees-drop, Agrees-new, Agrees-switch, Agrees-told, IsAlive-by, IsBefore-by, due-by, empty-by, is_stale-by, lives-by, living-by, numbered-by, scns-by, stale-by, used-by}
 use Rattle.im_directory.proofs.laws.agreement_is_kept.Goals as goal
 
 pub returns-clause-kept : goal.returns-clause-kept
@@ -28,4 +28,5 @@ returns-clause-read g c content h kept agrees = record {
   due = λ table extent some. due-by content h kept table extent agrees some;
   stale = λ table extent some. is_stale-by content h kept table extent agrees some;
   used = λ of. used-by content h kept agrees of;
+  scns = scns-by content h kept agrees;
 }

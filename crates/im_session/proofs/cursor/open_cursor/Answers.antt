@@ -16,7 +16,7 @@ open_cursor-requires-clause-exists g c =
 pub returns-in-Ok-open_cursor-clause-opened : goal.returns-in-Ok-open_cursor-clause-opened
 returns-in-Ok-open_cursor-clause-opened g c = record {
   is = rw c.in-Ok.ensures refl;
-  added = opened-added c.args.context.now.who c.args.number c.args.bound.table c.args.columns (g.H.Reach.known c.args.reach.now)
+  added = opened-added c.args.context.now.who c.args.number c.args.bound.table c.args.columns c.args.bound.asked (g.H.Reach.known c.args.reach.now)
       (g.H.Reach.known c.open_cursor.new.self) c.in-Ok-open_cursor.view c.requires.seen c.in-Ok-open_cursor.ensures.ok;
 }
 
@@ -25,7 +25,7 @@ returns-in-Ok-open_cursor-clause-kept g c =
     let cursor : Cursor = record
     { number = c.args.number; bound = c.args.bound; view = c.in-Ok-open_cursor.view; next = 0; part = c.in-Ok.part } in
     agrees-opened c.args.context.now.who cursor (g.H.Reach.known c.args.reach.now) (g.H.Reach.known c.open_cursor.new.self)
-    (opened-added c.args.context.now.who c.args.number c.args.bound.table c.args.columns (g.H.Reach.known c.args.reach.now)
+    (opened-added c.args.context.now.who c.args.number c.args.bound.table c.args.columns c.args.bound.asked (g.H.Reach.known c.args.reach.now)
     (g.H.Reach.known c.open_cursor.new.self) c.in-Ok-open_cursor.view c.requires.seen c.in-Ok-open_cursor.ensures.ok)
     c.in-Ok-open_cursor.ensures.lawful c.requires.serves c.in-Ok-open_cursor.ensures.few c.in-Ok-open_cursor.ensures.some refl c.in-Ok.ensures
 

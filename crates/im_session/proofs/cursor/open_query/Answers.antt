@@ -29,9 +29,9 @@ returns-in-Ok-clause-rest g c =
     subst (λ (k : Cursor). IsRest who 0 (g.H.Reach.known c.args.reach.now) (open_query who number columns bound)
     (Replied c.settled.result (Opens (query_of k))) (g.H.Reach.known c.open_cursor.new.reach)) (sym c.in-Ok.ensures.opened.is)
     (decide-done who 0 (g.H.Reach.known c.args.reach.now) (g.H.Reach.known c.open_cursor.new.reach) (fault_of (aim.Opening bound.table number))
-    (λ at. opening_refusal at who number bound.table columns) (λ at. Open number bound.table) _
-    (λ at. End (Replied (settled_reply (length at) (Opened number (view_at at who bound.table).scn (view_at at who bound.table).extents))
-    (Opens (record { cursor = number; bound = bound; view = view_at at who bound.table; next = 0 })))) _
+    (λ at. opening_refusal at who number bound.table columns bound.asked) (λ at. Open number bound.table bound.asked) _
+    (λ at. End (Replied (settled_reply (length at) (Opened number (view_at at who bound.table bound.asked).scn (view_at at who bound.table bound.asked).extents))
+    (Opens (record { cursor = number; bound = bound; view = view_at at who bound.table bound.asked; next = 0 })))) _
     c.in-Ok.ensures.opened.added (λ at fact. fact.0)
     (λ at fact.
     ap (λ (v : View). End (Replied (settled_reply v.place (Opened number v.scn v.extents))
@@ -45,7 +45,7 @@ returns-in-Ok-clause-fresh g c = λ x is.
     let number : c.in-Ok.cursor.number ≡ c.args.number = ap (λ (k : Cursor). k.number) c.in-Ok.ensures.opened.is in
     subst (λ (k : Cursor). is_cursor_open (g.H.Reach.known c.args.reach.now).log c.args.context.now.who k.number ≡ false) same
     (ap (λ (n : ℕ). is_cursor_open (g.H.Reach.known c.args.reach.now).log c.args.context.now.who n) number
-    ∙ added-fresh c.args.context.now.who c.args.number c.args.bound.table (seen_columns (g.H.Reach.known c.args.reach.now).log c.args.bound.table)
+    ∙ added-fresh c.args.context.now.who c.args.number c.args.bound.table (seen_columns (g.H.Reach.known c.args.reach.now).log c.args.bound.table) c.args.bound.asked
     (g.H.Reach.known c.args.reach.now) (g.H.Reach.known c.open_cursor.new.reach) _
     c.in-Ok.ensures.opened.added c.requires.speaks)
 
@@ -56,7 +56,7 @@ returns-in-Err-clause-rest g c =
     let who = c.args.context.now.who in
     let columns = seen_columns (g.H.Reach.known c.args.reach.now).log c.args.bound.table in
     rw c.refused_reply.ensures
-    (unopened-rest who 0 number bound.table columns (g.H.Reach.known c.args.reach.now) (g.H.Reach.known c.open_cursor.new.reach) true (fault_of (aim.Opening bound.table number))
-    (λ at. End (Replied (settled_reply (length at) (Opened number (view_at at who bound.table).scn (view_at at who bound.table).extents))
-    (Opens (record { cursor = number; bound = bound; view = view_at at who bound.table; next = 0 }))))
+    (unopened-rest who 0 number bound.table columns bound.asked (g.H.Reach.known c.args.reach.now) (g.H.Reach.known c.open_cursor.new.reach) true (fault_of (aim.Opening bound.table number))
+    (λ at. End (Replied (settled_reply (length at) (Opened number (view_at at who bound.table bound.asked).scn (view_at at who bound.table bound.asked).extents))
+    (Opens (record { cursor = number; bound = bound; view = view_at at who bound.table bound.asked; next = 0 }))))
     c.in-Err.refused c.requires.speaks c.requires.shut c.in-Err.ensures.err)

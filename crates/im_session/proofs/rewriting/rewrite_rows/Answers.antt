@@ -1,4 +1,4 @@
-use Rattle.std.proofs.Common.{◌≡◌, false, refl, subst, sym}
+use Rattle.std.proofs.Common.{◌≡◌, false, None, refl, subst, sym}
 use Rattle.im_history.specs.Tables.{tables}
 use Rattle.im_names.specs.Fitting.{OfTable, QueryServes}
 use Rattle.im_session.specs.declared.scan.Purpose.TheVariants.{Rewrite}
@@ -24,8 +24,9 @@ scan-requires-clause-seen g c κs within =
 pub scan-requires-clause-may : goal.scan-requires-clause-may
 scan-requires-clause-may g c κs within =
     subst (λ (b : Bound). (b.grouped ≡ false)
+    × (b.asked ≡ None)
     × OfTable (tables (g.H.Reach.known c.args.reach.now).log) b.table (RewriteServes b.filter c.args.rewriting)) (sym c.condition_query-bound.ensures)
-    (refl, c.requires.serves)
+    (refl, refl, c.requires.serves)
 
 pub returns-clause-rest : goal.returns-clause-rest
 returns-clause-rest g c =

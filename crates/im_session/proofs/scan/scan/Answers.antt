@@ -44,11 +44,11 @@ returns-in-Err-clause-rest g c =
     let bound = c.args.bound in
     let limits = (g.H.Reach.known c.args.reach.now).limits in
     rw c.refused_reply.ensures
-    (unopened-rest who 0 OWN_CURSOR bound.table (seen_columns (g.H.Reach.known c.args.reach.now).log c.args.bound.table) (g.H.Reach.known c.args.reach.now)
+    (unopened-rest who 0 OWN_CURSOR bound.table (seen_columns (g.H.Reach.known c.args.reach.now).log c.args.bound.table) bound.asked (g.H.Reach.known c.args.reach.now)
     (g.H.Reach.known c.open_cursor.new.reach) false (fault_of (aim.Opening bound.table OWN_CURSOR))
     (λ at.
-    serve_from (view_at at who bound.table) bound.filter 0
-    (behind_scan limits who bound c.args.purpose (length at) (view_at at who bound.table) (rows_seen at (view_at at who bound.table))))
+    serve_from (view_at at who bound.table bound.asked) bound.filter 0
+    (behind_scan limits who bound c.args.purpose (length at) (view_at at who bound.table bound.asked) (rows_seen at (view_at at who bound.table bound.asked))))
     c.in-Err.refused c.requires.speaks c.requires.shut c.in-Err.ensures.err)
 
 pub returns-in-Ok-clause-ticks : goal.returns-in-Ok-clause-ticks

@@ -19,7 +19,7 @@ began_there at Serializable place other = refl
 began_there at ReadOnly place other = refl
 
 pub returns-clause-opened : goal.returns-clause-opened
-returns-clause-opened c old new who cursor opening view added = grown old.side old.log added.at added.after
+returns-clause-opened c old new who cursor opening asked view added = grown old.side old.log added.at added.after
 
 pub returns-clause-begun : goal.returns-clause-begun
 returns-clause-begun c old new who m begun added = grown old.side old.log added.at added.after

@@ -32,3 +32,6 @@ returns-in-ReadOnly c = rw c.in-ReadOnly.is c.refuse-in-ReadOnly.ensures
 
 pub returns-in-StoreFull : goal.returns-in-StoreFull
 returns-in-StoreFull c = rw c.in-StoreFull.is c.refuse-in-StoreFull.ensures
+
+pub returns-in-SnapshotTooOld : goal.returns-in-SnapshotTooOld
+returns-in-SnapshotTooOld c = rw c.in-SnapshotTooOld.is c.refuse-in-SnapshotTooOld.ensures

@@ -1,4 +1,4 @@
-use Rattle.im_txn.proofs.ForCallers.{Agrees-nil, Agrees-begin, Agrees-open, Agrees-shut, Agrees-write, Agrees-commit, Agrees-rollback, Agrees-apart, Agrees-grown, holder-by, own-by, cursor-by, cursors_open-by, IsFree-past-given, IsFree-unlocked, owed-begun, owed-first-write, owed-write, owed-opened, owed-shut, owed-ended}
+use Rattle.im_txn.proofs.ForCallers.{Agrees-nil, Agrees-begin, Agrees-open, Agrees-shut, Agrees-write, Agrees-commit, Agrees-rollback, Agrees-apart, Agrees-grown, holder-by, own-by, cursor-by, cursors_open-by, scns-by, IsFree-past-given, IsFree-unlocked, owed-begun, owed-first-write, owed-write, owed-opened, owed-shut, owed-ended}
 use Rattle.im_txn.proofs.laws.agreement_is_kept.Goals as goal
 
 pub returns-clause-kept : goal.returns-clause-kept
@@ -20,6 +20,7 @@ returns-clause-read c h standing agrees = record {
   own = λ who table. own-by h standing who table agrees;
   cursor = λ who number. cursor-by h standing who number agrees;
   cursors = λ who. cursors_open-by h standing who agrees;
+  scns = λ who. scns-by h standing who agrees;
   free = λ who changes none. IsFree-unlocked h standing who changes agrees none;
   fresh = λ who changes past. IsFree-past-given h standing who changes agrees past;
 }

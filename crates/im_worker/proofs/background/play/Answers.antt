@@ -13,6 +13,10 @@ pub returns-in-Trickle-clause-ticks : goal.returns-in-Trickle-clause-ticks
 returns-in-Trickle-clause-ticks g c =
     run-counted c.args.who c.args.steps.now _ _ (g.H.Reach.known c.args.reach.now) _ _ (g.H.Reach.known c.trickle.new.reach) c.trickle.ensures.run
 
+pub returns-in-Purge-clause-ticks : goal.returns-in-Purge-clause-ticks
+returns-in-Purge-clause-ticks g c =
+    run-counted c.args.who c.args.steps.now _ _ (g.H.Reach.known c.args.reach.now) _ _ (g.H.Reach.known c.purge.new.reach) c.purge.ensures.run
+
 pub returns-in-Evict-clause-ticks : goal.returns-in-Evict-clause-ticks
 returns-in-Evict-clause-ticks g c =
     run-counted c.args.who c.args.steps.now _ _ (g.H.Reach.known c.args.reach.now) _ _ (g.H.Reach.known c.evict.new.reach) c.evict.ensures.run

@@ -12,4 +12,4 @@ invariant_of-self c =
     let ready = c.args.ready.items in
     let places = subst (λ (b : AllVersions). All (HasPlace b) ready) (sym c.self.view_is) c.requires.room.each in
     let noted = subst (λ (l : List Ready). AreNoted c.self.inside.pages c.note_each.new.pages l) c.as_slice.ensures.value c.note_each.ensures in
-    AreShown-applied c.self.inside.versions c.apply.new.self c.args.scn c.self.inside.pages c.note_each.new.pages ready c.self.invariant places noted c.apply.ensures
+    AreShown-applied c.self.inside.versions c.apply.new.self c.self.inside.floor c.args.scn c.self.inside.pages c.note_each.new.pages ready c.self.invariant places noted c.apply.ensures

@@ -14,4 +14,5 @@ returns c =
     let found = page_found pages c.args.table number page (sym c.get.ensures ∙ ap option_copied c.in_ok-page.was) in
     let is = sym c.as_ref.ensures.value ∙ ap option_copied c.in_ok-image.was in
     subst (λ (b : AllVersions). IsReadable b c.args.table number c.args.scn image) c.self.view_is
-    (IsReadable-shown c.self.inside.versions pages c.args.table number c.args.scn page image c.self.invariant found is c.if-image-scn.false)
+    (IsReadable-shown c.self.inside.versions c.self.inside.floor pages c.args.table number c.args.scn page image c.self.invariant found is c.if-scn-self.false
+    c.if-image-scn.false)

@@ -1,21 +1,10 @@
-use Rattle.std.proofs.Common.{sym, subst, arith}
+use Rattle.std.proofs.Common.{◌≡◌, [], ◌∷◌, ◌++◌, sym, subst, ◌∙◌}
+use Rattle.im_history.specs.Horizon.{horizon}
 use Rattle.im_history.specs.Stored.{Stored}
-use Rattle.im_queue.specs.Demand.{IsPaid}
-use Rattle.im_queue.proofs.ForCallers.{HasDemandRoom-is, IsDemand-push}
-use Rattle.im_core.proofs.LastColumnLemmas.{AreLast-push}
+use Rattle.im_history.proofs.HorizonLaws.{horizon-quiet}
 use Rattle.im_core.proofs.chronicle.Chronicle.append.Goals as goal
 
-pub note-requires-2 : goal.note-requires-2
-note-requires-2 c =
-    HasDemandRoom-is c.self.inside.history.entries c.self.inside.demand c.self.invariant.0
-    (let few = c.self.invariant.1.0 in omega (arith, few))
-
-pub invariant_of-self : goal.invariant_of-self
-invariant_of-self c =
-    let pushed =
-    IsDemand-push c.self.inside.history.entries c.args.entry c.self.inside.demand c.self.invariant.0 c.note-2.ensures.small
-    (subst (λ (s : Stored). IsPaid s.entries c.args.entry.what) (sym c.self.view_is) c.requires.paid) in
-    let placed = AreLast-push c.self.inside.history.entries c.args.entry c.self.inside.columns c.self.invariant.1.1 in (
-      rw (c.append.ensures.added, c.note-2.ensures.demand) pushed,
-      (c.append.ensures.few, rw (c.append.ensures.added, c.note.ensures, c.len.ensures) placed),
-    )
+pub add-requires-clause-horizon : goal.add-requires-clause-horizon
+add-requires-clause-horizon c =
+    subst (λ (s : Stored). c.self.inside.horizon ≡ horizon (s.entries ++ c.args.entry ∷ [])) c.self.view_is
+    (c.self.invariant.3 ∙ sym (horizon-quiet c.self.inside.history.entries c.args.entry c.requires.still))

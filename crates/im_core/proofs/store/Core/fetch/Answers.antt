@@ -1,5 +1,6 @@
 use Rattle.std.proofs.Common.{◌∙◌, arith}
 use Rattle.im_core.proofs.FetchLemmas.{is_found, has_view, fetched_is, rows_in_is}
+use Rattle.im_core.proofs.HorizonLemmas.{view-old}
 use Rattle.im_core.proofs.SeenLemmas.{Holds-seen}
 use Rattle.im_core.proofs.store.Core.fetch.Goals as goal
 
@@ -30,7 +31,8 @@ returns-in_err-fetched-clause-steps g c =
 pub returns-clause-fetched : goal.returns-clause-fetched
 returns-clause-fetched g c =
     let has = has_view c.args.who c.args.cursor (Holds-seen c.self.invariant c.self.view_is) c.requires.within c.cursor.ensures c.unwrap-view.ensures in
-    c.in_ok-fetched.ensures.rows ∙ fetched_is _ _ _ _ _ _ (Holds-seen c.self.invariant c.self.view_is).rows has c.min-count.ensures
+    c.in_ok-fetched.ensures.rows ∙ fetched_is _ _ _ _ _ _ (Holds-seen c.self.invariant c.self.view_is).rows
+    (view-old _ _ c.args.who c.args.cursor c.args.extent (Holds-seen c.self.invariant c.self.view_is).legal c.requires.within) has c.min-count.ensures
 
 pub returns-clause-steps : goal.returns-clause-steps
 returns-clause-steps g c =

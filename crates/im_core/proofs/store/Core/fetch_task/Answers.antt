@@ -1,5 +1,6 @@
 use Rattle.std.proofs.Common.{sym, ap, ◌∙◌, arith}
 use Rattle.std.specs.Option.{option_copied}
+use Rattle.im_core.proofs.HorizonLemmas.{task-old}
 use Rattle.im_core.proofs.SeenLemmas.{Holds-seen}
 use Rattle.im_core.proofs.TaskLemmas.{has_task, task_fetched_is, task_rows_are}
 use Rattle.im_core.proofs.store.Core.fetch_task.Goals as goal
@@ -26,7 +27,8 @@ pub returns-clause-fetched : goal.returns-clause-fetched
 returns-clause-fetched g c =
     let has = has_task c.args.task.now c.unwrap.result.now (Holds-seen c.self.invariant c.self.view_is) c.requires.held
     (sym c.build.ensures ∙ ap option_copied c.unwrap.ensures) in
-    c.in_ok-fetched.ensures.rows ∙ task_fetched_is _ _ c.args.task.now _ _ (Holds-seen c.self.invariant c.self.view_is).rows has c.min-count.ensures
+    c.in_ok-fetched.ensures.rows ∙ task_fetched_is _ _ c.args.task.now _ _ (Holds-seen c.self.invariant c.self.view_is).rows
+    (task-old _ _ c.args.task.now (Holds-seen c.self.invariant c.self.view_is).legal c.requires.held) has c.min-count.ensures
 
 pub returns-clause-steps : goal.returns-clause-steps
 returns-clause-steps g c =

@@ -1,5 +1,6 @@
 use Rattle.std.proofs.Common.{◌∙◌}
 use Rattle.im_core.proofs.FetchLemmas.{is_found, has_view}
+use Rattle.im_core.proofs.HorizonLemmas.{view-old}
 use Rattle.im_core.proofs.LendLemmas.{lent-content, reads_stale, reads_all}
 use Rattle.im_core.proofs.SeenLemmas.{Holds-seen}
 use Rattle.im_core.proofs.store.Core.read_written.Goals as goal
@@ -7,6 +8,11 @@ use Rattle.im_core.proofs.store.Core.read_written.Goals as goal
 pub unwrap-view-requires : goal.unwrap-view-requires
 unwrap-view-requires g c =
     is_found c.args.who c.args.cursor (Holds-seen c.self.invariant c.self.view_is) c.requires.within c.cursor.ensures
+
+pub fetch_stale-requires : goal.fetch_stale-requires
+fetch_stale-requires g c =
+    let has = has_view c.args.who c.args.cursor (Holds-seen c.self.invariant c.self.view_is) c.requires.within c.cursor.ensures c.unwrap-view.ensures in
+    record { old = rw has.scn (view-old _ _ c.args.who c.args.cursor c.args.extent (Holds-seen c.self.invariant c.self.view_is).legal c.requires.within) }
 
 pub returns-in_ok-fetch_stale-in-Some-clause-unit : goal.returns-in_ok-fetch_stale-in-Some-clause-unit
 returns-in_ok-fetch_stale-in-Some-clause-unit g c =

@@ -20,8 +20,8 @@ invariant_of-self-in_err-reserve g c =
 pub invariant_of-self-2 : goal.invariant_of-self-2
 invariant_of-self-2 g c =
     let exists = subst (λ (s : Seen). Exists s.log c.args.table) (sym (c.self.view_is ∙ c.view.ensures.same)) c.requires.exists in
-    let allowed = subst (λ (s : Seen). open_refusal s.log c.args.who c.args.cursor ≡ None) (sym (c.self.view_is ∙ c.view.ensures.same)) c.requires.allowed in
-    let view = c.in_ok-view.ensures.view ∙ ap (λ (s : Seen). view_at s.log c.args.who c.args.table) (sym (c.self.view_is ∙ c.view.ensures.same)) in
+    let allowed = subst (λ (s : Seen). open_refusal s.log c.args.who c.args.cursor c.args.asked ≡ None) (sym (c.self.view_is ∙ c.view.ensures.same)) c.requires.allowed in
+    let view = c.in_ok-view.ensures.view ∙ ap (λ (s : Seen). view_at s.log c.args.who c.args.table c.args.asked) (sym (c.self.view_is ∙ c.view.ensures.same)) in
     let lent =
     subst
     (λ (columns : List Column). IsOpened c.reserve_cursor.new.self c.open_cursor.new.self c.args.who
@@ -39,8 +39,8 @@ invariant_of-self-2 g c =
     (λ (v : View). IsOpened c.reserve_cursor.new.self c.open_cursor.new.self c.args.who
     (record { cursor = c.args.cursor; table = c.args.table; scn = v.scn; rows = v.rows; per = v.per; columns = length v.columns }))
     view lent in
-    Holds-open _ _ c.self.inside.history _ _ c.args.who c.args.cursor c.args.table _ _ c.self.invariant
-    (is-number _ _ c.number.ensures.same c.number.ensures.few) exists allowed (open_shut _ _ _ allowed) c.reserve_cursor.ensures.same
+    Holds-open _ _ c.self.inside.history _ _ c.args.who c.args.cursor c.args.table c.args.asked _ _ c.self.invariant
+    (is-number _ _ c.number.ensures.same c.number.ensures.few) exists allowed (open_shut _ _ _ c.args.asked allowed) c.reserve_cursor.ensures.same
     (grew-who _ _ _ _ _ _ c.number.ensures.same
     (grew-reserved c.self.inside.history c.reserve.new.self _ _ _ (rw c.owed.ensures.owed at c.in_ok-reserve.ensures.ok) c.append.ensures.added))
     opened

@@ -8,6 +8,12 @@ pub unwrap-view-requires : goal.unwrap-view-requires
 unwrap-view-requires g c =
     is_kept c.args.who c.args.cursor c.args.changes.items (Holds-seen c.self.invariant c.self.view_is) c.requires.may c.of-caller.ensures c.cursor.ensures
 
+pub write_refusal-requires-clause-old : goal.write_refusal-requires-clause-old
+write_refusal-requires-clause-old g c =
+    let facts = rewrites c.args.who c.args.cursor c.args.changes.items (Holds-seen c.self.invariant c.self.view_is) c.requires.may
+    c.of-caller.ensures c.cursor.ensures c.unwrap-view.ensures in
+    facts.old
+
 pub returns-in-Some-clause-refused : goal.returns-in-Some-clause-refused
 returns-in-Some-clause-refused g c =
     let facts = rewrites c.args.who c.args.cursor c.args.changes.items (Holds-seen c.self.invariant c.self.view_is) c.requires.may

@@ -9,5 +9,5 @@ open_cursor-answer-requires-clause-exists g c =
 
 pub give-requires-clause-grew : goal.give-requires-clause-grew
 give-requires-clause-grew g c =
-    grew_either c.take-core.ensures.took c.open_cursor-answer.result c.args.who (Open c.args.cursor c.args.opening.table)
+    grew_either c.take-core.ensures.took c.open_cursor-answer.result c.args.who (Open c.args.cursor c.args.opening.table c.args.asked)
     (mine_in c.args.who c.self.view_is c.requires.speaks) c.open_cursor-answer.ensures.ok c.open_cursor-answer.ensures.err
