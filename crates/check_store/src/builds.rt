@@ -11,6 +11,7 @@ ghost use Rattle.im_worker.specs.inner.Built.{content_from};
 ghost use Rattle.im_worker.specs.inner.Standing.{Stands};
 
 use crate::lines::{play, play_each};
+use crate::standby::comes_to_a_standby;
 use im_core::{Core, Offer, ShownRows, Switched};
 use im_edge::{OpenGate, Outside};
 use im_group::Cell;
@@ -223,7 +224,7 @@ const BEFORE: [&str; 4] = [
 
 /// What comes between the beginning of the build and its reading, at SCN 3, and what is asked behind that.
 #[derive(Clone, Copy)]
-struct Between<'a> {
+pub struct Between<'a> {
     /// The lines.
     lines: &'a [&'a str],
     /// The query.
@@ -478,13 +479,15 @@ fn overtakes<R: Threads + Wait + Sync, H: Reach<ColumnUnit>, L: Ledger>(
     ends_late(outside, store, task, killed, steps)
 }
 
-/// What happens to a build.
+/// What happens in a store.
 #[derive(Clone, Copy)]
-enum Course<'a> {
-    /// It is read behind these lines.
+pub enum Course<'a> {
+    /// A build is read behind these lines.
     Late(Between<'a>),
-    /// Another one overtakes it.
+    /// Another build overtakes it.
     Overtaken,
+    /// Its commits are sent to a second one.
+    Sent,
 }
 
 /// One of these courses over a store that nothing has happened in.
@@ -516,12 +519,14 @@ fn holds_anew<R: Threads + Wait + Sync, L: Ledger>(
     let holds = match course {
         Course::Late(between) => serves_both(&outside, &mut store, between, &mut steps),
         Course::Overtaken => overtakes(&outside, &mut store, &mut steps),
+        Course::Sent => comes_to_a_standby(&outside, &mut store, &mut steps),
     };
     drop(store);
     holds
 }
 
-fn holds<R: Threads + Wait + Sync>(rt: &R, alloc: Global, course: Course<'_>) -> bool {
+/// Whether a course over a store that nothing has happened in goes as it should.
+pub fn holds<R: Threads + Wait + Sync>(rt: &R, alloc: Global, course: Course<'_>) -> bool {
     holds_anew::<R, Brand>(rt, alloc, Blank::new(1), course)
 }
 

@@ -12,7 +12,7 @@ use Rattle.im_history.specs.declared.entry.Entry.{Entry}
 use Rattle.im_history.specs.declared.entry.What.{What}
 use Rattle.im_history.specs.declared.entry.What.TheVariants.{Create, Add, Commit, Purge}
 use Rattle.im_history.specs.declared.limits.Limits.{Limits}
-use Rattle.im_history.specs.Commits.{commits, committed_by, scn, moves_clock}
+use Rattle.im_history.specs.Commits.{commits, committed_by, scn, moves_clock, members}
 use Rattle.im_history.specs.Grid.{Grid}
 use Rattle.im_history.specs.Horizon.{horizon, kept, kept_at, kept_of, moves_horizon, touching}
 use Rattle.im_history.specs.History.{History, replay}
@@ -37,7 +37,7 @@ use Rattle.im_blocks.proofs.StandingLemmas.{standing-by, standing-le, standing-o
 use Rattle.im_blocks.proofs.VersionLemmas.{row_at-versions_from, versions_from-append, newest_scn-version_by}
 
 versions_of-nil : (table rid : ℕ) → [] ≡ versions_of [] table rid
-unfolding versions_of commits replay
+unfolding versions_of commits members replay
 versions_of-nil table rid = refl
 
 versions_of-push : (h : History) (entry : Entry) (table rid : ℕ) →
@@ -192,7 +192,7 @@ record IsNewest (table rid : ℕ) (h : History) : Type 0 where
   pub is : newest_scn (versions_of h table rid) ≡ last_touch h table rid
 
 IsNewest-nil : (table rid : ℕ) → IsNewest table rid []
-unfolding versions_of commits last_touch replay
+unfolding versions_of commits members last_touch replay
 IsNewest-nil table rid = record { is = refl }
 
 IsNewest-push : (table rid : ℕ) (h : History) (entry : Entry) → IsNewest table rid h → IsNewest table rid (h ++ entry ∷ [])

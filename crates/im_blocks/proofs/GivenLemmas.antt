@@ -10,7 +10,7 @@ use Rattle.im_history.specs.declared.entry.Entry.{Entry}
 use Rattle.im_history.specs.declared.entry.What.{What}
 use Rattle.im_history.specs.declared.entry.What.TheVariants.{Create, Add, Commit, Rollback, Write}
 use Rattle.im_history.specs.declared.limits.Limits.{Limits}
-use Rattle.im_history.specs.Commits.{commits, committed_by}
+use Rattle.im_history.specs.Commits.{commits, committed_by, members}
 use Rattle.im_history.specs.History.{History, replay}
 use Rattle.im_history.specs.Legal.{Exists, IsAllowed, IsLegal, IsInsert, IsRewrite}
 use Rattle.im_history.specs.Puts.{put_from}
@@ -39,7 +39,7 @@ record AllGiven (h : History) : Type 0 where
   pub commits_are : All (AreGiven h) (commits h)
 
 AllGiven-nil : AllGiven []
-unfolding pending commits replay
+unfolding pending commits members replay
 AllGiven-nil = record { pending_are = λ who. All-nil (IsGiven []); commits_are = All-nil (AreGiven []) }
 
 still-given : (h : History) (entry : Entry) (changes : List Change) → AreGiven h changes → AreGiven (h ++ entry ∷ []) changes

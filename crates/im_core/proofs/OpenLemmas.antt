@@ -12,7 +12,7 @@ use Rattle.im_history.specs.declared.entry.What.{What}
 use Rattle.im_history.specs.declared.entry.What.TheVariants.{Create, Add, Commit, Open, Rollback, Shut, Write}
 use Rattle.im_history.specs.declared.limits.Limits.{Limits}
 use Rattle.im_history.specs.declared.view.View.{View}
-use Rattle.im_history.specs.Commits.{commits, moves_clock, scn}
+use Rattle.im_history.specs.Commits.{commits, moves_clock, scn, members}
 use Rattle.im_history.specs.Cursors.{Opened, cursor_at, is_cursor, opened, opened_after}
 use Rattle.im_history.specs.History.{History, replay}
 use Rattle.im_history.specs.Legal.{Exists, IsAllowed, IsLegal}
@@ -61,7 +61,7 @@ abbrev WhereUngiven : ℕ → ℕ → History → Type 0
 WhereUngiven table rid h = given h table ≤ rid → IsNowhere table rid h
 
 nothing-done : (table rid n : ℕ) → rows [] table n rid ≡ None
-unfolding rows commits replay
+unfolding rows commits members replay
 nothing-done table rid n = rows_past [] table n rid (omega arith) ∙ refl
 
 nothing-waiting : (table rid who : ℕ) → touches (pending [] who) table rid ≡ false

@@ -5,6 +5,8 @@ use Rattle.std.specs.declared.sync.Arc.{Arc}
 use Rattle.std.specs.declared.alloc.Global.{Global}
 use Rattle.im_core.specs.declared.answers.Offer.{Offer}
 use Rattle.im_core.specs.declared.answers.Offer.TheVariants.{Task, Idle}
+use Rattle.im_core.specs.declared.answers.Sent.{Sent}
+use Rattle.im_core.specs.declared.answers.Sent.TheVariants as sent
 use Rattle.im_core.specs.declared.answers.Switched.{Switched}
 use Rattle.im_core.specs.declared.answers.Switched.TheVariants.{Done, AreaFull, Cancelled}
 use Rattle.im_values.specs.Fits.{fits}
@@ -18,6 +20,7 @@ use Rattle.im_history.specs.declared.task.Task.{Task as TaskInfo}
 use Rattle.im_history.specs.declared.view.Opening.{Opening}
 use Rattle.im_history.specs.declared.view.View.{View}
 pub use Rattle.im_history.specs.Area.{task_bytes, used}
+use Rattle.im_history.specs.Commits.{member_at, scn}
 use Rattle.im_history.specs.Cursors.{Opened, cursor_at}
 use Rattle.im_history.specs.History.{History}
 use Rattle.im_history.specs.Leaves.{leaves}
@@ -54,6 +57,11 @@ view_of (Some opened) = opened.view
 -- the view of a cursor of a session
 abbrev pub cursor_view : History → ℕ → ℕ → View
 cursor_view history who cursor = view_of (cursor_at history who cursor)
+
+-- the commit of a number is this, or it is not there yet
+abbrev pub IsSent : History → ℕ → Sent → Type 0
+IsSent history n (sent.Member member) = member_at history n ≡ Some member
+IsSent history n (sent.None left) = (scn history < n) × (left ≡ leaves history)
 
 -- ---- the column store
 

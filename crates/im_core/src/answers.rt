@@ -1,4 +1,4 @@
-use im_history::{Fetched, ShownRows, Task};
+use im_history::{Fetched, Member, ShownRows, Task};
 use std::sync::Arc;
 
 /// A table was created.
@@ -57,6 +57,18 @@ pub struct Purged {
     pub horizon: u64,
     /// How many versions are kept.
     pub kept: u64,
+}
+
+/// A commit was asked for by its number.
+#[derive(Drop)]
+pub enum Sent {
+    /// This is what it did.
+    Member(Member),
+    /// It is not there yet.
+    None {
+        /// How many sessions had ended.
+        left: u32,
+    },
 }
 
 /// What a scan needs of one extent.

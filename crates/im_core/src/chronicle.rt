@@ -1,17 +1,18 @@
-ghost use Rattle.std.specs.Prelude.{◌≡◌, ◌+◌, ◌-◌, ◌^◌, ◌<◌, ◌≤◌, [], ◌∷◌, ◌++◌, false, length, max, OnOk, OnErr};
-ghost use Rattle.im_values.specs.declared.limits.TheConstants.{MOST_TABLES};
+ghost use Rattle.std.specs.Prelude.{◌≡◌, ◌+◌, ◌-◌, ◌^◌, ◌<◌, ◌≤◌, [], ◌∷◌, ◌++◌, false, length, max, All, Some, IfOk, OnOk, OnErr};
+ghost use Rattle.im_values.specs.declared.limits.TheConstants.{MOST_TABLES, NUMBERS};
 ghost use Rattle.im_history.specs.declared.entry.What.TheVariants as what;
-ghost use Rattle.im_history.specs.Commits.{scn};
+ghost use Rattle.im_history.specs.Commits.{member_at, scn, writes_of};
 ghost use Rattle.im_history.specs.Horizon.{horizon, keep, moves_horizon};
 ghost use Rattle.im_history.specs.Tables.{last_added};
 ghost use Rattle.im_queue.specs.Demand.{IsDemand, IsPaid};
 
 use crate::last_columns::LastColumns;
-use im_history::{Entry, History, What};
+use im_history::{Entry, History, Member, What};
 use im_queue::Demand;
-use im_values::NoMemory;
+use im_values::{NoMemory, Steps};
 use std::alloc::Global;
 use std::marker::Model;
+use std::sync::ledger::Ledger;
 
 /// The history, and what is counted of it as it grows: credits, who left, which tables were opened, where each got its last
 /// column, and the horizon.
@@ -142,6 +143,22 @@ impl Chronicle {
         ensures { result ≡ last_added self.now.entries table }
     {
         self.columns.of(table)
+    }
+
+    /// Commit n, from 1 on. Reading it is a step, and one more for each write of it.
+    pub fn member<L: Ledger>(
+        &self,
+        alloc: Global,
+        n: u64,
+        steps: &mut Steps<L>,
+    ) -> Result<Member, NoMemory>
+        requires numbers { All (λ entry. entry.who < NUMBERS) self.now.entries }
+        requires first { 1 ≤ n }
+        requires last { n ≤ scn self.now.entries }
+        ensures member { IfOk result (λ member. member_at self.now.entries n ≡ Some member) }
+        ensures steps { steps.new ≤ steps.old + 1 + writes_of self.now.entries n }
+    {
+        self.history.member(alloc, n, steps)
     }
 
     /// The history, handed out. It takes no memory.

@@ -22,6 +22,7 @@ mod chronicle;
 mod cursors;
 mod last_columns;
 mod laws;
+mod members;
 mod purges;
 mod refusals;
 mod store;
@@ -32,7 +33,7 @@ mod weights;
 mod writes;
 
 pub use answers::{
-    AddedColumn, Begun, Committed, Evicted, Made, Offer, Pin, Purged, Switched, Wrote,
+    AddedColumn, Begun, Committed, Evicted, Made, Offer, Pin, Purged, Sent, Switched, Wrote,
 };
 pub use im_history::ShownRows;
 pub use laws::{a_lent_unit_is_mended, pins_of_a_cursor_are_one};

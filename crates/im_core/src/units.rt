@@ -120,7 +120,7 @@ impl<U: UnitLike> Core<U> {
     }
 
     /// How many sessions left.
-    fn left(&self) -> u32
+    pub(crate) fn left(&self) -> u32
         ensures { result ≡ leaves self.now.log }
     {
         self.history.demand().left() as u32

@@ -23,7 +23,7 @@ use Rattle.im_history.specs.declared.limits.Limits.{Limits}
 use Rattle.im_history.specs.declared.look.TableInfo.{TableInfo}
 use Rattle.im_history.specs.declared.view.View.{View}
 use Rattle.im_history.specs.Columns.{columns_at, columns_of, defaults_at, schema_at}
-use Rattle.im_history.specs.Commits.{commits, committed_by, moves_clock, scn}
+use Rattle.im_history.specs.Commits.{commits, committed_by, moves_clock, scn, members}
 use Rattle.im_history.specs.History.{History, replay}
 use Rattle.im_history.specs.Legal.{AreNarrow, IsAllowed, IsInsert, IsLegal, IsRewrite, put_from, row_fits, text_limit}
 use Rattle.im_history.specs.Rows.{Row, changes_until, own_changes, row_after, rows, seen}
@@ -123,7 +123,7 @@ record AllFits (h : History) : Type 0 where
   pub done : All (All (Fits h)) (commits h)
 
 AllFits-nil : AllFits []
-unfolding pending commits replay
+unfolding pending commits members replay
 AllFits-nil = record { waiting = λ who. All-nil (Fits []); done = All-nil (All (Fits [])) }
 
 AllFits-push : (limits : Limits) (h : History) (entry : Entry) → IsLegal limits h → IsAllowed limits h entry.who entry.what → AllFits h

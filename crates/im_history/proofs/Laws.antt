@@ -1,12 +1,14 @@
 -- What each reading of a history is after one more entry.
-use Rattle.std.proofs.Common.{◌≡◌, ℕ, ◌==◌, [], ◌∷◌, ◌++◌, length, All, None, if◌then◌else◌, ◌+◌, ◌<◌, refl, ap, ◌∙◌, append_assoc, append-nil, length-append}
+use Rattle.std.proofs.Common.{◌≡◌, ℕ, ◌==◌, [], ◌∷◌, ◌++◌, length, map, All, None, if◌then◌else◌, ◌+◌, ◌<◌, refl, sym, ap, ◌∙◌, append_assoc, append-nil, length-append}
+use Rattle.std.proofs.lemmas.List.{length-map, map-append}
 use Rattle.std.proofs.lemmas.List.Elements.{All-nil, All-cons}
 use Rattle.im_values.specs.declared.limits.TheConstants.{NUMBERS}
 use Rattle.im_history.specs.declared.entry.Entry.{Entry}
 use Rattle.im_history.specs.declared.entry.Mode.TheVariants.{Committed}
 use Rattle.im_history.specs.declared.entry.What.{What}
 use Rattle.im_history.specs.declared.entry.What.TheVariants.{Create, Add, Commit}
-use Rattle.im_history.specs.Commits.{commits, committed_by, scn, moves_clock}
+use Rattle.im_history.specs.declared.member.Member.{Member}
+use Rattle.im_history.specs.Commits.{changes_of, commits, committed_by, member_by, members, moves_clock, scn, writes, writes_after, written, written_by}
 use Rattle.im_history.specs.declared.limits.Limits.{Limits}
 use Rattle.im_history.specs.Cursors.{opened, opened_after}
 use Rattle.im_history.specs.History.{History, replay}
@@ -45,9 +47,22 @@ pub mode-push : (h : History) (entry : Entry) (who : ℕ)
 unfolding mode
 mode-push h entry who = replay-push (λ before so_far e. if e.who == who then mode_after so_far e.what else so_far) Committed h entry
 
+pub members-push : (h : History) (entry : Entry) → members (h ++ entry ∷ []) ≡ members h ++ member_by h entry.who entry.what
+unfolding members
+members-push h entry = replay-push (λ before so_far e. so_far ++ member_by before e.who e.what) [] h entry
+
 pub commits-push : (h : History) (entry : Entry) → commits (h ++ entry ∷ []) ≡ commits h ++ committed_by h entry.who entry.what
 unfolding commits
-commits-push h entry = replay-push (λ before so_far e. so_far ++ committed_by before e.who e.what) [] h entry
+commits-push h entry = ap (map changes_of) (members-push h entry) ∙ map-append changes_of (members h) (member_by h entry.who entry.what)
+
+pub writes-push : (h : History) (entry : Entry) (who : ℕ)
+    → writes (h ++ entry ∷ []) who ≡ (if entry.who == who then writes_after (writes h who) entry.what else writes h who)
+unfolding writes
+writes-push h entry who = replay-push (λ before so_far e. if e.who == who then writes_after so_far e.what else so_far) 0 h entry
+
+pub written-push : (h : History) (entry : Entry) → written (h ++ entry ∷ []) ≡ written h ++ written_by h entry.who entry.what
+unfolding written
+written-push h entry = replay-push (λ before so_far e. so_far ++ written_by before e.who e.what) [] h entry
 
 pub opened-push : (h : History) (entry : Entry) (who : ℕ)
     → opened (h ++ entry ∷ []) who ≡ (if entry.who == who then opened_after h who (opened h who) entry.what else opened h who)
@@ -70,8 +85,13 @@ length-committed_by h who (Add table column default) = refl
 length-committed_by h who _ = refl
 
 pub scn-nil : scn [] ≡ 0
-unfolding commits replay
+unfolding commits members replay
 scn-nil = refl
+
+-- there are as many members as commits
+pub length-members : (h : History) → length (members h) ≡ scn h
+unfolding commits
+length-members h = sym (length-map (members h) changes_of)
 
 -- the SCN is one more after an entry that commits
 pub scn-push : (h : History) (entry : Entry) → scn (h ++ entry ∷ []) ≡ scn h + (if moves_clock entry.what then 1 else 0)

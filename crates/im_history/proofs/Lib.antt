@@ -17,6 +17,7 @@ pub mod KindLaws
 pub mod Laws
 pub mod LeaveLaws
 pub mod NextLaws
+pub mod PlaceLaws
 pub mod PutLaws
 pub mod QueueLaws
 pub mod Replay

@@ -16,7 +16,7 @@ use Rattle.im_history.specs.declared.entry.What.TheVariants.{Create, Add, Commit
 use Rattle.im_history.specs.declared.look.TableInfo.{TableInfo}
 use Rattle.im_history.specs.declared.view.View.{View}
 use Rattle.im_history.specs.Columns.{columns_at, defaults_at}
-use Rattle.im_history.specs.Commits.{commits, scn}
+use Rattle.im_history.specs.Commits.{commits, scn, members}
 use Rattle.im_history.specs.History.{History, replay}
 use Rattle.im_history.specs.Rows.{Row, rows, row_after}
 use Rattle.im_history.specs.Tables.{table_at}
@@ -60,7 +60,7 @@ abbrev Keeps : ℕ → ℕ → ℕ → ℕ → History → Type 0
 Keeps after to table rid h = touched_between h after to table rid ≡ false → rows h table to rid ≡ rows h table after rid
 
 nothing_yet : (n : ℕ) → scn [] ≤ n
-unfolding commits replay
+unfolding commits members replay
 nothing_yet n = omega arith
 
 keeps-nil : (after to table rid : ℕ) → Keeps after to table rid []

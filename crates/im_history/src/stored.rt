@@ -1,7 +1,16 @@
-ghost use Rattle.std.specs.Prelude.{◌≡◌, ◌==◌, ◌+◌, ◌-◌, ◌^◌, ◌<◌, [], ◌∷◌, ◌++◌, length, max, slice_get, take, Some, OnOk, OnErr};
-ghost use Rattle.im_history.specs.Commits.{scn};
+ghost use Rattle.std.specs.Prelude.{◌≡◌, ◌==◌, List, ◌+◌, ◌-◌, ◌^◌, ◌<◌, ◌≤◌, [], ◌∷◌, ◌++◌, length, max, slice_get, take, All, Some, IfOk, OnOk, OnErr};
+ghost use Rattle.im_values.specs.declared.limits.TheConstants.{NUMBERS};
+ghost use Rattle.im_history.specs.Commits.{member_at, scn, writes, writes_of};
+ghost use Rattle.im_history.specs.declared.change.Change.{Change};
+ghost use Rattle.im_history.specs.declared.entry.Entry.{Entry as AnyEntry};
+ghost use Rattle.im_history.specs.declared.entry.What.TheVariants.{Write};
+ghost use Rattle.im_history.specs.Puts.{all_changes};
+ghost use Rattle.im_history.specs.Transactions.{pending};
 
-use crate::entry::Entry;
+use crate::changes::Changes;
+use crate::entry::{Entry, What};
+use crate::member::{AllChanges, Member};
+use crate::places::Places;
 use im_values::{NoMemory, Steps};
 use std::alloc::Global;
 use std::marker::Model;
@@ -15,7 +24,7 @@ use std::sync::ledger::Ledger;
 pub struct History {
     entries: Vec<Entry>,
     spare: u64,
-    clock: u64,
+    places: Places,
 }
 
 impl Model for History {
@@ -23,14 +32,14 @@ impl Model for History {
 
     ghost Value = { Stored };
 
-    ghost use Rattle.std.specs.Prelude.{◌≡◌, ◌+◌, ◌≤◌, vec_len, vec_capacity};
-    ghost use Rattle.im_history.specs.Commits.{scn};
+    ghost use Rattle.std.specs.Prelude.{◌+◌, ◌≤◌, vec_len, vec_capacity};
+    ghost use Rattle.im_history.specs.inner.Places.{ArePlaces, HaveRoom};
 
     ghost view = { λ h. record { entries = h.entries.items; spare = h.spare } };
 
     ghost invariant = { λ h. (vec_len h.entries + h.spare ≤ vec_capacity h.entries)
-        × (h.clock ≤ vec_len h.entries)
-        × (h.clock ≡ scn h.entries.items) };
+        × HaveRoom h.places h.spare
+        × ArePlaces h.places h.entries.items };
 }
 
 impl History {
@@ -41,7 +50,7 @@ impl History {
         History {
             entries: Vec::new(alloc),
             spare: 0,
-            clock: 0,
+            places: Places::new(alloc),
         }
     }
 
@@ -54,6 +63,7 @@ impl History {
             return Ok(());
         }
         self.entries.reserve(room as usize)?;
+        self.places.reserve(room)?;
         self.spare = room;
         Ok(())
     }
@@ -65,7 +75,7 @@ impl History {
         ensures few { length self.new.entries < 2 ^ 63 }
     {
         self.spare -= 1;
-        self.clock += u64::from(entry.what.moves_clock());
+        self.places.note(entry.who, &entry.what);
         self.entries.push(entry).unwrap();
     }
 
@@ -85,7 +95,7 @@ impl History {
         ensures scn { result ≡ scn self.now.entries }
         ensures few { result < 2 ^ 63 }
     {
-        self.clock
+        self.places.commits()
     }
 
     /// How many entries there are.
@@ -101,4 +111,74 @@ impl History {
     {
         self.entries.is_empty()
     }
+
+    /// Commit n, from 1 on, once more: its rows are shared. Reading it is a step, and one more for each write of it.
+    ///
+    /// It costs that, and not what came before. It is refused where a row is shared as often as one can be.
+    pub fn member<L: Ledger>(
+        &self,
+        alloc: Global,
+        n: u64,
+        steps: &mut Steps<L>,
+    ) -> Result<Member, NoMemory>
+        requires numbers { All (λ entry. entry.who < NUMBERS) self.now.entries }
+        requires first { 1 ≤ n }
+        requires last { n ≤ scn self.now.entries }
+        ensures member { IfOk result (λ member. member_at self.now.entries n ≡ Some member) }
+        ensures steps { steps.new ≤ steps.old + 1 + writes_of self.now.entries n }
+    {
+        let place = self.places.commit(n - 1);
+        let entry = self.entry(place, steps);
+        match &entry.what {
+            What::Create {
+                name,
+                schema,
+                shape,
+            } => Member::created(alloc, name, schema, *shape),
+            What::Add {
+                table,
+                column,
+                default,
+            } => Member::added(alloc, *table, column, default),
+            _ => {
+                let writes = self.writes_before(alloc, place, steps)?;
+                Ok(Member::Changes(AllChanges::of(writes)))
+            }
+        }
+    }
+
+    /// The writes that were pending before the entry at a place, of the same session, the first one first.
+    fn writes_before<L: Ledger>(
+        &self,
+        alloc: Global,
+        place: u64,
+        steps: &mut Steps<L>,
+    ) -> Result<Vec<Changes>, NoMemory>
+        requires numbers { All (λ entry. entry.who < NUMBERS) self.now.entries }
+        requires within { place < length self.now.entries }
+        ensures writes { IfOk result (λ writes. (entry : AnyEntry) → slice_get self.now.entries place ≡ Some entry →
+            all_changes writes.items ≡ pending (take place self.now.entries) entry.who) }
+        ensures steps { (entry : AnyEntry) → slice_get self.now.entries place ≡ Some entry →
+            steps.new ≤ steps.old + writes (take place self.now.entries) entry.who }
+    {
+        let mut pending = Vec::new(alloc);
+        let mut at = self.places.link(place);
+        while at > 0 {
+            let entry = self.entry(at - 1, steps);
+            push_write(alloc, &mut pending, &entry.what)?;
+            at = self.places.link(at - 1);
+        }
+        pending.reverse();
+        Ok(pending)
+    }
+}
+
+/// Adds the changes that an entry writes, shared.
+fn push_write(alloc: Global, writes: &mut Vec<Changes>, what: &What) -> Result<(), NoMemory>
+    ensures { OnOk result ((changes : List Change) → what.now ≡ Write changes → writes.new.items ≡ writes.old.items ++ changes ∷ []) }
+{
+    if let What::Write { changes } = what {
+        writes.push(changes.share(alloc)?)?;
+    }
+    Ok(())
 }

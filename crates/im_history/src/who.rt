@@ -6,7 +6,7 @@ ghost use Rattle.im_history.specs.Legal.{IsLegal};
 use im_values::limits::NUMBERS;
 use std::marker::Model;
 
-/// The number of whoever calls a store: 0 is the background of a script, then come the sessions, then the workers.
+/// The number of whoever calls a store: 0 is the background of a script, then come the sessions, the workers and the sender.
 ///
 /// Contracts see the number. That it is below [`NUMBERS`] is a fact of the type, which [`Who::number`] and [`Who::index`]
 /// hand out.

@@ -10,7 +10,7 @@ use Rattle.im_reach.specs.Sides.{AreOthers, Known, speaks}
 abbrev pub Logged : Known → Known → Type 0
 Logged old new = new ≡ record old { log = new.log }
 
--- or the history, and how many calls began no build
+-- or the history, and how many calls missed
 abbrev pub Counted : Known → Known → Type 0
 Counted old new = new ≡ record old { log = new.log; misses = new.misses }
 

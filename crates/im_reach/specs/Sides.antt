@@ -2,6 +2,8 @@
 use Rattle.std.specs.Prelude.{◌≡◌, ℕ, ◌+◌, ◌-◌, ◌<◌, ◌≤◌, ◌==◌, Bool, true, false, List, [], ◌∷◌, ◌++◌, length, All, Option, Some, None, if◌then◌else◌}
 use Rattle.im_core.specs.declared.answers.Offer.{Offer}
 use Rattle.im_core.specs.declared.answers.Offer.TheVariants.{Task, Idle}
+use Rattle.im_core.specs.declared.answers.Sent.{Sent}
+use Rattle.im_core.specs.declared.answers.Sent.TheVariants as sent
 use Rattle.im_core.specs.declared.answers.Switched.{Switched}
 use Rattle.im_core.specs.declared.answers.Switched.TheVariants.{Done, AreaFull, Cancelled}
 use Rattle.im_core.specs.Answers.{content_in, killed_of, task_bytes}
@@ -12,6 +14,7 @@ use Rattle.im_history.specs.declared.limits.Limits.{Limits}
 use Rattle.im_history.specs.declared.task.Choice.{Choice}
 use Rattle.im_history.specs.declared.task.Task.{Task as TaskInfo}
 use Rattle.im_history.specs.Area.{used}
+use Rattle.im_history.specs.Commits.{member_at, scn, writes_of}
 use Rattle.im_history.specs.History.{History, behind}
 use Rattle.im_history.specs.Leaves.{leaves}
 use Rattle.im_history.specs.Queue.{build_of, next, task_of}
@@ -54,7 +57,8 @@ pub record AreOthers (side : StoreSide) (between : History) : Type 0 where
   pub alone : side.alone ≡ true → between ≡ []
   pub apart : All (λ entry. speaks side entry.who ≡ false) between
 
--- what a side knows: the limits of the store, its history as it last saw it, and how many calls of this side began no build
+-- what a side knows: the limits of the store, its history as it last saw it, and how many calls of this side
+-- missed: they began no build, or found no commit of the number that was asked for
 pub record Known : Type 0 where
   pub side : StoreSide
   pub limits : Limits
@@ -83,7 +87,7 @@ pub record Added (old new : Known) (who : ℕ) (adds : History → What) (holds 
 abbrev pub GotColumn : StoreSide → History → History → ℕ → ℕ → Type 0
 GotColumn side known at table place = Got (speaks side) (length known) table place at
 
--- a call began no build: others may have gone on before it, and this was found of the history at that moment
+-- a call missed: others may have gone on before it, and this was found of the history at that moment
 pub record Missed (old new : Known) (holds : History → Type 0) : Type 0 where
   pub at : History
   pub after : After (AreOthers old.side) old.log at
@@ -95,6 +99,13 @@ abbrev pub Offered : Known → Known → ℕ → Offer → Type 0
 Offered old new who (Task task) =
     (choice : Choice) × Added old new who (λ at. build_of at choice) (λ at. (next at ≡ Some choice) × (task ≡ task_of at choice))
 Offered old new who (Idle place left) = Missed old new (λ at. (next at ≡ None) × (place ≡ length at) × (left ≡ leaves at))
+
+-- commit n is handed out, or it is not there yet, which is a miss. Its steps are at most one more than its writes
+abbrev pub Sends : Known → Known → ℕ → ℕ → ℕ → Sent → Type 0
+Sends old new n before steps (sent.Member member) =
+    Found old new (λ at. (member_at at n ≡ Some member) × (steps ≤ before + 1 + writes_of at n))
+Sends old new n before steps (sent.None left) =
+    Missed old new (λ at. (scn at < n) × (left ≡ leaves at) × (steps ≤ before + 1 + writes_of at n))
 
 module _ {U : Type 0} (content : U → Content) where
   -- a finished build became current, and the unit that was current is handed back; or its unit did not fit into the area; or the

@@ -3,7 +3,7 @@ ghost use Rattle.std.specs.Option.{option_or};
 ghost use Rattle.im_values.specs.Fits.{may_stand};
 ghost use Rattle.im_history.specs.declared.entry.What.TheVariants as what;
 ghost use Rattle.im_history.specs.Area.{used};
-ghost use Rattle.im_history.specs.Commits.{scn};
+ghost use Rattle.im_history.specs.Commits.{scn, writes_of};
 ghost use Rattle.im_history.specs.Cursors.{is_cursor_open};
 ghost use Rattle.im_history.specs.History.{behind};
 ghost use Rattle.im_history.specs.Horizon.{horizon, kept};
@@ -17,9 +17,11 @@ ghost use Rattle.im_core.specs.Answers.{IsRefusal, MayPut, content_in, cursor_vi
 ghost use Rattle.im_core.specs.Tasks.{task_fetched, task_lent};
 ghost use Rattle.im_history.specs.Serving.{fetched_in, read_in, serving_content};
 ghost use Rattle.im_history.specs.Units.{IsOwn, task_content, unit_content};
-ghost use Rattle.im_reach.specs.Sides.{Added, Found, IsSwitched, Known, Missed, Offered, sole, speaks};
+ghost use Rattle.im_reach.specs.Sides.{Added, Found, IsSwitched, Known, Missed, Offered, Sends, sole, speaks};
 
-use im_core::{AddedColumn, Begun, Committed, Evicted, Made, Offer, Pin, Purged, Switched, Wrote};
+use im_core::{
+    AddedColumn, Begun, Committed, Evicted, Made, Offer, Pin, Purged, Sent, Switched, Wrote,
+};
 use im_history::{Change, Look, Mode, Opening, Priority, Refused, Shape, Task, UnitLike, View};
 use im_values::limits::{MOST_ROWS, NUMBERS};
 use im_values::{Column, Name, Rows, Schema, Steps, Value};
@@ -337,5 +339,23 @@ pub trait Reach<U: UnitLike> {
         ensures ok { IfOk result (λ place. Added (known self.old) (known self.new) who (λ at. what.Leave) (λ at.
             place ≡ length at)) }
         ensures err { IfErr result (λ why. Found (known self.old) (known self.new) (λ at. IsRefusal at None why)) }
+        ensures lawful { IsLawful (known self.new).limits (known self.new).log };
+
+    /// Commit n, from 1 on, for a second store; where it is not there yet, how many sessions have ended.
+    ///
+    /// It costs what the commit has written: reading it is a step, and one more for each write, also where memory is out.
+    fn member<R: Wait, L: Ledger>(
+        &mut self,
+        rt: &R,
+        who: u32,
+        n: u64,
+        steps: &mut Steps<L>,
+    ) -> Result<Sent, Refused>
+        requires session { who < NUMBERS }
+        requires speaks { speaks (known self.old).side who ≡ true }
+        requires first { 1 ≤ n }
+        ensures ok { IfOk result (λ sent. Sends (known self.old) (known self.new) n steps.old steps.new sent) }
+        ensures err { IfErr result (λ why. Missed (known self.old) (known self.new) (λ at.
+            IsRefusal at None why × (steps.new ≤ steps.old + 1 + writes_of at n))) }
         ensures lawful { IsLawful (known self.new).limits (known self.new).log };
 }

@@ -5,7 +5,7 @@ ghost use Rattle.im_reach.specs.Sides.{IsSwitched, missed, sole};
 
 use crate::reach::Reach;
 use im_core::{
-    AddedColumn, Begun, Committed, Core, Evicted, Made, Offer, Pin, Purged, Switched, Wrote,
+    AddedColumn, Begun, Committed, Core, Evicted, Made, Offer, Pin, Purged, Sent, Switched, Wrote,
 };
 use im_history::{Change, Look, Mode, Opening, Priority, Refused, Shape, Task, UnitLike, View};
 use im_values::limits::NUMBERS;
@@ -217,6 +217,24 @@ impl<U: UnitLike> Reach<U> for Sole<U> {
         self.core.known();
         answer
     }
+
+    fn member<R: Wait, L: Ledger>(
+        &mut self,
+        _rt: &R,
+        who: u32,
+        n: u64,
+        steps: &mut Steps<L>,
+    ) -> Result<Sent, Refused> {
+        let answer = self.core.member(who, n, steps);
+        self.core.known();
+        match answer {
+            Ok(Sent::Member(member)) => Ok(Sent::Member(member)),
+            missed => {
+                self.miss();
+                missed
+            }
+        }
+    }
 }
 
 impl<U: UnitLike> Sole<U> {
@@ -236,7 +254,7 @@ impl<U: UnitLike> Sole<U> {
         core
     }
 
-    /// Counts a call that began no build.
+    /// Counts a call that missed: it began no build, or found no commit.
     fn miss(&mut self)
         ensures { self.new ≡ record self.old { misses = missed self.old.misses } }
     {

@@ -28,11 +28,11 @@ frame_of pass = record { turn = pass.turn; base = pass.base; olds = pass.olds; g
 abbrev pub side_of : PassState Entry → StoreSide
 side_of pass = record { alone = false; number = Some pass.who; frame = Some (frame_of pass) }
 
--- what is known by a pass, so many of whose calls began no build
+-- what is known by a pass, so many of whose calls missed
 abbrev pub known_by : PassState Entry → ℕ → Known
 known_by pass misses = record { side = side_of pass; limits = limits_of pass.fixed; log = pass.seen; misses = misses }
 
--- a side of a store that threads share: its pass, and how many of its calls began no build
+-- a side of a store that threads share: its pass, and how many of its calls missed
 pub record SharedState : Type 0 where
   pub pass : PassState Entry
   pub misses : ℕ

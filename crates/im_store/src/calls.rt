@@ -6,7 +6,9 @@ ghost use Rattle.im_reach.specs.Sides.{IsSwitched, speaks};
 ghost use Rattle.im_store.specs.Sides.{known_by, limits_of};
 
 use crate::shared::{Shared, give, take};
-use im_core::{AddedColumn, Begun, Committed, Evicted, Made, Offer, Pin, Purged, Switched, Wrote};
+use im_core::{
+    AddedColumn, Begun, Committed, Evicted, Made, Offer, Pin, Purged, Sent, Switched, Wrote,
+};
 use im_history::{Change, Look, Mode, Opening, Priority, Refused, Shape, Task, UnitLike, View};
 use im_reach::Reach;
 use im_values::limits::NUMBERS;
@@ -230,5 +232,24 @@ impl<'a, U: UnitLike> Reach<U> for Shared<'a, U> {
         let answer = core.leave(who);
         give(self.store, &mut self.pass, core);
         answer
+    }
+
+    fn member<R: Wait, L: Ledger>(
+        &mut self,
+        rt: &R,
+        who: u32,
+        n: u64,
+        steps: &mut Steps<L>,
+    ) -> Result<Sent, Refused> {
+        let core = take(rt, self.store, &mut self.pass);
+        let answer = core.member(who, n, steps);
+        give(self.store, &mut self.pass, core);
+        match answer {
+            Ok(Sent::Member(member)) => Ok(Sent::Member(member)),
+            missed => {
+                self.miss();
+                missed
+            }
+        }
     }
 }

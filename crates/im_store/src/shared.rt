@@ -60,7 +60,7 @@ impl<'a, U: UnitLike> Shared<'a, U> {
         pass
     }
 
-    /// Counts a call that began no build.
+    /// Counts a call that missed: it began no build, or found no commit.
     pub(crate) fn miss(&mut self)
         ensures { self.new ≡ record self.old { misses = missed self.old.misses } }
     {

@@ -17,8 +17,11 @@ pub const SESSIONS: u32 = 16;
 /// The most workers of a race. Their numbers follow those of the sessions.
 pub const WORKERS: u32 = 8;
 
-/// Whoever calls a store has a number below this: 0 is the background of a script, then come the sessions, then the workers.
-pub const NUMBERS: u32 = 1 + SESSIONS + WORKERS;
+/// The number of whoever sends the commits of a store to a second one. It comes after those of the workers.
+pub const SENDER: u32 = 1 + SESSIONS + WORKERS;
+
+/// Whoever calls a store has a number below this: 0 is the background of a script, then come the sessions, the workers and the sender.
+pub const NUMBERS: u32 = SENDER + 1;
 
 /// The most cursors that a session has open, beside cursor 0 of its statements' own scans.
 pub const MOST_CURSORS: u64 = 8;
@@ -57,7 +60,8 @@ pub fn limits_are()
     ensures most_in_shape { MOST_IN_SHAPE ≡ 64 }
     ensures sessions { SESSIONS ≡ 16 }
     ensures workers { WORKERS ≡ 8 }
-    ensures numbers { NUMBERS ≡ 25 }
+    ensures sender { SENDER ≡ 25 }
+    ensures numbers { NUMBERS ≡ 26 }
     ensures most_cursors { MOST_CURSORS ≡ 8 }
     ensures most_changes { MOST_CHANGES ≡ 65536 }
     ensures most_weight { MOST_WEIGHT ≡ 536870912 }

@@ -16,7 +16,7 @@ use Rattle.im_history.specs.declared.task.Held.{Held}
 use Rattle.im_history.specs.declared.task.Task.{Task}
 use Rattle.im_values.specs.Widened.{widened}
 use Rattle.im_history.specs.Columns.{defaults_at}
-use Rattle.im_history.specs.Commits.{commits, committed_by, scn}
+use Rattle.im_history.specs.Commits.{commits, committed_by, scn, members}
 use Rattle.im_history.specs.History.{History, replay}
 use Rattle.im_history.specs.Legal.{IsAllowed, IsLawful, IsLegal}
 use Rattle.im_history.specs.Queue.{build_of}
@@ -68,7 +68,7 @@ record AllGiven (h : History) : Type 0 where
   done : All (All (WasGiven h)) (commits h)
 
 AllGiven-nil : AllGiven []
-unfolding pending commits replay
+unfolding pending commits members replay
 AllGiven-nil = record { waiting = λ who. All-nil (WasGiven []); done = All-nil (All (WasGiven [])) }
 
 AllGiven-push : (h : History) (entry : Entry) → AllGiven h → AllGiven (h ++ entry ∷ [])

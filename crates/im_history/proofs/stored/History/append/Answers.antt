@@ -1,25 +1,19 @@
-use Rattle.std.proofs.Common.{◌≡◌, ◌≤◌, Bool, true, false, if◌then◌else◌, refl, ap, ◌∙◌, arith}
-use mir.Val.{bool_byte}
-use Rattle.im_history.specs.Commits.{moves_clock}
-use Rattle.im_history.proofs.Laws.{scn-push}
+use Rattle.std.proofs.Common.{◌≡◌, ap, ◌+◌, ◌-◌, arith, vec_len}
+use Rattle.im_history.specs.Stored.{Stored}
+use Rattle.im_history.proofs.PlaceLaws.{ArePlaces-push}
 use Rattle.im_history.proofs.stored.History.append.Goals as goal
-
-bool_byte_is : (b : Bool) → bool_byte b ≡ (if b then 1 else 0)
-bool_byte_is true = refl
-bool_byte_is false = refl
-
-at_most_one : (b : Bool) → (if b then 1 else 0) ≤ 1
-at_most_one true = omega arith
-at_most_one false = omega arith
 
 pub invariant_of-self : goal.invariant_of-self
 invariant_of-self c =
     let pushed = rw c.unwrap.ensures at c.push.ensures.items in
-    let longer = rw c.unwrap.ensures at c.push.ensures.len in
-    let step : c.from.result ≡ (if moves_clock c.args.entry.what then 1 else 0) =
-    c.from.ensures ∙ (bool_byte_is c.moves_clock.result ∙ ap (λ b. if b then 1 else 0) c.moves_clock.ensures) in
-    let few : c.from.result ≤ 1 = rw step (at_most_one (moves_clock c.args.entry.what)) in (
-      omega (arith, c.push.ensures.capacity),
-      omega arith,
-      rw (pushed, scn-push, step, c.self.invariant.2) refl,
+    let longer : vec_len c.push.new.self ≡ vec_len c.self.inside.entries + 1 = rw c.unwrap.ensures at c.push.ensures.len in
+    let capacity = c.push.ensures.capacity in
+    let before = c.self.invariant.0 in
+    let same : c.self.inside.spare ≡ c.args.self.now.spare = ap (λ (s : Stored). s.spare) c.self.view_is in
+    let some = c.requires in
+    let spare : c.self.inside.spare - 1 + 1 ≡ c.self.inside.spare = omega (arith, some, same) in (
+      omega (arith, capacity, longer, before, some, same),
+      c.note.ensures.room (c.self.inside.spare - 1) (rw spare c.self.invariant.1),
+      rw pushed
+          (ArePlaces-push c.self.inside.places c.note.new.self c.self.inside.entries.items c.args.entry c.self.invariant.2 c.note.ensures.noted),
     )

@@ -1,7 +1,11 @@
-use Rattle.std.proofs.Common.{arith, sym, ap, ◌∙◌}
-use Rattle.im_history.specs.Commits.{scn}
-use Rattle.im_history.proofs.Laws.{scn-nil}
+use Rattle.std.proofs.Common.{List, sym, subst, arith}
+use Rattle.im_history.specs.declared.entry.Entry.{Entry}
+use Rattle.im_history.specs.inner.Places.{ArePlaces}
 use Rattle.im_history.proofs.stored.History.new.Goals as goal
 
 pub invariant_of-result : goal.invariant_of-result
-invariant_of-result c = (omega arith, omega arith, sym (ap scn c.new.ensures.items ∙ scn-nil))
+invariant_of-result c = (
+  omega arith,
+  c.new-2.ensures.room,
+  subst (λ (h : List Entry). ArePlaces c.new-2.result h) (sym c.new.ensures.items) c.new-2.ensures.places,
+)

@@ -1,0 +1,4 @@
+pub mod Lawful
+pub mod Passes
+pub mod Sent
+pub mod inner

@@ -1,0 +1,5 @@
+pub mod Following
+pub mod Members
+pub mod Standing
+pub mod Store
+pub mod inner
